@@ -1,0 +1,198 @@
+-- The bench windows A to H of document 01, with the rows that they miss and the edges, as one table under one theorem about the definitions.
+-- Assumes nothing.
+use Prim.Native.Nat.{ℕ, _+_}
+use mathlib.Core.List.{List, [], _∷_, _++_, map}
+use mathlib.Core.Path.{_≡_, refl}
+use lib.Dec.{lit<, lit≤}
+use lib.ListN.{replicate, take}
+use lib.IntN.{ℤ, pos, negsuc}
+use Rattle.spec.specs.declared.Settings.{Settings}
+use Rattle.spec.specs.declared.Room.{Room}
+use Rattle.spec.specs.Base.{fold, foldRect, first, tabulateFrom, tabulate}
+use Rattle.spec.specs.Bytes.{be16, be32, to16, to32, all16}
+use Rattle.spec.specs.Refusal.{Outcome, accepted, refused}
+use Rattle.spec.specs.Frame.{Frame, guide, trailerAt, settingsOf, trailerOf, ownWeights, valuePart, guidePart, tablePart, builtIn, planOf, pixelLevel, pixelGuide, frameOf}
+use Rattle.spec.specs.Checks.{badMark, badSize, badCounts, badKind, badRadius, settingsOutcome, badDistance, scan, scanFile, valueScan, guideScan, tableScan, contents, trailerOutcome, verdict}
+use Rattle.spec.specs.Window.{span, over, pixelCount, guideSum, squareSum, count, levelSum}
+use Rattle.spec.specs.Weight.{scaledVariance, guidedWeight, weight, monotone}
+use Rattle.spec.specs.Median.{totalWeight, cumulative, balance, isZero, weightless, median, answer, differences}
+use Rattle.spec.specs.Walk.{State, arrive, move, follow, step, after, answers, walkEnd, walkAnswers}
+use Rattle.spec.specs.Filter.{turn, serpentine, filtered, filterEnd}
+use Rattle.spec.specs.Joint.{jointCounts, occupancyWord, occupancyWords, balanceBox}
+use Rattle.spec.specs.Columns.{columnSum, columnStore}
+use Rattle.spec.specs.Chain.{Entry, entryOf, entries, Reads, ChainStore}
+use Rattle.spec.specs.Calls.{wayOf, badWay, roomOf, badPixel, lacks, walkOutcome, filterOutcome, balanceOutcome}
+use Rattle.spec.specs.Writer.{fieldBytes, distanceBytes, written, writtenSize, badLength, scanList, writerOutcome}
+use Rattle.spec.specs.Program.{digits, spaced, rows, ways, tooLarge, programOutcome, beside, outputText, printed}
+
+-- ---- what is asked of the definitions, and what they reply
+
+pub data Question : Type 0 where
+  accept : List ℕ → Question
+  walk : List ℕ → ℕ → ℕ → List ℕ → Question
+  filter : List ℕ → Question
+  weigh : List ℕ → ℕ → Question
+  sumOf : List ℕ → ℕ → Question
+  balances : List ℕ → ℕ → List ℕ → Question
+  constant : ℕ → Question
+  output : List ℕ → Question
+  judge : ℕ → ℕ → ℕ → ℕ → Question
+  call : Outcome → Question
+  parts : List ℕ → Question
+  worst : List ℕ → ℕ → List ℕ → Question
+  stores : List ℕ → ℕ → ℕ → List ℕ → Question
+
+pub data Reply : Type 0 where
+  says : Outcome → Reply
+  gives : List ℕ → ℕ → Reply
+  weighs : List ℤ → Reply
+  prints : List ℕ → Reply
+  holds : List ℕ → List ℕ → List ℤ → List ℕ → List Entry → Reply
+
+abbrev closed : State → List ℕ → Reply
+closed x l = gives l (x .shifts)
+
+-- width, height, levels, guides, kind, radius, smoothing
+abbrev settings : ℕ → ℕ → ℕ → ℕ → ℕ → ℕ → ℕ → Settings
+settings w h l m k r e = record { width = w; height = h; levels = l; guides = m; kind = k; radius = r; smoothing = e }
+
+unfoldable pub reply : Question → Reply
+unfolding fold foldRect first tabulateFrom tabulate be16 be32 to16 to32 all16 trailerAt settingsOf trailerOf ownWeights valuePart guidePart tablePart builtIn planOf pixelLevel pixelGuide frameOf badMark badSize badCounts badKind badRadius settingsOutcome badDistance scan scanFile valueScan guideScan tableScan contents trailerOutcome verdict span over pixelCount guideSum squareSum count levelSum scaledVariance guidedWeight weight monotone totalWeight cumulative balance isZero weightless median answer differences arrive move follow step after answers walkEnd walkAnswers turn serpentine filtered filterEnd jointCounts occupancyWord occupancyWords balanceBox columnSum columnStore entryOf entries wayOf badWay roomOf badPixel lacks walkOutcome filterOutcome balanceOutcome fieldBytes distanceBytes written writtenSize badLength scanList writerOutcome digits spaced rows ways tooLarge programOutcome beside outputText printed
+reply (accept b) = says (verdict b)
+reply (walk b s t l) = let p = frameOf b in closed (walkEnd p s t l) (walkAnswers p s t l)
+reply (filter b) = let p = frameOf b in closed (filterEnd p) (filtered p)
+reply (weigh b s) = let p = frameOf b in weighs (tabulate (p .set .width) (λ x. weight p s 0 (guide p x 0)))
+reply (sumOf b s) = weighs (totalWeight (frameOf b) s 0 ∷ [])
+reply (balances b s l) = weighs (map (balance (frameOf b) s 0) l)
+reply (constant d) = gives [] (builtIn 0 d)
+reply (output b) = prints (printed b)
+reply (judge w h r e) = says (settingsOutcome (settings w h 8 4 2 r e))
+reply (call v) = says v
+reply (parts b) = prints (valuePart b ++ guidePart b ++ tablePart b)
+reply (worst b s l) = weighs (map (differences (frameOf b) s 0) l)
+reply (stores b s t l) =
+    let p = frameOf b in
+    let x = walkEnd p s t l in
+    let u = x .column in
+    let v = x .row in
+    holds (jointCounts p u v) (occupancyWords p u v) (take (p .set .guides + 1) (balanceBox p u v (x .cut))) (columnStore p u v) (entries p u v (p .set .levels))
+
+-- ---- the files
+
+abbrev pub fileA : List ℕ
+fileA =
+    0 ∷ 5 ∷ 0 ∷ 1 ∷ 0 ∷ 3 ∷ 0 ∷ 0 ∷ 0 ∷ 0 ∷ 0 ∷ 2
+    ∷ 0 ∷ 3 ∷ 0 ∷ 1 ∷ 0 ∷ 8 ∷ 0 ∷ 4 ∷ 2 ∷ 1 ∷ 0 ∷ 1
+    ∷ 0 ∷ 0 ∷ 0 ∷ 12 ∷ 0 ∷ 0 ∷ 0 ∷ 6 ∷ 0 ∷ 0 ∷ 0 ∷ 0
+    ∷ 0x49 ∷ 0x43 ∷ 0x45 ∷ 0x31 ∷ []
+
+abbrev made : ℕ → ℕ → ℕ → ℕ → ℕ → ℕ → ℕ → List ℕ → List ℕ → List ℕ → List ℕ
+made w h l m k r e = written (settings w h l m k r e)
+
+abbrev fileB : List ℕ
+fileB = made 5 1 8 16 2 2 1 (1 ∷ 2 ∷ 5 ∷ 3 ∷ 4 ∷ []) (7 ∷ 7 ∷ 15 ∷ 7 ∷ 0 ∷ []) []
+
+abbrev fileC : List ℕ
+fileC = made 2 1 8 2 1 1 0 (2 ∷ 6 ∷ []) (0 ∷ 0 ∷ []) (1 ∷ 1 ∷ 1 ∷ 1 ∷ [])
+
+abbrev fileD : List ℕ
+fileD = made 2 1 8 2 1 1 0 (2 ∷ 6 ∷ []) (0 ∷ 0 ∷ []) (0 ∷ 0 ∷ 0 ∷ 0 ∷ [])
+
+abbrev fileE : List ℕ
+fileE = made 3 1 8 4 2 0 1 (5 ∷ 1 ∷ 3 ∷ []) (0 ∷ 0 ∷ 2 ∷ []) []
+
+abbrev fileG : List ℕ
+fileG = made 1 1 8 2 1 1 0 (2 ∷ []) (0 ∷ []) (1 ∷ 1 ∷ 1 ∷ 1 ∷ [])
+
+-- two rows; one window's formula is negative at guide 0, another's at M − 1
+abbrev fileTwoRows : List ℕ
+fileTwoRows = made 3 2 8 16 2 1 1 (6 ∷ 1 ∷ 3 ∷ 7 ∷ 1 ∷ 4 ∷ []) (7 ∷ 15 ∷ 3 ∷ 7 ∷ 0 ∷ 3 ∷ []) []
+
+-- counts, words, 32-bit numbers
+abbrev room : ℕ → ℕ → ℕ → Room
+room a b c = record { counts = a; words = b; numbers = c }
+
+-- ---- the table
+
+infix 68 _⇒_
+data Case : Type 0 where
+  _⇒_ : Question → Reply → Case
+
+abbrev given : Case → Reply
+given (a ⇒ r) = reply a
+
+abbrev due : Case → Reply
+due (a ⇒ r) = r
+
+cases : List Case
+cases =
+    accept fileA ⇒ says accepted
+    ∷ filter fileA ⇒ gives (1 ∷ 3 ∷ 3 ∷ []) 3
+    ∷ weigh fileA 1 ⇒ weighs (pos 21 ∷ pos 21 ∷ pos 9 ∷ [])
+    ∷ output fileA ⇒ prints (51 ∷ 32 ∷ 49 ∷ 10 ∷ 49 ∷ 32 ∷ 51 ∷ 32 ∷ 51 ∷ 10 ∷ 106 ∷ 111 ∷ 105 ∷ 110 ∷ 116 ∷ 32 ∷ 51 ∷ 10 ∷ 99 ∷ 111 ∷ 108 ∷ 117 ∷ 109 ∷ 110 ∷ 115 ∷ 32 ∷ 51 ∷ 10 ∷ 99 ∷ 104 ∷ 97 ∷ 105 ∷ 110 ∷ 32 ∷ 51 ∷ 10 ∷ [])
+    ∷ accept fileB ⇒ says accepted
+    ∷ weigh fileB 2 ⇒ weighs (pos 550 ∷ pos 550 ∷ pos 2110 ∷ pos 550 ∷ negsuc 814 ∷ [])
+    ∷ sumOf fileB 2 ⇒ weighs (pos 2945 ∷ [])
+    ∷ walk fileB 2 0 [] ⇒ gives (3 ∷ []) 3
+    ∷ balances fileB 2 (3 ∷ 4 ∷ 5 ∷ []) ⇒ weighs (pos 355 ∷ negsuc 1274 ∷ pos 2945 ∷ [])
+    ∷ accept fileC ⇒ says accepted
+    ∷ filter fileC ⇒ gives (2 ∷ 2 ∷ []) 2
+    ∷ accept fileD ⇒ says accepted
+    ∷ filter fileD ⇒ gives (2 ∷ 6 ∷ []) 0
+    ∷ accept fileE ⇒ says accepted
+    ∷ filter fileE ⇒ gives (5 ∷ 1 ∷ 3 ∷ []) 11
+    ∷ constant 0 ⇒ gives [] 256
+    ∷ constant 1 ⇒ gives [] 240
+    ∷ constant 16 ⇒ gives [] 128
+    ∷ constant 255 ⇒ gives [] 15
+    ∷ accept fileG ⇒ says accepted
+    ∷ walk fileG 0 0 (0 ∷ 1 ∷ 2 ∷ 3 ∷ []) ⇒ gives (2 ∷ 65534 ∷ 65534 ∷ 65534 ∷ 65534 ∷ []) 2
+    ∷ walk fileA 0 0 (0 ∷ 2 ∷ 0 ∷ 1 ∷ []) ⇒ gives (1 ∷ 3 ∷ 65534 ∷ 3 ∷ 3 ∷ []) 3
+    ∷ judge 1024 256 15 65025 ⇒ says accepted
+    ∷ judge 1024 257 15 65025 ⇒ says (refused 2 [])
+    ∷ judge 1024 256 16 65025 ⇒ says (refused 5 [])
+    ∷ judge 1024 256 15 65026 ⇒ says (refused 4 [])
+    ∷ accept (made 1 1 8 2 1 1 0 (2 ∷ []) (0 ∷ []) (0 ∷ 256 ∷ 0 ∷ 0 ∷ [])) ⇒ says accepted
+    ∷ accept (made 1 1 8 2 1 1 0 (2 ∷ []) (0 ∷ []) (0 ∷ 257 ∷ 0 ∷ 0 ∷ [])) ⇒ says (refused 7 (6 ∷ []))
+    ∷ filter (made 2 1 8 2 1 1 0 (2 ∷ 6 ∷ []) (0 ∷ 1 ∷ []) (1 ∷ 2 ∷ 0 ∷ 1 ∷ [])) ⇒ gives (6 ∷ 6 ∷ []) 6
+    ∷ filter fileB ⇒ gives (2 ∷ 2 ∷ 3 ∷ 3 ∷ 4 ∷ []) 9
+    ∷ filter fileTwoRows ⇒ gives (6 ∷ 1 ∷ 3 ∷ 6 ∷ 4 ∷ 3 ∷ []) 15
+    ∷ parts fileA ⇒ prints (0 ∷ 5 ∷ 0 ∷ 1 ∷ 0 ∷ 3 ∷ 0 ∷ 0 ∷ 0 ∷ 0 ∷ 0 ∷ 2 ∷ [])
+    ∷ worst fileA 1 (1 ∷ 3 ∷ 5 ∷ []) ⇒ weighs (pos 102 ∷ pos 84 ∷ pos 102 ∷ [])
+    ∷ call (walkOutcome fileA 1 2 0 4 (room 32 8 0) 5) ⇒ says accepted
+    ∷ call (walkOutcome fileA 0 9 9 2000000 (room 0 0 0) 0) ⇒ says (refused 8 [])
+    ∷ call (walkOutcome fileC 2 0 0 0 (room 0 0 0) 0) ⇒ says (refused 8 [])
+    ∷ call (walkOutcome fileA 2 3 0 1048577 (room 0 0 64) 5) ⇒ says (refused 9 [])
+    ∷ call (walkOutcome fileA 2 2 0 1048577 (room 0 0 64) 5) ⇒ says (refused 10 [])
+    ∷ call (walkOutcome fileA 2 2 0 4 (room 0 0 63) 5) ⇒ says (refused 11 [])
+    ∷ call (walkOutcome fileA 2 2 0 4 (room 0 0 64) 5) ⇒ says accepted
+    ∷ call (walkOutcome fileA 3 2 0 4 (room 0 0 37) 4) ⇒ says (refused 11 [])
+    ∷ call (walkOutcome fileA 3 2 0 4 (room 0 0 37) 5) ⇒ says accepted
+    ∷ call (filterOutcome fileA 1 (room 32 7 0) 3) ⇒ says (refused 11 [])
+    ∷ call (filterOutcome fileA 1 (room 32 8 0) 3) ⇒ says accepted
+    ∷ call (balanceOutcome fileA 2 0 8) ⇒ says (refused 9 [])
+    ∷ call (balanceOutcome fileA 2 0 7) ⇒ says accepted
+    ∷ call (writerOutcome (settings 3 1 8 4 2 1 1) (5 ∷ 1 ∷ 3 ∷ []) (0 ∷ 0 ∷ 2 ∷ []) [] 40) ⇒ says accepted
+    ∷ call (writerOutcome (settings 3 1 8 4 2 1 1) (5 ∷ 1 ∷ 3 ∷ []) (0 ∷ 0 ∷ 2 ∷ []) [] 39) ⇒ says (refused 11 [])
+    ∷ call (writerOutcome (settings 3 1 8 4 2 1 1) (5 ∷ 1 ∷ 3 ∷ []) (0 ∷ 0 ∷ 4 ∷ []) [] 39) ⇒ says (refused 7 (10 ∷ []))
+    ∷ call (writerOutcome (settings 3 1 8 2 2 1 1) (5 ∷ 1 ∷ 3 ∷ []) (0 ∷ 0 ∷ 0 ∷ []) (1 ∷ 1 ∷ 1 ∷ 1 ∷ []) 48) ⇒ says (refused 6 [])
+    ∷ output (made 65 1 8 4 2 1 1 (replicate 65 1) (replicate 65 0) []) ⇒ prints (114 ∷ 101 ∷ 102 ∷ 117 ∷ 115 ∷ 101 ∷ 100 ∷ 32 ∷ 49 ∷ 50 ∷ 10 ∷ [])
+    ∷ stores fileA 0 0 (0 ∷ 2 ∷ 0 ∷ 1 ∷ []) ⇒ holds
+    (0 ∷ 0 ∷ 0 ∷ 0 ∷ 1 ∷ 0 ∷ 0 ∷ 0 ∷ 0 ∷ 0 ∷ 0 ∷ 0 ∷ 0 ∷ 0 ∷ 1 ∷ 0 ∷ 0 ∷ 0 ∷ 0 ∷ 0 ∷ 1 ∷ 0 ∷ 0 ∷ 0 ∷ 0 ∷ 0 ∷ 0 ∷ 0 ∷ 0 ∷ 0 ∷ 0 ∷ 0 ∷ [])
+    (0 ∷ 1 ∷ 0 ∷ 4 ∷ 0 ∷ 1 ∷ 0 ∷ 0 ∷ [])
+    (pos 0 ∷ pos 0 ∷ pos 1 ∷ pos 0 ∷ pos 0 ∷ [])
+    (0 ∷ 0 ∷ 0 ∷ 0 ∷ 0 ∷ 1 ∷ 0 ∷ 0 ∷ 0 ∷ 1 ∷ 0 ∷ 0 ∷ 0 ∷ 0 ∷ 0 ∷ 0 ∷ 0 ∷ 0 ∷ 0 ∷ 1 ∷ 0 ∷ 0 ∷ 0 ∷ 0 ∷ 0 ∷ 0 ∷ 0 ∷ 0 ∷ 0 ∷ 0 ∷ 0 ∷ 0 ∷ 0 ∷ 0 ∷ 0 ∷ 0 ∷ 0 ∷ 0 ∷ 0 ∷ 0 ∷ 0 ∷ 0 ∷ 0 ∷ 2 ∷ 0 ∷ 0 ∷ 0 ∷ 0 ∷ 0 ∷ 1 ∷ 0 ∷ 1 ∷ 0 ∷ 1 ∷ 0 ∷ 0 ∷ 0 ∷ 0 ∷ 0 ∷ 2 ∷ 0 ∷ 0 ∷ 0 ∷ 0 ∷ [])
+    (record { level = 1; count = 1; guides = 0 } ∷ record { level = 3; count = 1; guides = 2 } ∷ record { level = 5; count = 1; guides = 0 } ∷ [])
+    ∷ []
+
+benches : map given cases ≡ map due cases
+unfolding reply cases
+benches = refl
+
+-- a chain for that last window, in nodes 2, 1 and 4 of the nine; unused nodes hold anything
+chainA : List ℕ
+chainA = 2 ∷ 3 ∷ 1 ∷ 2 ∷ 4 ∷ 1 ∷ 1 ∷ 0 ∷ 1 ∷ 9 ∷ 9 ∷ 9 ∷ 9 ∷ 5 ∷ 1 ∷ 0 ∷ 0 ∷ []
+
+chain-read : ChainStore (frameOf fileA) 1 0 chainA
+unfolding reply chainA ChainStore Reads
+chain-read = (lit< tt, lit≤ tt, refl, refl, refl, (lit< tt, lit≤ tt, refl, refl, refl, (lit< tt, lit≤ tt, refl, refl, refl, refl)))

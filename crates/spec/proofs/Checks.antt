@@ -1,0 +1,136 @@
+-- Laws of the checks: the first that fires, a scan's two ends, and what an accepted file has passed, check by check.
+-- Assumes nothing.
+use mathlib.Core.Path.{_≡_, refl, sym, subst}
+use mathlib.Core.Bool.{Bool, true, false, true≢false, not, _&&_, _||_}
+use mathlib.Core.List.{List, [], _∷_}
+use Prim.Native.Nat.{ℕ, _+_, _*_, _≤_, _<_}
+use native.Mathlib.Omega.{arith}
+use lib.Dec.{leb, ltb, eqb}
+use lib.ListN.{length}
+use borrow.Author.Tests.{ltb-false, leb-false, le-leb, lt-leb, lt-ltb, le-ltb, eqb-true}
+use Rattle.spec.specs.declared.Settings.{Settings}
+use Rattle.spec.specs.declared.Trailer.{Trailer}
+use Rattle.spec.specs.Base.{if_then_else_, first}
+use Rattle.spec.specs.Refusal.{Outcome, accepted, refused, _▷_, refuse}
+use Rattle.spec.specs.Frame.{trailerAt, settingsOf, trailerOf, pixels, tableSize, ownWeights, planOf}
+use Rattle.spec.specs.Checks.{outside, badMark, settingsOutcome, badDistance, scan, valueScan, guideScan, tableScan, contents, trailerOutcome, verdict}
+use Rattle.spec.proofs.First.{First, first-is, first-unique}
+
+-- ---- the first that fires
+abbrev pub IsAccepted : Outcome → Type 0
+IsAccepted accepted = Unit {0}
+IsAccepted (refused n l) = ⊥
+
+pub not-refused : {n : ℕ} {l : List ℕ} → refused n l ≡ accepted → ⊥
+not-refused e = subst IsAccepted (sym e) tt
+
+pub both-accepted : (u v : Outcome) → (u ▷ v) ≡ accepted → (u ≡ accepted) × (v ≡ accepted)
+both-accepted accepted v e = (refl, e)
+both-accepted (refused n l) v e = absurd (not-refused e)
+
+pub not-fired : (n : ℕ) (b : Bool) → refuse n b ≡ accepted → b ≡ false
+not-fired n true e = absurd (not-refused e)
+not-fired n false e = refl
+
+-- ---- tests that a check joins
+pub neither : (a b : Bool) → (a || b) ≡ false → (a ≡ false) × (b ≡ false)
+neither true b e = absurd (true≢false e)
+neither false b e = (refl, e)
+
+pub both : (a b : Bool) → (a && b) ≡ true → (a ≡ true) × (b ≡ true)
+both true b e = (refl, e)
+both false b e = absurd (true≢false (sym e))
+
+pub inside : (low high n : ℕ) → outside low high n ≡ false → (low ≤ n) × (n ≤ high)
+inside low high n e = let q = neither _ _ e in (ltb-false _ _ (q .0), ltb-false _ _ (q .1))
+
+-- ---- a scan finds the first number that is too large, or none is
+pub scan-found : (f : ℕ → ℕ) (n limit offset k : ℕ) → k < n → limit ≤ f k → ((j : ℕ) → j < k → f j < limit) → refused 7 ((offset + 2 * k) ∷ []) ≡ scan f n limit offset
+unfolding scan
+scan-found f n limit offset k h l before =
+    let is : first (λ j. leb limit (f j)) n ≡ k
+    = first-unique (λ j. leb limit (f j)) n k (record { within = omega arith; passes = λ _. le-leb _ _ l; before = λ j b. lt-leb _ _ (before j b) }) in
+    simp (is, lt-ltb k n h)
+
+pub scan-none : (f : ℕ → ℕ) (n limit offset : ℕ) → ((j : ℕ) → j < n → f j < limit) → accepted ≡ scan f n limit offset
+unfolding scan
+scan-none f n limit offset all =
+    let is : first (λ j. leb limit (f j)) n ≡ n
+    = first-unique (λ j. leb limit (f j)) n n (record { within = omega arith; passes = λ h. absurd (omega arith); before = λ j b. lt-leb _ _ (all j b) }) in
+    simp (is, le-ltb n n (omega arith))
+
+pub scan-accepted : (f : ℕ → ℕ) (n limit offset : ℕ) → scan f n limit offset ≡ accepted → (k : ℕ) → k < n → f k < limit
+unfolding scan
+scan-accepted f n limit offset e k h = go (ltb (first (λ j. leb limit (f j)) n) n) refl e
+  where
+    go : (b : Bool) → ltb (first (λ j. leb limit (f j)) n) n ≡ b
+        → (if b then refused 7 ((offset + 2 * first (λ j. leb limit (f j)) n) ∷ []) else accepted) ≡ accepted → f k < limit
+    go true d c = absurd (not-refused c)
+    go false d c =
+        let all : n ≤ first (λ j. leb limit (f j)) n = ltb-false _ _ d in
+        leb-false _ _ (first-is (λ j. leb limit (f j)) n .before k (omega arith))
+
+-- ---- check 6: what it promises of a trailer that begins at an offset
+pub record Near (at : ℕ) (t : Trailer) : Type 0 where
+  pub value-long : 2 * pixels (t .settings) ≤ t .value
+  pub value-in : t .value ≤ at
+  pub guide-long : 2 * pixels (t .settings) ≤ t .guide
+  pub guide-in : t .guide ≤ at
+  pub table-long : 2 * ownWeights t ≤ t .table
+  pub table-in : t .table ≤ at
+
+table-near : (at : ℕ) (t : Trailer) (b : Bool) → eqb (t .table) 0 ≡ b
+    → (not b && (outside (2 * tableSize (t .settings)) at (t .table) || eqb (t .settings .kind) 2)) ≡ false
+    → (2 * ownWeights t ≤ t .table) × (t .table ≤ at)
+unfolding ownWeights
+table-near at t true e h = let z : t .table ≡ 0 = eqb-true _ _ e in rw e (omega arith, omega arith)
+table-near at t false e h = rw e (inside _ _ _ (neither (outside (2 * tableSize (t .settings)) at (t .table)) _ h .0))
+
+pub near : (at : ℕ) (t : Trailer) → badDistance at t ≡ false → Near at t
+unfolding badDistance
+near at t e =
+    let x = outside (2 * pixels (t .settings)) at (t .value) in
+    let y = outside (2 * pixels (t .settings)) at (t .guide) in
+    let z = not (eqb (t .table) 0) && (outside (2 * tableSize (t .settings)) at (t .table) || eqb (t .settings .kind) 2) in
+    let q = neither (x || y) z e in
+    let planes = neither x y (q .0) in
+    let v = inside _ _ (t .value) (planes .0) in
+    let g = inside _ _ (t .guide) (planes .1) in
+    let a = table-near at t _ refl (q .1) in
+    record { value-long = v .0; value-in = v .1; guide-long = g .0; guide-in = g .1; table-long = a .0; table-in = a .1 }
+
+-- ---- what an accepted file has passed
+pub record Passed (b : List ℕ) : Type 0 where
+  pub long : 28 ≤ length b
+  pub settings : settingsOutcome (settingsOf b) ≡ accepted
+  pub near : Near (trailerAt b) (trailerOf b)
+  pub values : valueScan b (planOf b) ≡ accepted
+  pub guides : guideScan b (planOf b) ≡ accepted
+  pub table : tableScan b (planOf b) ≡ accepted
+
+pub mark-long : (b : List ℕ) → badMark b ≡ false → 28 ≤ length b
+unfolding badMark
+mark-long b e = ltb-false _ _ (neither _ _ e .0)
+
+pub passed : (b : List ℕ) → verdict b ≡ accepted → Passed b
+unfolding verdict trailerOutcome contents
+passed b e =
+    let m = refuse 1 (badMark b) in
+    let s = settingsOutcome (settingsOf b) in
+    let d = refuse 6 (badDistance (trailerAt b) (trailerOf b)) in
+    let x = valueScan b (planOf b) in
+    let y = guideScan b (planOf b) in
+    let z = tableScan b (planOf b) in
+    let front = both-accepted (m ▷ s ▷ d) (x ▷ y ▷ z) e in
+    let marked = both-accepted m (s ▷ d) (front .0) in
+    let set = both-accepted s d (marked .1) in
+    let first = both-accepted x (y ▷ z) (front .1) in
+    let rest = both-accepted y z (first .1) in
+    record {
+      long = mark-long b (not-fired 1 _ (marked .0));
+      settings = set .0;
+      near = near _ _ (not-fired 6 _ (set .1));
+      values = first .0;
+      guides = rest .0;
+      table = rest .1;
+    }

@@ -1,0 +1,122 @@
+-- What an accepted file promises of its frame, as one record; and a pixel of such a frame.
+-- Assumes nothing.
+use mathlib.Core.Path.{_≡_, refl, subst}
+use mathlib.Core.Bool.{Bool, true, false, not, _||_, true≢false}
+use mathlib.Core.Logic.{_⊎_, inl, inr}
+use mathlib.Core.List.{List}
+use Prim.Native.Nat.{ℕ, _+_, _*_, _≤_, _<_}
+use native.Mathlib.Omega.{arith}
+use native.Mathlib.Nat.{div-le-of-le-mul, mul-comm}
+use lib.Arith.{digits-lt}
+use lib.Dec.{ltb, eqb}
+use borrow.Author.Tests.{ltb-false, eqb-true, not-false}
+use Rattle.spec.specs.declared.Settings.{Settings}
+use Rattle.spec.specs.declared.Trailer.{Trailer}
+use Rattle.spec.specs.declared.Plan.{Plan}
+use Rattle.spec.specs.Base.{if_then_else_, distance}
+use Rattle.spec.specs.Refusal.{accepted, _▷_, refuse}
+use Rattle.spec.specs.Frame.{Frame, level, guide, table, pixels, ownWeights, settingsOf, trailerOf, planOf, plane, pixelLevel, pixelGuide, builtIn, frameOf}
+use Rattle.spec.specs.Checks.{heaviest, outside, badSize, badCounts, badKind, badRadius, settingsOutcome, scanFile, valueScan, guideScan, tableScan, verdict}
+use Rattle.spec.proofs.Checks.{both-accepted, not-fired, neither, inside, scan-accepted, Passed, passed}
+
+-- the settings that checks 2 to 5 let through
+pub record SettingsLimits (k : Settings) : Type 0 where
+  pub width-low : 1 ≤ k .width
+  pub width-high : k .width ≤ 1024
+  pub height-low : 1 ≤ k .height
+  pub height-high : k .height ≤ 1024
+  pub pixels-high : k .width * k .height ≤ 262144
+  pub levels-low : 2 ≤ k .levels
+  pub levels-high : k .levels ≤ 1024
+  pub guides-low : 2 ≤ k .guides
+  pub guides-high : k .guides ≤ 256
+  pub radius-high : k .radius ≤ 15
+  pub kinds : ((k .kind ≡ 1) × (k .smoothing ≡ 0)) ⊎ ((k .kind ≡ 2) × (1 ≤ k .smoothing) × (k .smoothing ≤ 65025))
+
+pub record FrameLimits (p : Frame) : Type 0 where
+  pub sound : SettingsLimits (p .set)
+  pub level-low : (x y : ℕ) → x < p .set .width → y < p .set .height → level p x y < p .set .levels
+  pub guide-low : (x y : ℕ) → x < p .set .width → y < p .set .height → guide p x y < p .set .guides
+  pub table-low : (f g : ℕ) → f < p .set .guides → g < p .set .guides → table p f g ≤ heaviest
+
+-- a pixel of a good frame
+pub record Pixel (p : Frame) (s t : ℕ) : Type 0 where
+  pub good : FrameLimits p
+  pub in-column : s < p .set .width
+  pub in-row : t < p .set .height
+
+kinds-of : (k e : ℕ) → (if eqb k 1 then not (eqb e 0) else if eqb k 2 then outside 1 65025 e else true) ≡ false
+    → ((k ≡ 1) × (e ≡ 0)) ⊎ ((k ≡ 2) × (1 ≤ e) × (e ≤ 65025))
+kinds-of k e = go (eqb k 1) refl (eqb k 2) refl
+  where
+    go : (b : Bool) → eqb k 1 ≡ b → (c : Bool) → eqb k 2 ≡ c → (if b then not (eqb e 0) else if c then outside 1 65025 e else true) ≡ false
+        → ((k ≡ 1) × (e ≡ 0)) ⊎ ((k ≡ 2) × (1 ≤ e) × (e ≤ 65025))
+    go true d c f h = inl (eqb-true _ _ d, eqb-true _ _ (not-false _ h))
+    go false d true f h = let q = inside 1 65025 e h in inr (eqb-true _ _ f, q .0, q .1)
+    go false d false f h = absurd (true≢false h)
+
+pub settings-limits : (k : Settings) → settingsOutcome k ≡ accepted → SettingsLimits k
+unfolding settingsOutcome badSize badCounts badKind badRadius
+settings-limits k ok =
+    let a = both-accepted (refuse 2 (badSize k)) (refuse 3 (badCounts k) ▷ refuse 4 (badKind k) ▷ refuse 5 (badRadius k)) ok in
+    let b = both-accepted (refuse 3 (badCounts k)) (refuse 4 (badKind k) ▷ refuse 5 (badRadius k)) (a .1) in
+    let c = both-accepted (refuse 4 (badKind k)) (refuse 5 (badRadius k)) (b .1) in
+    let sizes = neither (outside 1 1024 (k .width) || outside 1 1024 (k .height)) (ltb 262144 (pixels k)) (not-fired 2 (badSize k) (a .0)) in
+    let sides = neither (outside 1 1024 (k .width)) (outside 1 1024 (k .height)) (sizes .0) in
+    let w = inside 1 1024 (k .width) (sides .0) in
+    let h = inside 1 1024 (k .height) (sides .1) in
+    let counts = neither (outside 2 1024 (k .levels)) (outside 2 256 (k .guides)) (not-fired 3 (badCounts k) (b .0)) in
+    let l = inside 2 1024 (k .levels) (counts .0) in
+    let m = inside 2 256 (k .guides) (counts .1) in
+    record {
+      width-low = w .0;
+      width-high = w .1;
+      height-low = h .0;
+      height-high = h .1;
+      pixels-high = ltb-false _ _ (sizes .1);
+      levels-low = l .0;
+      levels-high = l .1;
+      guides-low = m .0;
+      guides-high = m .1;
+      radius-high = ltb-false _ _ (not-fired 5 (badRadius k) (c .1));
+      kinds = kinds-of (k .kind) (k .smoothing) (not-fired 4 (badKind k) (c .0));
+    }
+
+pub built-in-low : (f g : ℕ) → builtIn f g ≤ heaviest
+unfolding builtIn
+built-in-low f g = div-le-of-le-mul (16 + distance f g) (omega arith)
+
+-- a pixel's place in a plane
+pub in-plane : (k : Settings) (s t : ℕ) → s < k .width → t < k .height → t * k .width + s < pixels k
+in-plane k s t hs ht = subst (λ (n : ℕ). t * k .width + s < n) (mul-comm (k .height) (k .width)) (digits-lt ht hs)
+
+module _ (b : List ℕ) (ok : verdict b ≡ accepted) where
+  pub level-below : (q : ℕ) → q < pixels (settingsOf b) → pixelLevel b q < settingsOf b .levels
+  unfolding pixelLevel valueScan scanFile planOf
+  level-below q h = scan-accepted _ _ _ _ (passed b ok .values) q h
+
+  pub guide-below : (q : ℕ) → q < pixels (settingsOf b) → pixelGuide b q < settingsOf b .guides
+  unfolding pixelGuide guideScan scanFile planOf
+  guide-below q h = scan-accepted _ _ _ _ (passed b ok .guides) q h
+
+  pub weight-below : (q : ℕ) → q < ownWeights (trailerOf b) → plane b (planOf b .table) q ≤ heaviest
+  unfolding tableScan scanFile planOf
+  weight-below q h = omega (arith, scan-accepted (plane b (planOf b .table)) _ (heaviest + 1) _ (passed b ok .table) q h)
+
+  table-below : (f g : ℕ) → f < settingsOf b .guides → g < settingsOf b .guides → table (frameOf b) f g ≤ heaviest
+  unfolding frameOf ownWeights trailerOf
+  table-below f g hf hg = go (eqb (trailerOf b .table) 0) refl
+    where
+      go : (c : Bool) → eqb (trailerOf b .table) 0 ≡ c → (if c then builtIn f g else plane b (planOf b .table) (f * settingsOf b .guides + g)) ≤ heaviest
+      go true e = built-in-low f g
+      go false e = weight-below (f * settingsOf b .guides + g) (rw e (digits-lt hf hg))
+
+  pub limits-of : FrameLimits (frameOf b)
+  unfolding frameOf
+  limits-of =
+      record {
+        sound = settings-limits (settingsOf b) (passed b ok .settings);
+        level-low = λ x y hx hy. level-below _ (in-plane (settingsOf b) x y hx hy);
+        guide-low = λ x y hx hy. guide-below _ (in-plane (settingsOf b) x y hx hy);
+        table-low = table-below;
+      }

@@ -1,0 +1,111 @@
+-- The answer makes the weighted sum of absolute differences smallest, and is the smallest level that does.
+-- Assumes nothing.
+use mathlib.Core.Path.{_≡_, refl, sym, ap, _∙_, subst}
+use mathlib.Core.Bool.{Bool, true, false}
+use Prim.Native.Nat.{ℕ, zero, suc, _+_, _-_, _≤_, _<_}
+use native.Mathlib.Nat.{add-suc, add-zero}
+use native.Mathlib.Omega.{arith}
+use native.Mathlib.Decide.{decLe, decLt}
+use lib.Dec.{leb}
+use lib.IntN.{ℤ, pos, negsuc, _+ℤ_, _*ℤ_}
+use lib.Signed.{_≤ℤ_, _<ℤ_, ≤ℤ-refl}
+use borrow.Author.Tests.{le-leb, lt-leb}
+use Rattle.ints.specs.Order.{add-parts, ≤-trans, <-to-≤, ≤-antisymm}
+use Rattle.ints.specs.Linear.{ints}
+use Rattle.ints.specs.Polynomial.{_⊕_, _⊗_, opposite, #_, _≐_, solve2}
+use Rattle.spec.specs.Base.{if_then_else_, distance}
+use Rattle.spec.specs.declared.Settings.{Settings}
+use Rattle.spec.specs.Frame.{Frame, level, guide}
+use Rattle.spec.specs.Weight.{weight}
+use Rattle.spec.specs.Median.{totalWeight, balance, weightless, median, answer, differences}
+use Rattle.spec.proofs.Ranges.{intSums}
+use Rattle.spec.proofs.Sums.{InWindow, over-inWindow, over-add, over-termℤ}
+use Rattle.spec.proofs.Limits.{SettingsLimits, FrameLimits, Pixel}
+use Rattle.spec.proofs.Levels.{balance-signed}
+use Rattle.spec.proofs.Totals.{median-at, median-before, weightless-total}
+use Rattle.spec.proofs.Monotone.{NoneNegative, balance-mono}
+
+-- ---- from level to level the sum changes by the balance
+apart : (v i : ℕ) (w : ℤ) → w *ℤ pos (distance v (suc i)) ≡ w *ℤ pos (distance v i) +ℤ (if leb v i then pos 1 else negsuc 0) *ℤ w
+apart v i w = go (decLe v i)
+  where
+    go : Dec (v ≤ i) → w *ℤ pos (distance v (suc i)) ≡ w *ℤ pos (distance v i) +ℤ (if leb v i then pos 1 else negsuc 0) *ℤ w
+    go (yes h) =
+        let e : distance v (suc i) ≡ distance v i + 1 = omega arith in
+        rw (le-leb v i h) (ap (λ (n : ℕ). w *ℤ pos n) e ∙ solve2 (λ w d. w ⊗ (d ⊕ # 1) ≐ w ⊗ d ⊕ # 1 ⊗ w) refl w (pos (distance v i)))
+    go (no h) =
+        let e : distance v i ≡ distance v (suc i) + 1 = omega arith in
+        rw (lt-leb v i (omega arith))
+        (solve2 (λ w d. w ⊗ d ≐ w ⊗ (d ⊕ # 1) ⊕ opposite (# 1) ⊗ w) refl w (pos (distance v (suc i))) ∙ ap (λ (n : ℕ). w *ℤ pos n +ℤ negsuc 0 *ℤ w) (sym e))
+
+pub differences-next : (p : Frame) (s t i : ℕ) → differences p s t (suc i) ≡ differences p s t i +ℤ balance p s t i
+unfolding differences
+differences-next p s t i =
+    over-inWindow _+ℤ_ (pos 0) intSums p s t _ _ (λ x y h. apart (level p x y) i (weight p s t (guide p x y)))
+    ∙ over-add p s t (λ x y. weight p s t (guide p x y) *ℤ pos (distance (level p x y) i)) (λ x y. (if leb (level p x y) i then pos 1 else negsuc 0) *ℤ weight p s t (guide p x y))
+    ∙ ap (λ (q : ℤ). differences p s t i +ℤ q) (sym (balance-signed p s t i))
+
+-- below the answer it falls
+falls : (p : Frame) (s t i d : ℕ) → i + d < median p s t → differences p s t (suc (i + d)) <ℤ differences p s t i
+falls p s t i zero h =
+    let e : i + 0 ≡ i = add-zero i in
+    let b : balance p s t i <ℤ pos 0 = median-before p s t i (omega arith) in
+    subst (λ (n : ℕ). differences p s t (suc n) <ℤ differences p s t i) (sym e)
+    (subst (λ (z : ℤ). z <ℤ differences p s t i) (sym (differences-next p s t i)) (omega (arith, ints, add-parts (differences p s t i) (balance p s t i))))
+falls p s t i (suc d) h =
+    let e : i + suc d ≡ suc (i + d) = add-suc i d in
+    let b : balance p s t (suc (i + d)) <ℤ pos 0 = median-before p s t (suc (i + d)) (omega arith) in
+    let ih : differences p s t (suc (i + d)) <ℤ differences p s t i = falls p s t i d (omega arith) in
+    subst (λ (n : ℕ). differences p s t (suc n) <ℤ differences p s t i) (sym e)
+    (subst (λ (z : ℤ). z <ℤ differences p s t i) (sym (differences-next p s t (suc (i + d)))) (omega (arith, ints, add-parts (differences p s t (suc (i + d))) (balance p s t (suc (i + d))))))
+
+pub least-below : (p : Frame) (s t i : ℕ) → i < median p s t → differences p s t (median p s t) <ℤ differences p s t i
+least-below p s t i h =
+    let e : suc (i + (median p s t - suc i)) ≡ median p s t = omega arith in
+    subst (λ (n : ℕ). differences p s t n <ℤ differences p s t i) e (falls p s t i (median p s t - suc i) (omega arith))
+
+-- from the answer on it rises, where no weight is negative
+rises : {p : Frame} {s t : ℕ} → Pixel p s t → NoneNegative p s t → (d : ℕ) → differences p s t (median p s t) ≤ℤ differences p s t (median p s t + d)
+rises {p} {s} {t} k light zero = subst (λ (n : ℕ). differences p s t (median p s t) ≤ℤ differences p s t n) (sym (add-zero (median p s t))) (≤ℤ-refl (differences p s t (median p s t)))
+rises {p} {s} {t} k light (suc d) =
+    let ih : differences p s t (median p s t) ≤ℤ differences p s t (median p s t + d) = rises k light d in
+    let b : pos 0 ≤ℤ balance p s t (median p s t + d) = ≤-trans (median-at k) (balance-mono p s t light (median p s t) (median p s t + d) (omega arith)) in
+    subst (λ (n : ℕ). differences p s t (median p s t) ≤ℤ differences p s t n) (sym (add-suc (median p s t) d))
+    (subst (λ (z : ℤ). differences p s t (median p s t) ≤ℤ z) (sym (differences-next p s t (median p s t + d))) (omega (arith, ints, add-parts (differences p s t (median p s t + d)) (balance p s t (median p s t + d)))))
+
+pub least : {p : Frame} {s t : ℕ} → Pixel p s t → NoneNegative p s t → (i : ℕ) → differences p s t (median p s t) ≤ℤ differences p s t i
+least {p} {s} {t} k light i = go (decLt i (median p s t))
+  where
+    go : Dec (i < median p s t) → differences p s t (median p s t) ≤ℤ differences p s t i
+    go (yes h) = <-to-≤ (least-below p s t i h)
+    go (no h) =
+        let e : median p s t + (i - median p s t) ≡ i = omega arith in
+        subst (λ (n : ℕ). differences p s t (median p s t) ≤ℤ differences p s t n) e (rises k light (i - median p s t))
+
+-- ---- demand 3: none negative, and not all zero
+abbrev pub NotAllZero : Frame → ℕ → ℕ → Type 0
+NotAllZero p s t = ((x y : ℕ) → InWindow p s t x y → weight p s t (guide p x y) ≡ pos 0) → ⊥
+
+pub not-weightless : (p : Frame) (s t : ℕ) → NoneNegative p s t → NotAllZero p s t → weightless p s t ≡ false
+unfolding totalWeight
+not-weightless p s t light some = go (weightless p s t) refl
+  where
+    go : (b : Bool) → weightless p s t ≡ b → b ≡ false
+    go false e = refl
+    go true e =
+        absurd (some (λ x y h. ≤-antisymm
+        (subst (λ (z : ℤ). weight p s t (guide p x y) ≤ℤ z) (weightless-total p s t e) (over-termℤ p s t (λ u v. weight p s t (guide p u v)) light x y h)) (light x y h)))
+
+pub answer-median : (p : Frame) (s t : ℕ) → weightless p s t ≡ false → answer p s t ≡ median p s t
+unfolding answer
+answer-median p s t e = rw e refl
+
+pub answer-weightless : (p : Frame) (s t : ℕ) → weightless p s t ≡ true → answer p s t ≡ level p s t
+unfolding answer
+answer-weightless p s t e = rw e refl
+
+pub minimum : {p : Frame} {s t : ℕ} → Pixel p s t → NoneNegative p s t → NotAllZero p s t → (i : ℕ)
+    → (differences p s t (answer p s t) ≤ℤ differences p s t i) × (i < answer p s t → differences p s t (answer p s t) <ℤ differences p s t i)
+minimum {p} {s} {t} k light some i =
+    let e : answer p s t ≡ median p s t = answer-median p s t (not-weightless p s t light some) in
+    rw e (least k light i, λ h. least-below p s t i h)

@@ -1,0 +1,180 @@
+-- Sums of integers over ranges and windows: linear, ordered, bounded; a window's pixels, and what holds of each of them.
+-- Assumes nothing.
+use mathlib.Core.Path.{_≡_, refl, sym, ap, _∙_, subst}
+use mathlib.Core.Logic.{_⊎_, inl, inr}
+use Prim.Native.Nat.{ℕ, zero, suc, _+_, _-_, _*_, _≤_, _<_}
+use native.Mathlib.Nat.{le-trans}
+use native.Mathlib.Omega.{arith}
+use lib.IntN.{ℤ, pos, natAbs, _+ℤ_, _*ℤ_, *ℤ-zero}
+use lib.Signed.{_≤ℤ_, ≤ℤ-refl}
+use Rattle.ints.specs.Ring.{mul-add}
+use Rattle.ints.specs.Order.{posPart, negPart, add-parts, +-mono, ≤-trans}
+use Rattle.ints.specs.Linear.{ints}
+use Rattle.ints.specs.Bound.{abs-add}
+use Rattle.spec.specs.Base.{fold, foldRect, sum, sumℤ}
+use Rattle.spec.specs.declared.Settings.{Settings}
+use Rattle.spec.specs.Frame.{Frame}
+use Rattle.spec.specs.Window.{span, over, Σ, Σℤ, pixelCount}
+use Rattle.spec.proofs.Ranges.{Sums, fold-both, fold-same, natSums, intSums}
+
+-- ---- ranges
+pub sum-scale : (c : ℤ) (f : ℕ → ℤ) (a n : ℕ) → sumℤ (λ k. c *ℤ f k) a n ≡ c *ℤ sumℤ f a n
+unfolding fold
+sum-scale c f a zero = sym (*ℤ-zero c)
+sum-scale c f a (suc n) = ap (λ (x : ℤ). x +ℤ c *ℤ f (a + n)) (sum-scale c f a n) ∙ sym (mul-add c (sumℤ f a n) (f (a + n)))
+
+pub sum-pos : (f : ℕ → ℕ) (a n : ℕ) → sumℤ (λ k. pos (f k)) a n ≡ pos (sum f a n)
+unfolding fold
+sum-pos f a zero = refl
+sum-pos f a (suc n) = ap (λ (x : ℤ). x +ℤ pos (f (a + n))) (sum-pos f a n)
+
+pub sum-mono : (f g : ℕ → ℤ) (a n : ℕ) → ((k : ℕ) → a ≤ k → k < a + n → f k ≤ℤ g k) → sumℤ f a n ≤ℤ sumℤ g a n
+unfolding fold
+sum-mono f g a zero h = ≤ℤ-refl (pos 0)
+sum-mono f g a (suc n) h = +-mono (sum-mono f g a n (λ k x y. h k x (omega arith))) (h (a + n) (omega arith) (omega arith))
+
+pub sum-zeros : (a n : ℕ) → sumℤ (λ k. pos 0) a n ≡ pos 0
+unfolding fold
+sum-zeros a zero = refl
+sum-zeros a (suc n) = ap (λ (x : ℤ). x +ℤ pos 0) (sum-zeros a n)
+
+pub sum-nonneg : (f : ℕ → ℤ) (a n : ℕ) → ((k : ℕ) → a ≤ k → k < a + n → pos 0 ≤ℤ f k) → pos 0 ≤ℤ sumℤ f a n
+sum-nonneg f a n h = subst (λ (x : ℤ). x ≤ℤ sumℤ f a n) (sum-zeros a n) (sum-mono (λ k. pos 0) f a n h)
+
+pub sum-const : (c : ℕ) (a n : ℕ) → sum (λ k. c) a n ≡ n * c
+unfolding fold
+sum-const c a zero = omega arith
+sum-const c a (suc n) = omega (arith, sum-const c a n)
+
+pub sum-le : (f g : ℕ → ℕ) (a n : ℕ) → ((k : ℕ) → a ≤ k → k < a + n → f k ≤ g k) → sum f a n ≤ sum g a n
+unfolding fold
+sum-le f g a zero h = omega arith
+sum-le f g a (suc n) h = omega (arith, sum-le f g a n (λ k x y. h k x (omega arith)), h (a + n) (omega arith) (omega arith))
+
+pub sum-abs : (f : ℕ → ℤ) (g : ℕ → ℕ) (a n : ℕ) → ((k : ℕ) → a ≤ k → k < a + n → natAbs (f k) ≤ g k) → natAbs (sumℤ f a n) ≤ sum g a n
+unfolding fold
+sum-abs f g a zero h = omega arith
+sum-abs f g a (suc n) h =
+    omega (arith, abs-add (sumℤ f a n) (f (a + n)), sum-abs f g a n (λ k x y. h k x (omega arith)), h (a + n) (omega arith) (omega arith))
+
+-- a term is at most the sum
+split-last : (a n k : ℕ) → k < a + suc n → (k ≡ a + n) ⊎ (k < a + n)
+split-last a n k h = native.Mathlib.Nat.eq-or-lt-of-le (omega arith)
+
+pub sum-term : (f : ℕ → ℕ) (a n k : ℕ) → a ≤ k → k < a + n → f k ≤ sum f a n
+unfolding fold
+sum-term f a zero k x y = absurd (omega arith)
+sum-term f a (suc n) k x y = go (split-last a n k y) (λ l. sum-term f a n k x l)
+  where
+    go : (k ≡ a + n) ⊎ (k < a + n) → (k < a + n → f k ≤ sum f a n) → f k ≤ sum f a n + f (a + n)
+    go (inl e) ih = omega (arith, ap f e)
+    go (inr l) ih = omega (arith, ih l)
+
+pub sum-termℤ : (f : ℕ → ℤ) (a n k : ℕ) → ((j : ℕ) → a ≤ j → j < a + n → pos 0 ≤ℤ f j) → a ≤ k → k < a + n → f k ≤ℤ sumℤ f a n
+unfolding fold
+sum-termℤ f a zero k h x y = absurd (omega arith)
+sum-termℤ f a (suc n) k h x y =
+    go (split-last a n k y) (λ l. sum-termℤ f a n k (λ j u v. h j u (omega arith)) x l)
+    (sum-nonneg f a n (λ j u v. h j u (omega arith))) (h (a + n) (omega arith) (omega arith))
+  where
+    go : (k ≡ a + n) ⊎ (k < a + n) → (k < a + n → f k ≤ℤ sumℤ f a n) → pos 0 ≤ℤ sumℤ f a n → pos 0 ≤ℤ f (a + n) → f k ≤ℤ (sumℤ f a n +ℤ f (a + n))
+    go (inl e) ih u v = omega (arith, ints, add-parts (sumℤ f a n) (f (a + n)), ap posPart (ap f e), ap negPart (ap f e))
+    go (inr l) ih u v = let q : f k ≤ℤ sumℤ f a n = ih l in omega (arith, ints, add-parts (sumℤ f a n) (f (a + n)))
+
+-- ---- the window's pixels
+pub record InWindow (p : Frame) (s t x y : ℕ) : Type 0 where
+  pub left : s ≤ x + p .set .radius
+  pub right : x ≤ s + p .set .radius
+  pub wide : x < p .set .width
+  pub top : t ≤ y + p .set .radius
+  pub bottom : y ≤ t + p .set .radius
+  pub high : y < p .set .height
+
+pub in-window : (p : Frame) (s t x y : ℕ) → s - p .set .radius ≤ x → x < s - p .set .radius + span (p .set .radius) s (p .set .width)
+    → t - p .set .radius ≤ y → y < t - p .set .radius + span (p .set .radius) t (p .set .height) → InWindow p s t x y
+unfolding span
+in-window p s t x y a b c d =
+    record { left = omega arith; right = omega arith; wide = omega arith; top = omega arith; bottom = omega arith; high = omega arith }
+
+pub inWindow-right : {p : Frame} {s t x y : ℕ} → InWindow p s t x y → x < s - p .set .radius + span (p .set .radius) s (p .set .width)
+unfolding span
+inWindow-right h = omega arith
+
+pub inWindow-bottom : {p : Frame} {s t x y : ℕ} → InWindow p s t x y → y < t - p .set .radius + span (p .set .radius) t (p .set .height)
+unfolding span
+inWindow-bottom h = omega arith
+
+-- ---- the same over the window
+module _ {A : Type 0} (_⊕_ : A → A → A) (z : A) (laws : Sums _⊕_ z) (p : Frame) (s t : ℕ) where
+  infixl 6 _⊕_
+  pub over-inWindow : (f g : ℕ → ℕ → A) → ((x y : ℕ) → InWindow p s t x y → f x y ≡ g x y) → over _⊕_ z p s t f ≡ over _⊕_ z p s t g
+  unfolding over foldRect
+  over-inWindow f g h = fold-same _⊕_ z laws _ _ _ _ (λ x a b. fold-same _⊕_ z laws _ _ _ _ (λ y c d. h x y (in-window p s t x y a b c d)))
+
+  pub over-both : (f g : ℕ → ℕ → A) → over _⊕_ z p s t (λ x y. f x y ⊕ g x y) ≡ over _⊕_ z p s t f ⊕ over _⊕_ z p s t g
+  unfolding over foldRect
+  over-both f g = fold-same _⊕_ z laws _ _ _ _ (λ x a b. fold-both _⊕_ z laws (f x) (g x) _ _) ∙ fold-both _⊕_ z laws _ _ _ _
+
+module _ (p : Frame) (s t : ℕ) where
+  pub over-add : (f g : ℕ → ℕ → ℤ) → Σℤ p s t (λ x y. f x y +ℤ g x y) ≡ Σℤ p s t f +ℤ Σℤ p s t g
+  over-add f g = over-both _+ℤ_ (pos 0) intSums p s t f g
+
+  pub over-scale : (c : ℤ) (f : ℕ → ℕ → ℤ) → Σℤ p s t (λ x y. c *ℤ f x y) ≡ c *ℤ Σℤ p s t f
+  unfolding over foldRect
+  over-scale c f = fold-same _+ℤ_ (pos 0) intSums _ _ _ _ (λ x a b. sum-scale c (f x) _ _) ∙ sum-scale c _ _ _
+
+  pub over-pos : (f : ℕ → ℕ → ℕ) → Σℤ p s t (λ x y. pos (f x y)) ≡ pos (Σ p s t f)
+  unfolding over foldRect
+  over-pos f = fold-same _+ℤ_ (pos 0) intSums _ _ _ _ (λ x a b. sum-pos (f x) _ _) ∙ sum-pos _ _ _
+
+  pub over-mono : (f g : ℕ → ℕ → ℤ) → ((x y : ℕ) → InWindow p s t x y → f x y ≤ℤ g x y) → Σℤ p s t f ≤ℤ Σℤ p s t g
+  unfolding over foldRect
+  over-mono f g h = sum-mono _ _ _ _ (λ x a b. sum-mono _ _ _ _ (λ y c d. h x y (in-window p s t x y a b c d)))
+
+  pub over-nonneg : (f : ℕ → ℕ → ℤ) → ((x y : ℕ) → InWindow p s t x y → pos 0 ≤ℤ f x y) → pos 0 ≤ℤ Σℤ p s t f
+  unfolding over foldRect
+  over-nonneg f h = sum-nonneg _ _ _ (λ x a b. sum-nonneg _ _ _ (λ y c d. h x y (in-window p s t x y a b c d)))
+
+  pub over-le : (f g : ℕ → ℕ → ℕ) → ((x y : ℕ) → InWindow p s t x y → f x y ≤ g x y) → Σ p s t f ≤ Σ p s t g
+  unfolding over foldRect
+  over-le f g h = sum-le _ _ _ _ (λ x a b. sum-le _ _ _ _ (λ y c d. h x y (in-window p s t x y a b c d)))
+
+  pub over-abs : (f : ℕ → ℕ → ℤ) (g : ℕ → ℕ → ℕ) → ((x y : ℕ) → InWindow p s t x y → natAbs (f x y) ≤ g x y) → natAbs (Σℤ p s t f) ≤ Σ p s t g
+  unfolding over foldRect
+  over-abs f g h = sum-abs _ _ _ _ (λ x a b. sum-abs _ _ _ _ (λ y c d. h x y (in-window p s t x y a b c d)))
+
+  pub over-term : (f : ℕ → ℕ → ℕ) (x y : ℕ) → InWindow p s t x y → f x y ≤ Σ p s t f
+  unfolding over foldRect
+  over-term f x y h =
+      le-trans (sum-term (f x) (t - p .set .radius) (span (p .set .radius) t (p .set .height)) y (omega arith) (inWindow-bottom h))
+      (sum-term (λ u. sum (f u) (t - p .set .radius) (span (p .set .radius) t (p .set .height))) (s - p .set .radius) (span (p .set .radius) s (p .set .width)) x (omega arith) (inWindow-right h))
+
+  pub over-termℤ : (f : ℕ → ℕ → ℤ) → ((x y : ℕ) → InWindow p s t x y → pos 0 ≤ℤ f x y) → (x y : ℕ) → InWindow p s t x y → f x y ≤ℤ Σℤ p s t f
+  unfolding over foldRect
+  over-termℤ f k x y h =
+      ≤-trans (sum-termℤ (f x) (t - p .set .radius) (span (p .set .radius) t (p .set .height)) y (λ v c d. k x v (in-window p s t x v (omega arith) (inWindow-right h) c d)) (omega arith) (inWindow-bottom h))
+      (sum-termℤ (λ u. sumℤ (f u) (t - p .set .radius) (span (p .set .radius) t (p .set .height))) (s - p .set .radius) (span (p .set .radius) s (p .set .width)) x
+      (λ u a b. sum-nonneg (f u) _ _ (λ v c d. k u v (in-window p s t u v a b c d))) (omega arith) (inWindow-right h))
+
+  -- the number of pixels
+  pub pixelCount-is : pixelCount p s t ≡ span (p .set .radius) s (p .set .width) * span (p .set .radius) t (p .set .height)
+  unfolding pixelCount over foldRect
+  pixelCount-is =
+      fold-same _+_ 0 natSums _ _ _ _ (λ x a b. sum-const 1 _ _ ∙ native.Mathlib.Nat.mul-one _) ∙ sum-const (span (p .set .radius) t (p .set .height)) _ _
+
+  whole : (c : ℕ) → Σ p s t (λ x y. c) ≡ span (p .set .radius) s (p .set .width) * (span (p .set .radius) t (p .set .height) * c)
+  unfolding over foldRect
+  whole c = fold-same _+_ 0 natSums _ _ _ _ (λ x a b. sum-const c _ _) ∙ sum-const (span (p .set .radius) t (p .set .height) * c) _ _
+
+  pub over-constant : (c : ℕ) → Σ p s t (λ x y. c) ≡ pixelCount p s t * c
+  over-constant c = whole c ∙ sym (ap (λ (k : ℕ). k * c) pixelCount-is ∙ native.Mathlib.Nat.mul-assoc _ _ _)
+
+  sized : Σ p s t (λ x y. 1) ≡ pixelCount p s t
+  unfolding pixelCount
+  sized = refl
+
+  pub over-constantℤ : (c : ℤ) → Σℤ p s t (λ x y. c) ≡ pos (pixelCount p s t) *ℤ c
+  over-constantℤ c =
+      over-inWindow _+ℤ_ (pos 0) intSums p s t _ _ (λ x y h. sym (Rattle.ints.specs.Ring.mul-one c))
+      ∙ over-scale c (λ x y. pos 1) ∙ ap (λ (k : ℤ). c *ℤ k) (over-pos (λ x y. 1))
+      ∙ ap (λ (k : ℕ). c *ℤ pos k) sized ∙ lib.IntN.*ℤ-comm c (pos (pixelCount p s t))

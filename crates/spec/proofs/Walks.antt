@@ -1,0 +1,293 @@
+-- The walk: where each byte leads, what each place of the answers holds, that the walk stays inside the picture, its marks, its cut and its shifts.
+-- Assumes nothing.
+use mathlib.Core.Path.{_≡_, refl, sym, ap, _∙_, subst}
+use mathlib.Core.Bool.{Bool, true, false}
+use mathlib.Core.Logic.{_⊎_, inl, inr, _↔_}
+use mathlib.Core.List.{List, [], _∷_}
+use Prim.Native.Nat.{ℕ, zero, suc, _+_, _-_, _*_, _≤_, _<_}
+use native.Mathlib.Nat.{le-refl, add-zero, zero-add}
+use native.Mathlib.Omega.{arith}
+use lib.Dec.{ltb, eqb}
+use lib.ListN.{length, getD, take}
+use lib.Seq.{take-suc, take-length}
+use borrow.Author.Tests.{ltb-true, eqb-true, eqb-false}
+use Rattle.spec.specs.Base.{if_then_else_, distance, fold, sum}
+use Rattle.spec.specs.declared.Settings.{Settings}
+use Rattle.spec.specs.Frame.{Frame, level}
+use Rattle.spec.specs.Median.{weightless, median, answer}
+use Rattle.spec.specs.Weight.{monotone}
+use Rattle.spec.specs.Walk.{State, arrive, toIf, move, follow, step, after, answers, walkEnd, walkAnswers}
+use Rattle.spec.specs.declared.Move.{Move}
+use Rattle.spec.specs.declared.Move.the-variants.{To, Nowhere}
+use Rattle.spec.proofs.Steps.{after-one, length-answers, getD-answers}
+use Rattle.spec.proofs.Limits.{SettingsLimits, FrameLimits, Pixel}
+use Rattle.spec.proofs.Totals.{median-low, answer-low}
+use Rattle.spec.proofs.Minimum.{answer-median, answer-weightless}
+
+-- ---- where a byte leads: inside the picture by one of the four moves, or nowhere, with 65,534 for these and 65,533 for another byte
+abbrev pub Fine : Settings → ℕ → Move → Type 0
+Fine k b (To s t) = (s < k .width) × (t < k .height) × (b ≤ 3)
+Fine k b (Nowhere m) = ((m ≡ 65534) × (b ≤ 3)) ⊎ ((m ≡ 65533) × (3 < b))
+
+within-fine : (k : Settings) (b : ℕ) (c : Bool) (s t : ℕ) → (c ≡ true → (s < k .width) × (t < k .height)) → b ≤ 3 → Fine k b (toIf c s t)
+within-fine k b true s t h l = let q = h refl in (q .0, q .1, l)
+within-fine k b false s t h l = inl (refl, l)
+
+pub move-fine : (k : Settings) (s t b : ℕ) → s < k .width → t < k .height → Fine k b (move k s t b)
+unfolding move
+move-fine k s t b hs ht = go (eqb b 0) refl (eqb b 1) refl (eqb b 2) refl (eqb b 3) refl
+  where
+    go : (c₀ : Bool) → eqb b 0 ≡ c₀ → (c₁ : Bool) → eqb b 1 ≡ c₁ → (c₂ : Bool) → eqb b 2 ≡ c₂ → (c₃ : Bool) → eqb b 3 ≡ c₃
+        → Fine k b (if c₀ then toIf (ltb (s + 1) (k .width)) (s + 1) t else if c₁ then toIf (ltb 0 s) (s - 1) t
+        else if c₂ then toIf (ltb (t + 1) (k .height)) s (t + 1) else if c₃ then toIf (ltb 0 t) s (t - 1) else Nowhere 65533)
+    go true e c₁ e₁ c₂ e₂ c₃ e₃ = within-fine k b (ltb (s + 1) (k .width)) (s + 1) t (λ d. (ltb-true _ _ d, ht)) (omega (arith, eqb-true b 0 e))
+    go false e true e₁ c₂ e₂ c₃ e₃ = within-fine k b (ltb 0 s) (s - 1) t (λ d. (omega arith, ht)) (omega (arith, eqb-true b 1 e₁))
+    go false e false e₁ true e₂ c₃ e₃ = within-fine k b (ltb (t + 1) (k .height)) s (t + 1) (λ d. (hs, ltb-true _ _ d)) (omega (arith, eqb-true b 2 e₂))
+    go false e false e₁ false e₂ true e₃ = within-fine k b (ltb 0 t) s (t - 1) (λ d. (hs, omega arith)) (omega (arith, eqb-true b 3 e₃))
+    go false e false e₁ false e₂ false e₃ =
+        let n0 : b ≡ 0 → ⊥ = eqb-false b 0 e in
+        let n1 : b ≡ 1 → ⊥ = eqb-false b 1 e₁ in
+        let n2 : b ≡ 2 → ⊥ = eqb-false b 2 e₂ in
+        let n3 : b ≡ 3 → ⊥ = eqb-false b 3 e₃ in
+        inr (refl, omega arith)
+
+-- ---- arriving: what the cut and the shift count become
+pub arrive-weightless : (p : Frame) (s t c n : ℕ) → weightless p s t ≡ true
+    → arrive p s t c n ≡ record { column = s; row = t; cut = c; shifts = n; said = level p s t }
+unfolding arrive
+arrive-weightless p s t c n e = rw e refl
+
+pub arrive-full : (p : Frame) (s t c n : ℕ) → weightless p s t ≡ false
+    → arrive p s t c n ≡ record { column = s; row = t; cut = median p s t; shifts = n + (if monotone p s t then distance (median p s t) c else median p s t); said = median p s t }
+unfolding arrive
+arrive-full p s t c n e = rw e refl
+
+pub arrive-column : (p : Frame) (s t c n : ℕ) → arrive p s t c n .column ≡ s
+arrive-column p s t c n = go (weightless p s t) refl
+  where
+    go : (b : Bool) → weightless p s t ≡ b → arrive p s t c n .column ≡ s
+    go true e = ap (λ (x : State). x .column) (arrive-weightless p s t c n e)
+    go false e = ap (λ (x : State). x .column) (arrive-full p s t c n e)
+
+pub arrive-row : (p : Frame) (s t c n : ℕ) → arrive p s t c n .row ≡ t
+arrive-row p s t c n = go (weightless p s t) refl
+  where
+    go : (b : Bool) → weightless p s t ≡ b → arrive p s t c n .row ≡ t
+    go true e = ap (λ (x : State). x .row) (arrive-weightless p s t c n e)
+    go false e = ap (λ (x : State). x .row) (arrive-full p s t c n e)
+
+pub arrive-said : (p : Frame) (s t c n : ℕ) → arrive p s t c n .said ≡ answer p s t
+arrive-said p s t c n = go (weightless p s t) refl
+  where
+    go : (b : Bool) → weightless p s t ≡ b → arrive p s t c n .said ≡ answer p s t
+    go true e = ap (λ (x : State). x .said) (arrive-weightless p s t c n e) ∙ sym (answer-weightless p s t e)
+    go false e = ap (λ (x : State). x .said) (arrive-full p s t c n e) ∙ sym (answer-median p s t e)
+
+-- ---- one byte
+pub step-to : (p : Frame) (x : State) (b s t : ℕ) → move (p .set) (x .column) (x .row) b ≡ To s t → step p x b ≡ arrive p s t (x .cut) (x .shifts)
+unfolding step follow
+step-to p x b s t e = rw e refl
+
+pub step-nowhere : (p : Frame) (x : State) (b m : ℕ) → move (p .set) (x .column) (x .row) b ≡ Nowhere m
+    → step p x b ≡ record { column = x .column; row = x .row; cut = x .cut; shifts = x .shifts; said = m }
+unfolding step follow
+step-nowhere p x b m e = rw e refl
+
+-- ---- the walk's state: inside the picture, its cut a level, its shift count at most 1,023 for each window
+pub record Held (p : Frame) (x : State) (n : ℕ) : Type 0 where
+  pub good : FrameLimits p
+  pub in-column : x .column < p .set .width
+  pub in-row : x .row < p .set .height
+  pub cut-low : x .cut < p .set .levels
+  pub shifts-low : x .shifts ≤ n * 1023
+
+pub spot-of : {p : Frame} {x : State} {n : ℕ} → Held p x n → Pixel p (x .column) (x .row)
+spot-of h = record { good = h .good; in-column = h .in-column; in-row = h .in-row }
+
+shift-low : (b : Bool) (m c l : ℕ) → m < l → c < l → l ≤ 1024 → (if b then distance m c else m) ≤ 1023
+shift-low true m c l h k z = omega arith
+shift-low false m c l h k z = omega arith
+
+pub held-arrive : {p : Frame} {s t : ℕ} → Pixel p s t → (c n k : ℕ) → c < p .set .levels → n ≤ k * 1023 → Held p (arrive p s t c n) (suc k)
+held-arrive {p} {s} {t} w c n k hc hn =
+    record {
+      good = w .good;
+      in-column = rw arrive-column (w .in-column);
+      in-row = rw arrive-row (w .in-row);
+      cut-low = cut-is (weightless p s t) refl;
+      shifts-low = shifts-are (weightless p s t) refl;
+    }
+  where
+    cut-is : (b : Bool) → weightless p s t ≡ b → arrive p s t c n .cut < p .set .levels
+    cut-is true e = rw (arrive-weightless p s t c n e) hc
+    cut-is false e = rw (arrive-full p s t c n e) (median-low w)
+
+    shifts-are : (b : Bool) → weightless p s t ≡ b → arrive p s t c n .shifts ≤ suc k * 1023
+    shifts-are true e = rw (arrive-weightless p s t c n e) (omega arith)
+    shifts-are false e =
+        rw (arrive-full p s t c n e)
+        (let q = shift-low (monotone p s t) (median p s t) c (p .set .levels) (median-low w) hc (w .good .sound .levels-high) in omega (arith, q))
+
+pub held-start : {p : Frame} {s t : ℕ} → Pixel p s t → Held p (arrive p s t 0 0) 1
+held-start w = held-arrive w 0 0 0 (omega (arith, w .good .sound .levels-low)) (omega arith)
+
+pub held-step : {p : Frame} {x : State} {n : ℕ} → Held p x n → (b : ℕ) → Held p (step p x b) (suc n)
+held-step {p} {x} {n} h b = go (move (p .set) (x .column) (x .row) b) refl (move-fine (p .set) (x .column) (x .row) b (h .in-column) (h .in-row))
+  where
+    go : (m : Move) → move (p .set) (x .column) (x .row) b ≡ m → Fine (p .set) b m → Held p (step p x b) (suc n)
+    go (To s t) e f =
+        subst (λ (y : State). Held p y (suc n)) (sym (step-to p x b s t e))
+        (held-arrive (record { good = h .good; in-column = f .0; in-row = f .1 }) (x .cut) (x .shifts) n (h .cut-low) (h .shifts-low))
+    go (Nowhere m) e f =
+        subst (λ (y : State). Held p y (suc n)) (sym (step-nowhere p x b m e))
+        (record { good = h .good; in-column = h .in-column; in-row = h .in-row; cut-low = h .cut-low; shifts-low = omega (arith, h .shifts-low) })
+
+pub held-after : {p : Frame} {x : State} {n : ℕ} → Held p x n → (bs : List ℕ) → Held p (after p x bs) (n + length bs)
+unfolding after
+held-after {p} {x} {n} h [] = let e : n + 0 ≡ n = omega arith in rw e h
+held-after {p} {x} {n} h (b ∷ bs) = let e : n + suc (length bs) ≡ suc n + length bs = omega arith in rw e (held-after (held-step h b) bs)
+
+-- ---- what a byte's answer says
+pub step-level : (p : Frame) (x : State) (b s t : ℕ) → move (p .set) (x .column) (x .row) b ≡ To s t → step p x b .said ≡ answer p s t
+step-level p x b s t e = rw (step-to p x b s t e) (arrive-said p s t (x .cut) (x .shifts))
+
+pub step-mark : (p : Frame) (x : State) (b m : ℕ) → move (p .set) (x .column) (x .row) b ≡ Nowhere m → step p x b .said ≡ m
+step-mark p x b m e = rw (step-nowhere p x b m e) refl
+
+-- a level, below 1,024, where the byte moves; where it does not, 65,534 for a move off the picture and 65,533 for another byte
+abbrev pub Told : Frame → State → ℕ → Move → Type 0
+Told p x b (To s t) = (step p x b .said ≡ answer p s t) × (answer p s t < 1024) × (s < p .set .width) × (t < p .set .height) × (b ≤ 3)
+Told p x b (Nowhere m) = ((step p x b .said ≡ 65534) × (b ≤ 3)) ⊎ ((step p x b .said ≡ 65533) × (3 < b))
+
+pub told : {p : Frame} {x : State} {n : ℕ} → Held p x n → (b : ℕ) → Told p x b (move (p .set) (x .column) (x .row) b)
+told {p} {x} {n} h b = go (move (p .set) (x .column) (x .row) b) refl (move-fine (p .set) (x .column) (x .row) b (h .in-column) (h .in-row))
+  where
+    go : (m : Move) → move (p .set) (x .column) (x .row) b ≡ m → Fine (p .set) b m → Told p x b m
+    go (To s t) e f =
+        (step-level p x b s t e, omega (arith, answer-low (record { good = h .good; in-column = f .0; in-row = f .1 }), h .good .sound .levels-high), f .0, f .1, f .2)
+    go (Nowhere m) e (inl f) = inl (step-mark p x b m e ∙ f .0, f .1)
+    go (Nowhere m) e (inr f) = inr (step-mark p x b m e ∙ f .0, f .1)
+
+-- so a mark is exactly where a byte moves nothing
+pub record Marks (p : Frame) (x : State) (b : ℕ) : Type 0 where
+  pub off : (step p x b .said ≡ 65534) ↔ (move (p .set) (x .column) (x .row) b ≡ Nowhere 65534)
+  pub other : (step p x b .said ≡ 65533) ↔ (3 < b)
+  pub level : (step p x b .said < 1024) ↔ ((s : ℕ) × (t : ℕ) × (move (p .set) (x .column) (x .row) b ≡ To s t))
+
+apart-moves : {A : Type 0} {s t m : ℕ} → To s t ≡ Nowhere m → A
+apart-moves {A} {s} {t} {m} e = absurd (subst (λ (q : Move). Is q) e tt)
+  where
+    Is : Move → Type 0
+    Is (To s t) = Unit {0}
+    Is (Nowhere m) = ⊥
+
+pub marks : {p : Frame} {x : State} {n : ℕ} → Held p x n → (b : ℕ) → Marks p x b
+marks {p} {x} {n} h b = go (move (p .set) (x .column) (x .row) b) refl (told h b) (move-fine (p .set) (x .column) (x .row) b (h .in-column) (h .in-row))
+  where
+    go : (m : Move) → move (p .set) (x .column) (x .row) b ≡ m → Told p x b m → Fine (p .set) b m → Marks p x b
+    go (To s t) e f g =
+        record {
+          off = (λ d. absurd (omega (arith, f .0, f .1)), λ d. apart-moves (sym e ∙ d));
+          other = (λ d. absurd (omega (arith, f .0, f .1)), λ d. absurd (omega (arith, f .4)));
+          level = (λ d. (s, t, e), λ d. omega (arith, f .0, f .1));
+        }
+    go (Nowhere m) e (inl f) g =
+        record {
+          off = (λ d. e ∙ ap Nowhere (sym (step-mark p x b m e) ∙ f .0), λ d. f .0);
+          other = (λ d. absurd (omega (arith, f .0)), λ d. absurd (omega (arith, f .1)));
+          level = (λ d. absurd (omega (arith, f .0)), λ d. apart-moves (sym (d .2) ∙ e));
+        }
+    go (Nowhere m) e (inr f) g =
+        record {
+          off = (λ d. absurd (omega (arith, f .0)), λ d. absurd (omega (arith, f .0, step-mark p x b 65534 d)));
+          other = (λ d. f .1, λ d. f .0);
+          level = (λ d. absurd (omega (arith, f .0)), λ d. apart-moves (sym (d .2) ∙ e));
+        }
+
+-- ---- place by place
+pub answers-first : (p : Frame) (x : State) (bs : List ℕ) → getD (answers p x bs) 0 0 ≡ x .said
+unfolding answers
+answers-first p x [] = refl
+answers-first p x (b ∷ bs) = refl
+
+pub after-next : (p : Frame) (x : State) (bs : List ℕ) (j : ℕ) → j < length bs → after p x (take (suc j) bs) ≡ step p (after p x (take j bs)) (getD bs j 0)
+after-next p x bs j h = ap (after p x) (take-suc bs j 0 h) ∙ after-one p x (take j bs) (getD bs j 0)
+
+pub answers-next : (p : Frame) (x : State) (bs : List ℕ) (j : ℕ) → j < length bs
+    → getD (answers p x bs) (suc j) 0 ≡ step p (after p x (take j bs)) (getD bs j 0) .said
+answers-next p x bs j h = getD-answers p x bs (suc j) h ∙ ap (λ (y : State). y .said) (after-next p x bs j h)
+
+pub walk-first : (p : Frame) (s t : ℕ) (bs : List ℕ) → getD (walkAnswers p s t bs) 0 0 ≡ answer p s t
+unfolding walkAnswers
+walk-first p s t bs = answers-first p (arrive p s t 0 0) bs ∙ arrive-said p s t 0 0
+
+pub walk-next : (p : Frame) (s t : ℕ) (bs : List ℕ) (j : ℕ) → j < length bs
+    → getD (walkAnswers p s t bs) (suc j) 0 ≡ step p (walkEnd p s t (take j bs)) (getD bs j 0) .said
+unfolding walkAnswers walkEnd
+walk-next p s t bs j h = answers-next p (arrive p s t 0 0) bs j h
+
+pub walk-held : {p : Frame} {s t : ℕ} → Pixel p s t → (bs : List ℕ) → Held p (walkEnd p s t bs) (1 + length bs)
+unfolding walkEnd
+walk-held w bs = held-after (held-start w) bs
+
+pub walk-length : (p : Frame) (s t : ℕ) (bs : List ℕ) → length (walkAnswers p s t bs) ≡ suc (length bs)
+unfolding walkAnswers
+walk-length p s t bs = length-answers p (arrive p s t 0 0) bs
+
+-- ---- the shift count is the sum of what the windows add
+unfoldable pub adds : Frame → ℕ → ℕ → ℕ → ℕ
+adds p s t c = if weightless p s t then 0 else (if monotone p s t then distance (median p s t) c else median p s t)
+
+pub arrive-shifts : (p : Frame) (s t c n : ℕ) → arrive p s t c n .shifts ≡ n + adds p s t c
+unfolding adds
+arrive-shifts p s t c n = go (weightless p s t) refl
+  where
+    go : (b : Bool) → weightless p s t ≡ b → arrive p s t c n .shifts ≡ n + (if weightless p s t then 0 else (if monotone p s t then distance (median p s t) c else median p s t))
+    go true e = let z : n ≡ n + 0 = omega arith in ap (λ (x : State). x .shifts) (arrive-weightless p s t c n e) ∙ rw e z
+    go false e = ap (λ (x : State). x .shifts) (arrive-full p s t c n e) ∙ rw e refl
+
+pub arrive-cut : (p : Frame) (s t c n : ℕ) → arrive p s t c n .cut ≡ (if weightless p s t then c else median p s t)
+arrive-cut p s t c n = go (weightless p s t) refl
+  where
+    go : (b : Bool) → weightless p s t ≡ b → arrive p s t c n .cut ≡ (if weightless p s t then c else median p s t)
+    go true e = ap (λ (x : State). x .cut) (arrive-weightless p s t c n e) ∙ rw e refl
+    go false e = ap (λ (x : State). x .cut) (arrive-full p s t c n e) ∙ rw e refl
+
+-- what a byte adds, in a state
+unfoldable pub added : Frame → State → Move → ℕ
+added p x (To s t) = adds p s t (x .cut)
+added p x (Nowhere m) = 0
+
+pub step-shifts : (p : Frame) (x : State) (b : ℕ) → step p x b .shifts ≡ x .shifts + added p x (move (p .set) (x .column) (x .row) b)
+unfolding added
+step-shifts p x b = go (move (p .set) (x .column) (x .row) b) refl
+  where
+    go : (m : Move) → move (p .set) (x .column) (x .row) b ≡ m → step p x b .shifts ≡ x .shifts + added p x m
+    go (To s t) e = ap (λ (y : State). y .shifts) (step-to p x b s t e) ∙ arrive-shifts p s t (x .cut) (x .shifts)
+    go (Nowhere m) e = ap (λ (y : State). y .shifts) (step-nowhere p x b m e) ∙ sym (add-zero (x .shifts))
+
+-- what byte j of a list adds
+unfoldable pub addedAt : Frame → State → List ℕ → ℕ → ℕ
+addedAt p x bs j = let y = after p x (take j bs) in added p y (move (p .set) (y .column) (y .row) (getD bs j 0))
+
+next : (p : Frame) (x : State) (bs : List ℕ) (n : ℕ) → suc n ≤ length bs → after p x (take (suc n) bs) .shifts ≡ after p x (take n bs) .shifts + addedAt p x bs n
+unfolding addedAt
+next p x bs n h = ap (λ (y : State). y .shifts) (after-next p x bs n h) ∙ step-shifts p (after p x (take n bs)) (getD bs n 0)
+
+pub after-shifts : (p : Frame) (x : State) (bs : List ℕ) (n : ℕ) → n ≤ length bs → after p x (take n bs) .shifts ≡ x .shifts + sum (addedAt p x bs) 0 n
+unfolding after fold
+after-shifts p x bs zero h = sym (add-zero (x .shifts))
+after-shifts p x bs (suc n) h =
+    let one : after p x (take (suc n) bs) .shifts ≡ after p x (take n bs) .shifts + addedAt p x bs n = next p x bs n h in
+    let ih : after p x (take n bs) .shifts ≡ x .shifts + sum (addedAt p x bs) 0 n = after-shifts p x bs n (omega arith) in
+    let z : addedAt p x bs (0 + n) ≡ addedAt p x bs n = ap (addedAt p x bs) (zero-add n) in
+    omega arith
+
+-- the walk's shift count: the start window's, and each byte's
+pub walk-shifts : (p : Frame) (s t : ℕ) (bs : List ℕ)
+    → walkEnd p s t bs .shifts ≡ adds p s t 0 + sum (addedAt p (arrive p s t 0 0) bs) 0 (length bs)
+unfolding walkEnd
+walk-shifts p s t bs =
+    ap (λ (l : List ℕ). after p (arrive p s t 0 0) l .shifts) (sym (take-length bs))
+    ∙ after-shifts p (arrive p s t 0 0) bs (length bs) (le-refl (length bs))
+    ∙ ap (λ (n : ℕ). n + sum (addedAt p (arrive p s t 0 0) bs) 0 (length bs)) (arrive-shifts p s t 0 0 ∙ zero-add (adds p s t 0))

@@ -1,0 +1,86 @@
+-- Which way a number names, how long its stores are and what they hold; and the outcomes of walk, filter and balance.
+-- Assumes nothing.
+use Prim.Native.Nat.{ℕ, _+_, _*_}
+use mathlib.Core.Path.{_≡_}
+use mathlib.Core.Bool.{Bool, not, _&&_, _||_}
+use mathlib.Core.List.{List, []}
+use lib.Dec.{ltb, eqb}
+use lib.ListN.{take, replicate}
+use lib.IntN.{ℤ, pos}
+use Rattle.spec.specs.declared.Settings.{Settings}
+use Rattle.spec.specs.declared.Room.{Room}
+use Rattle.spec.specs.declared.Way.{Way}
+use Rattle.spec.specs.declared.Way.the-variants.{Joint, Columns, Chain}
+use Rattle.spec.specs.Base.{if_then_else_}
+use Rattle.spec.specs.Refusal.{Outcome, _▷_, refuse}
+use Rattle.spec.specs.Frame.{Frame, settingsOf, pixels}
+use Rattle.spec.specs.Checks.{outside, verdict}
+use Rattle.spec.specs.Joint.{jointCounts, wordsPerLevel, occupancyWords, balanceBox}
+use Rattle.spec.specs.Columns.{columnStore}
+use Rattle.spec.specs.Chain.{nodeCount, ChainStore}
+
+-- ---- ways
+
+-- the way that a number names, where check 8 lets it pass
+unfoldable pub wayOf : ℕ → Way
+wayOf n = if eqb n 1 then Joint else if eqb n 2 then Columns else Chain
+
+-- way 1 serves both kinds, the others kind 2
+unfoldable pub badWay : Settings → ℕ → Bool
+badWay k n = outside 1 3 n || (not (eqb n 1) && not (eqb (k .kind) 2))
+
+-- how much of each store a way uses
+unfoldable pub roomOf : Way → Settings → Room
+roomOf Joint k = record { counts = k .levels * k .guides; words = k .levels * wordsPerLevel k; numbers = 0 }
+roomOf Columns k = record { counts = 0; words = 0; numbers = 2 * (k .width * k .levels) + 2 * k .levels }
+roomOf Chain k = record { counts = 0; words = 0; numbers = 1 + 4 * nodeCount k }
+
+-- ---- what the stores hold for the window at (s, t): nothing where a way has no such store
+
+unfoldable pub countsOf : Way → Frame → ℕ → ℕ → List ℕ
+countsOf Joint p s t = jointCounts p s t
+countsOf Columns p s t = []
+countsOf Chain p s t = []
+
+unfoldable pub wordsOf : Way → Frame → ℕ → ℕ → List ℕ
+wordsOf Joint p s t = occupancyWords p s t
+wordsOf Columns p s t = []
+wordsOf Chain p s t = []
+
+unfoldable pub NumbersOf : Way → Frame → ℕ → ℕ → List ℕ → Type 0
+NumbersOf Joint p s t m = Unit
+NumbersOf Columns p s t m = take (roomOf Columns (p .set) .numbers) m ≡ columnStore p s t
+NumbersOf Chain p s t m = ChainStore p s t m
+
+abbrev pub zeros : List ℤ
+zeros = replicate 256 (pos 0)
+
+-- the box that comes back, at the cut point c
+unfoldable pub boxOf : Way → Frame → ℕ → ℕ → ℕ → List ℤ
+boxOf Joint p s t c = balanceBox p s t c
+boxOf Columns p s t c = zeros
+boxOf Chain p s t c = zeros
+
+-- ---- checks 8 to 11
+
+unfoldable pub badPixel : Settings → ℕ → ℕ → Bool
+badPixel k s t = not (ltb s (k .width) && ltb t (k .height))
+
+-- what a call was lent falls short of what the way uses
+unfoldable pub lacks : Room → Room → Bool
+lacks need have = ltb (have .counts) (need .counts) || ltb (have .words) (need .words) || ltb (have .numbers) (need .numbers)
+
+-- a walk of n moves from (s, t), lent these stores and an answer buffer of so many numbers
+unfoldable pub walkOutcome : List ℕ → ℕ → ℕ → ℕ → ℕ → Room → ℕ → Outcome
+walkOutcome b way s t n have out =
+    let k = settingsOf b in
+    verdict b ▷ refuse 8 (badWay k way) ▷ refuse 9 (badPixel k s t) ▷ refuse 10 (ltb 1048576 n)
+    ▷ refuse 11 (lacks (roomOf (wayOf way) k) have || ltb out (n + 1))
+
+unfoldable pub filterOutcome : List ℕ → ℕ → Room → ℕ → Outcome
+filterOutcome b way have out =
+    let k = settingsOf b in
+    verdict b ▷ refuse 8 (badWay k way) ▷ refuse 11 (lacks (roomOf (wayOf way) k) have || ltb out (pixels k))
+
+unfoldable pub balanceOutcome : List ℕ → ℕ → ℕ → ℕ → Outcome
+balanceOutcome b s t i = let k = settingsOf b in verdict b ▷ refuse 9 (badPixel k s t || not (ltb i (k .levels)))

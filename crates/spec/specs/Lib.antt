@@ -1,0 +1,16 @@
+pub mod Base
+pub mod Bytes
+pub mod Refusal
+pub mod Frame
+pub mod Checks
+pub mod Window
+pub mod Weight
+pub mod Median
+pub mod Walk
+pub mod Filter
+pub mod Joint
+pub mod Columns
+pub mod Chain
+pub mod Calls
+pub mod Writer
+pub mod Program

@@ -1,0 +1,42 @@
+-- The window's weight sum, its cumulative weights, its balance, its answer, and what the answer minimises.
+-- Assumes nothing.
+use Prim.Native.Nat.{ℕ}
+use mathlib.Core.Bool.{Bool, false}
+use lib.Dec.{leb, eqb}
+use lib.IntN.{ℤ, pos, negsuc, _-ℤ_, _*ℤ_}
+use lib.Signed.{leZ}
+use Rattle.spec.specs.declared.Settings.{Settings}
+use Rattle.spec.specs.Base.{if_then_else_, distance, first}
+use Rattle.spec.specs.Frame.{Frame, level, guide}
+use Rattle.spec.specs.Window.{Σℤ}
+use Rattle.spec.specs.Weight.{weight}
+
+-- document 01: T
+unfoldable pub totalWeight : Frame → ℕ → ℕ → ℤ
+totalWeight p s t = Σℤ p s t (λ x y. weight p s t (guide p x y))
+
+-- document 01: U(i)
+unfoldable pub cumulative : Frame → ℕ → ℕ → ℕ → ℤ
+cumulative p s t i = Σℤ p s t (λ x y. if leb (level p x y) i then weight p s t (guide p x y) else pos 0)
+
+unfoldable pub balance : Frame → ℕ → ℕ → ℕ → ℤ
+balance p s t i = pos 2 *ℤ cumulative p s t i -ℤ totalWeight p s t
+
+unfoldable pub isZero : ℤ → Bool
+isZero (pos n) = eqb n 0
+isZero (negsuc n) = false
+
+-- document 01: hollow
+unfoldable pub weightless : Frame → ℕ → ℕ → Bool
+weightless p s t = isZero (totalWeight p s t)
+
+-- the smallest level with 2U(i) ≥ T
+unfoldable pub median : Frame → ℕ → ℕ → ℕ
+median p s t = first (λ i. leZ (totalWeight p s t) (pos 2 *ℤ cumulative p s t i)) (p .set .levels)
+
+unfoldable pub answer : Frame → ℕ → ℕ → ℕ
+answer p s t = if weightless p s t then level p s t else median p s t
+
+-- the weighted sum of absolute differences of level i
+unfoldable pub differences : Frame → ℕ → ℕ → ℕ → ℤ
+differences p s t i = Σℤ p s t (λ x y. weight p s t (guide p x y) *ℤ pos (distance (level p x y) i))

@@ -1,0 +1,29 @@
+-- What a pixel weighs, in both kinds.
+-- Assumes nothing.
+use Prim.Native.Nat.{ℕ, _-_, _*_}
+use mathlib.Core.Bool.{Bool, _&&_, _||_}
+use lib.Dec.{eqb}
+use lib.IntN.{ℤ, pos, _+ℤ_, _-ℤ_, _*ℤ_}
+use lib.Signed.{nonNeg}
+use Rattle.spec.specs.declared.Settings.{Settings}
+use Rattle.spec.specs.Base.{if_then_else_}
+use Rattle.spec.specs.Frame.{Frame, guide, table}
+use Rattle.spec.specs.Window.{pixelCount, guideSum, squareSum}
+
+-- document 01: V, n² times the guide's variance plus E
+unfoldable pub scaledVariance : ℕ → ℕ → ℕ → ℕ → ℤ
+scaledVariance n S Q E = pos (n * Q) -ℤ pos (S * S) +ℤ pos (n * n * E)
+
+-- kind 2's formula, with the guides of the centre and of the pixel
+unfoldable pub guidedWeight : ℕ → ℕ → ℕ → ℕ → ℕ → ℕ → ℤ
+guidedWeight n S Q E f g = scaledVariance n S Q E +ℤ (pos (n * f) -ℤ pos S) *ℤ (pos (n * g) -ℤ pos S)
+
+-- what a pixel of guide g weighs in the window at (s, t)
+unfoldable pub weight : Frame → ℕ → ℕ → ℕ → ℤ
+weight p s t g =
+    if eqb (p .set .kind) 1 then pos (table p (guide p s t) g)
+    else guidedWeight (pixelCount p s t) (guideSum p s t) (squareSum p s t) (p .set .smoothing) (guide p s t) g
+
+-- document 01: steady. No guide can weigh less than 0, so the cumulative weight never falls
+unfoldable pub monotone : Frame → ℕ → ℕ → Bool
+monotone p s t = eqb (p .set .kind) 1 || (nonNeg (weight p s t 0) && nonNeg (weight p s t (p .set .guides - 1)))

@@ -1,0 +1,147 @@
+// The types that every contract speaks of. What they mean is in specs/, which uses these same types.
+ghost use mathlib.Core.Path.{_≡_};
+ghost use Rattle.spec.specs.Frame.{newSettings};
+ghost use Rattle.spec.specs.Refusal.{number, offsetOf};
+
+// A level index counts temperature steps.
+pub struct Level(pub u16);
+
+// A guide index counts brightness steps.
+pub struct Guide(pub u16);
+
+// A frame's settings, as its trailer has them: kind 1 weighs by a table, kind 2 by the guided formula.
+pub struct Settings {
+    pub width: u16,
+    pub height: u16,
+    pub levels: u16,
+    pub guides: u16,
+    pub kind: u8,
+    pub radius: u8,
+    pub smoothing: u16,
+}
+
+impl Settings {
+    pub const RADIUS: u8 = 7;
+
+    pub const SMOOTHING: u16 = 64;
+
+    pub fn new() -> Self
+        ensures { λ r. ⌜ r ≡ newSettings ⌝ }
+    {
+        Self {
+            width: 0,
+            height: 0,
+            levels: 0,
+            guides: 0,
+            kind: 2,
+            radius: Self::RADIUS,
+            smoothing: Self::SMOOTHING,
+        }
+    }
+}
+
+// The settings of a file, and the distances back from its trailer to the planes and the table.
+pub struct Trailer {
+    pub settings: Settings,
+    pub value: usize,
+    pub guide: usize,
+    pub table: usize,
+}
+
+// An accepted file's settings as indices, and where its planes and its table begin; weights is the number of weights that the file itself has, 0 for
+// the built-in ones.
+pub struct Plan {
+    pub width: usize,
+    pub height: usize,
+    pub levels: usize,
+    pub guides: usize,
+    pub kind: usize,
+    pub radius: usize,
+    pub smoothing: usize,
+    pub value: usize,
+    pub guide: usize,
+    pub table: usize,
+    pub weights: usize,
+}
+
+// Why a call refuses, in the order of the checks; specs/Refusal.antt has document 01's number of each.
+pub enum Refusal {
+    Mark,
+    Size,
+    Counts,
+    Kind,
+    Radius,
+    Distance,
+    // the byte offset of the first number that is too large
+    Contents(usize),
+    Way,
+    Start,
+    Moves,
+    Room,
+    Program,
+}
+
+// What the checks say.
+pub enum Verdict {
+    Accepted,
+    Refused(Refusal),
+}
+
+// The ways of counting: document 01's 1, 2 and 3.
+pub enum Way {
+    Joint,
+    Columns,
+    Chain,
+}
+
+// How many numbers of each store: 16-bit counts, 64-bit occupancy words, 32-bit numbers.
+pub struct Room {
+    pub counts: usize,
+    pub words: usize,
+    pub numbers: usize,
+}
+
+// Where a byte of a walk's list leads: to a column and a row, or nowhere, with the mark that answers it.
+pub enum Move {
+    To(usize, usize),
+    Nowhere(u16),
+}
+
+// Document 01's number of a refusal, and the byte offset beside number 7 (0 for the others).
+pub fn number_of(refusal: Refusal) -> u8
+    ensures { λ r. ⌜ r ≡ number refusal ⌝ }
+{
+    match refusal {
+        Refusal::Mark => 1,
+        Refusal::Size => 2,
+        Refusal::Counts => 3,
+        Refusal::Kind => 4,
+        Refusal::Radius => 5,
+        Refusal::Distance => 6,
+        Refusal::Contents(_) => 7,
+        Refusal::Way => 8,
+        Refusal::Start => 9,
+        Refusal::Moves => 10,
+        Refusal::Room => 11,
+        Refusal::Program => 12,
+    }
+}
+
+pub fn offset_of(refusal: Refusal) -> usize
+    ensures { λ r. ⌜ r ≡ offsetOf refusal ⌝ }
+{
+    match refusal {
+        Refusal::Contents(offset) => offset,
+        Refusal::Mark => 0,
+        Refusal::Size => 0,
+        Refusal::Counts => 0,
+        Refusal::Kind => 0,
+        Refusal::Radius => 0,
+        Refusal::Distance => 0,
+        Refusal::Way => 0,
+        Refusal::Start => 0,
+        Refusal::Moves => 0,
+        Refusal::Room => 0,
+        Refusal::Program => 0,
+    }
+}
