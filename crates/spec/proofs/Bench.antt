@@ -21,7 +21,7 @@ use Rattle.spec.specs.Filter.{turn, serpentine, filtered, filterEnd}
 use Rattle.spec.specs.Joint.{jointCounts, occupancyWord, occupancyWords, balanceBox}
 use Rattle.spec.specs.Columns.{columnSum, columnStore}
 use Rattle.spec.specs.Chain.{Entry, entryOf, entries, Reads, ChainStore}
-use Rattle.spec.specs.Calls.{wayOf, badWay, roomOf, badPixel, lacks, walkOutcome, filterOutcome, balanceOutcome}
+use Rattle.spec.specs.Calls.{wayOf, badWay, roomOf, badPixel, lacks, short, walkChecks, walkOutcome, filterChecks, filterOutcome, balanceChecks, balanceOutcome}
 use Rattle.spec.specs.Writer.{fieldBytes, distanceBytes, written, writtenSize, badLength, scanList, writerOutcome}
 use Rattle.spec.specs.Program.{digits, spaced, rows, ways, tooLarge, programOutcome, beside, outputText, printed}
 
@@ -57,7 +57,7 @@ abbrev settings : ℕ → ℕ → ℕ → ℕ → ℕ → ℕ → ℕ → Settin
 settings w h l m k r e = record { width = w; height = h; levels = l; guides = m; kind = k; radius = r; smoothing = e }
 
 unfoldable pub reply : Question → Reply
-unfolding fold foldRect first tabulateFrom tabulate be16 be32 to16 to32 all16 trailerAt settingsOf trailerOf ownWeights valuePart guidePart tablePart builtIn planOf pixelLevel pixelGuide frameOf badMark badSize badCounts badKind badRadius settingsOutcome badDistance scan scanFile valueScan guideScan tableScan contents trailerOutcome verdict span over pixelCount guideSum squareSum count levelSum scaledVariance guidedWeight weight monotone totalWeight cumulative balance isZero weightless median answer differences arrive move follow step after answers walkEnd walkAnswers turn serpentine filtered filterEnd jointCounts occupancyWord occupancyWords balanceBox columnSum columnStore entryOf entries wayOf badWay roomOf badPixel lacks walkOutcome filterOutcome balanceOutcome fieldBytes distanceBytes written writtenSize badLength scanList writerOutcome digits spaced rows ways tooLarge programOutcome beside outputText printed
+unfolding fold foldRect first tabulateFrom tabulate be16 be32 to16 to32 all16 trailerAt settingsOf trailerOf ownWeights valuePart guidePart tablePart builtIn planOf pixelLevel pixelGuide frameOf badMark badSize badCounts badKind badRadius settingsOutcome badDistance scan scanFile valueScan guideScan tableScan contents trailerOutcome verdict span over pixelCount guideSum squareSum count levelSum scaledVariance guidedWeight weight monotone totalWeight cumulative balance isZero weightless median answer differences arrive move follow step after answers walkEnd walkAnswers turn serpentine filtered filterEnd jointCounts occupancyWord occupancyWords balanceBox columnSum columnStore entryOf entries wayOf badWay roomOf badPixel lacks short walkChecks walkOutcome filterChecks filterOutcome balanceChecks balanceOutcome fieldBytes distanceBytes written writtenSize badLength scanList writerOutcome digits spaced rows ways tooLarge programOutcome beside outputText printed
 reply (accept b) = says (verdict b)
 reply (walk b s t l) = let p = frameOf b in closed (walkEnd p s t l) (walkAnswers p s t l)
 reply (filter b) = let p = frameOf b in closed (filterEnd p) (filtered p)

@@ -15,7 +15,7 @@ use Rattle.spec.specs.Base.{if_then_else_}
 use Rattle.spec.specs.Refusal.{accepted, _▷_, refuse}
 use Rattle.spec.specs.Frame.{Frame, pixels, settingsOf, frameOf}
 use Rattle.spec.specs.Checks.{outside, verdict}
-use Rattle.spec.specs.Calls.{wayOf, badWay, roomOf, badPixel, lacks, walkOutcome, filterOutcome, balanceOutcome}
+use Rattle.spec.specs.Calls.{wayOf, badWay, roomOf, badPixel, lacks, short, walkChecks, walkOutcome, filterChecks, filterOutcome, balanceChecks, balanceOutcome}
 use Rattle.spec.proofs.Checks.{both-accepted, not-fired, neither, both}
 use Rattle.spec.proofs.Limits.{FrameLimits, Pixel, limits-of}
 use Rattle.spec.proofs.Bench.{reply, fileA}
@@ -71,11 +71,11 @@ pub record WalkAccepted (b : List ℕ) (way s t n : ℕ) (have : Room) (out : �
   pub answers : n + 1 ≤ out
 
 pub walk-accepted : (b : List ℕ) (way s t n : ℕ) (have : Room) (out : ℕ) → walkOutcome b way s t n have out ≡ accepted → WalkAccepted b way s t n have out
-unfolding walkOutcome
+unfolding walkOutcome walkChecks short
 walk-accepted b way s t n have out e =
     let k = settingsOf b in
-    let short = lacks (roomOf (wayOf way) k) have in
-    let v₁₁ = refuse 11 (short || ltb out (n + 1)) in
+    let few = lacks (roomOf (wayOf way) k) have in
+    let v₁₁ = refuse 11 (few || ltb out (n + 1)) in
     let v₁₀ = refuse 10 (ltb 1048576 n) in
     let v₉ = refuse 9 (badPixel k s t) in
     let v₈ = refuse 8 (badWay k way) in
@@ -83,7 +83,7 @@ walk-accepted b way s t n have out e =
     let c = both-accepted v₈ (v₉ ▷ v₁₀ ▷ v₁₁) (a .1) in
     let d = both-accepted v₉ (v₁₀ ▷ v₁₁) (c .1) in
     let f = both-accepted v₁₀ v₁₁ (d .1) in
-    let g = neither short (ltb out (n + 1)) (not-fired 11 _ (f .1)) in
+    let g = neither few (ltb out (n + 1)) (not-fired 11 _ (f .1)) in
     record {
       file = a .0;
       serves = not-fired 8 _ (c .0);
@@ -101,15 +101,15 @@ pub record FilterAccepted (b : List ℕ) (way : ℕ) (have : Room) (out : ℕ) :
   pub plane : pixels (settingsOf b) ≤ out
 
 pub filter-accepted : (b : List ℕ) (way : ℕ) (have : Room) (out : ℕ) → filterOutcome b way have out ≡ accepted → FilterAccepted b way have out
-unfolding filterOutcome
+unfolding filterOutcome filterChecks short
 filter-accepted b way have out e =
     let k = settingsOf b in
-    let short = lacks (roomOf (wayOf way) k) have in
-    let v₁₁ = refuse 11 (short || ltb out (pixels k)) in
+    let few = lacks (roomOf (wayOf way) k) have in
+    let v₁₁ = refuse 11 (few || ltb out (pixels k)) in
     let v₈ = refuse 8 (badWay k way) in
     let a = both-accepted (verdict b) (v₈ ▷ v₁₁) e in
     let c = both-accepted v₈ v₁₁ (a .1) in
-    let g = neither short (ltb out (pixels k)) (not-fired 11 _ (c .1)) in
+    let g = neither few (ltb out (pixels k)) (not-fired 11 _ (c .1)) in
     record { file = a .0; serves = not-fired 8 _ (c .0); room = fits-of _ _ (g .0); plane = ltb-false _ _ (g .1) }
 
 -- ---- a balance
@@ -119,7 +119,7 @@ pub record BalanceAccepted (b : List ℕ) (s t i : ℕ) : Type 0 where
   pub level : i < settingsOf b .levels
 
 pub balance-accepted : (b : List ℕ) (s t i : ℕ) → balanceOutcome b s t i ≡ accepted → BalanceAccepted b s t i
-unfolding balanceOutcome
+unfolding balanceOutcome balanceChecks
 balance-accepted b s t i e =
     let k = settingsOf b in
     let a = both-accepted (verdict b) (refuse 9 (badPixel k s t || not (ltb i (k .levels)))) e in

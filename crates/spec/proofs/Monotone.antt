@@ -1,7 +1,7 @@
 -- A steady window has no negative weight, so its balance never falls from level to level, and the answer is found by moving from any cut.
 -- Assumes nothing.
 use mathlib.Core.Path.{_≡_, refl, sym, ap, _∙_, subst}
-use mathlib.Core.Bool.{Bool, true, false, _&&_, true≢false}
+use mathlib.Core.Bool.{Bool, true, false, _&&_}
 use mathlib.Core.Logic.{_⊎_, inl, inr, _↔_}
 use Prim.Native.Nat.{ℕ, zero, suc, _+_, _-_, _≤_, _<_}
 use native.Mathlib.Nat.{add-suc, add-zero}
@@ -22,6 +22,7 @@ use Rattle.spec.specs.Weight.{weight, monotone}
 use Rattle.spec.specs.Median.{totalWeight, cumulative, balance, median}
 use Rattle.spec.proofs.Ranges.{intSums}
 use Rattle.spec.proofs.Sums.{InWindow, over-inWindow, over-add, over-scale, over-pos, over-nonneg, over-constantℤ}
+use Rattle.spec.proofs.Checks.{both}
 use Rattle.spec.proofs.Limits.{SettingsLimits, FrameLimits, Pixel}
 use Rattle.spec.proofs.Levels.{levelWeight, cumulative-zero, cumulative-next, weight-table, weight-linear, slope, offset, cell}
 use Rattle.spec.proofs.Totals.{nonNeg-le, median-at, median-before, median-is}
@@ -31,10 +32,6 @@ abbrev pub NoneNegative : Frame → ℕ → ℕ → Type 0
 NoneNegative p s t = (x y : ℕ) → InWindow p s t x y → pos 0 ≤ℤ weight p s t (guide p x y)
 
 -- ---- steady
-pub both : (a b : Bool) → (a && b) ≡ true → (a ≡ true) × (b ≡ true)
-both true b e = (refl, e)
-both false b e = absurd (true≢false (sym e))
-
 -- between two places where it is not negative, what is linear is not negative
 between : (c d : ℤ) (a g : ℕ) → 0 < a + g → pos 0 ≤ℤ (c *ℤ pos 0 +ℤ d) → pos 0 ≤ℤ (c *ℤ pos (a + g) +ℤ d) → pos 0 ≤ℤ (c *ℤ pos g +ℤ d)
 between c d a g h u v =

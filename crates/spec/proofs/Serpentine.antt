@@ -187,14 +187,18 @@ at-turn p x i pos h a =
     let m : move (p .set) (x .column) (x .row) (turn w i) ≡ To (columnAfter w (i + 1)) ((i + 1) / w) = rw (a .column, a .row) (turn-moves (p .set) pos i h) in
     subst (λ (y : State). At p y (columnAfter w (i + 1)) ((i + 1) / w)) (sym (step-to p x (turn w i) _ _ m)) (at-arrive p _ _ (x .cut) (x .shifts))
 
-pub serpentine-at : {p : Frame} → FrameLimits p → (i : ℕ) → i < pixels (p .set)
-    → At p (walkEnd p 0 0 (take i (serpentine (p .set)))) (columnAfter (p .set .width) i) (i / p .set .width)
-unfolding walkEnd after
-serpentine-at {p} g zero h =
+-- it begins at the first pixel
+pub serpentine-begins : {p : Frame} → FrameLimits p → At p (start p 0 0) (columnAfter (p .set .width) 0) (0 / p .set .width)
+serpentine-begins {p} g =
     let w = p .set .width in
     let e : 0 / w ≡ 0 = div-eq-of-lt (g .sound .width-low) in
     let f : 0 % w ≡ 0 = mod-eq-of-lt (g .sound .width-low) in
     rw (e, f, column-even w (g .sound .width-low) 0 0 refl) (at-arrive p 0 0 0 0)
+
+pub serpentine-at : {p : Frame} → FrameLimits p → (i : ℕ) → i < pixels (p .set)
+    → At p (walkEnd p 0 0 (take i (serpentine (p .set)))) (columnAfter (p .set .width) i) (i / p .set .width)
+unfolding walkEnd after
+serpentine-at g zero h = serpentine-begins g
 serpentine-at {p} g (suc i) h =
     let w = p .set .width in
     let k = p .set in

@@ -16,7 +16,7 @@ use Rattle.spec.specs.declared.Settings.{Settings}
 use Rattle.spec.specs.Frame.{Frame, level}
 use Rattle.spec.specs.Median.{weightless, median, answer}
 use Rattle.spec.specs.Weight.{monotone}
-use Rattle.spec.specs.Walk.{State, arrive, toIf, move, follow, step, after, answers, walkEnd, walkAnswers}
+use Rattle.spec.specs.Walk.{State, arrive, toIf, move, follow, step, after, answers, walkEnd, walkAnswers, adds, added, addedAt}
 use Rattle.spec.specs.declared.Move.{Move}
 use Rattle.spec.specs.declared.Move.the-variants.{To, Nowhere}
 use Rattle.spec.proofs.Steps.{after-one, length-answers, getD-answers}
@@ -235,9 +235,6 @@ unfolding walkAnswers
 walk-length p s t bs = length-answers p (arrive p s t 0 0) bs
 
 -- ---- the shift count is the sum of what the windows add
-unfoldable pub adds : Frame → ℕ → ℕ → ℕ → ℕ
-adds p s t c = if weightless p s t then 0 else (if monotone p s t then distance (median p s t) c else median p s t)
-
 pub arrive-shifts : (p : Frame) (s t c n : ℕ) → arrive p s t c n .shifts ≡ n + adds p s t c
 unfolding adds
 arrive-shifts p s t c n = go (weightless p s t) refl
@@ -253,11 +250,6 @@ arrive-cut p s t c n = go (weightless p s t) refl
     go true e = ap (λ (x : State). x .cut) (arrive-weightless p s t c n e) ∙ rw e refl
     go false e = ap (λ (x : State). x .cut) (arrive-full p s t c n e) ∙ rw e refl
 
--- what a byte adds, in a state
-unfoldable pub added : Frame → State → Move → ℕ
-added p x (To s t) = adds p s t (x .cut)
-added p x (Nowhere m) = 0
-
 pub step-shifts : (p : Frame) (x : State) (b : ℕ) → step p x b .shifts ≡ x .shifts + added p x (move (p .set) (x .column) (x .row) b)
 unfolding added
 step-shifts p x b = go (move (p .set) (x .column) (x .row) b) refl
@@ -265,10 +257,6 @@ step-shifts p x b = go (move (p .set) (x .column) (x .row) b) refl
     go : (m : Move) → move (p .set) (x .column) (x .row) b ≡ m → step p x b .shifts ≡ x .shifts + added p x m
     go (To s t) e = ap (λ (y : State). y .shifts) (step-to p x b s t e) ∙ arrive-shifts p s t (x .cut) (x .shifts)
     go (Nowhere m) e = ap (λ (y : State). y .shifts) (step-nowhere p x b m e) ∙ sym (add-zero (x .shifts))
-
--- what byte j of a list adds
-unfoldable pub addedAt : Frame → State → List ℕ → ℕ → ℕ
-addedAt p x bs j = let y = after p x (take j bs) in added p y (move (p .set) (y .column) (y .row) (getD bs j 0))
 
 next : (p : Frame) (x : State) (bs : List ℕ) (n : ℕ) → suc n ≤ length bs → after p x (take (suc n) bs) .shifts ≡ after p x (take n bs) .shifts + addedAt p x bs n
 unfolding addedAt

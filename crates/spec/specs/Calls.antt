@@ -70,17 +70,26 @@ badPixel k s t = not (ltb s (k .width) && ltb t (k .height))
 unfoldable pub lacks : Room → Room → Bool
 lacks need have = ltb (have .counts) (need .counts) || ltb (have .words) (need .words) || ltb (have .numbers) (need .numbers)
 
--- a walk of n moves from (s, t), lent these stores and an answer buffer of so many numbers
+-- a store, or an answer buffer or output that is to take n numbers, is too short
+unfoldable pub short : Settings → ℕ → Room → ℕ → ℕ → Bool
+short k way have out n = lacks (roomOf (wayOf way) k) have || ltb out n
+
+-- a walk of n moves from (s, t), lent these stores and an answer buffer of so many numbers: its own checks, and all of them
+unfoldable pub walkChecks : Settings → ℕ → ℕ → ℕ → ℕ → Room → ℕ → Outcome
+walkChecks k way s t n have out =
+    refuse 8 (badWay k way) ▷ refuse 9 (badPixel k s t) ▷ refuse 10 (ltb 1048576 n) ▷ refuse 11 (short k way have out (n + 1))
+
 unfoldable pub walkOutcome : List ℕ → ℕ → ℕ → ℕ → ℕ → Room → ℕ → Outcome
-walkOutcome b way s t n have out =
-    let k = settingsOf b in
-    verdict b ▷ refuse 8 (badWay k way) ▷ refuse 9 (badPixel k s t) ▷ refuse 10 (ltb 1048576 n)
-    ▷ refuse 11 (lacks (roomOf (wayOf way) k) have || ltb out (n + 1))
+walkOutcome b way s t n have out = verdict b ▷ walkChecks (settingsOf b) way s t n have out
+
+unfoldable pub filterChecks : Settings → ℕ → Room → ℕ → Outcome
+filterChecks k way have out = refuse 8 (badWay k way) ▷ refuse 11 (short k way have out (pixels k))
 
 unfoldable pub filterOutcome : List ℕ → ℕ → Room → ℕ → Outcome
-filterOutcome b way have out =
-    let k = settingsOf b in
-    verdict b ▷ refuse 8 (badWay k way) ▷ refuse 11 (lacks (roomOf (wayOf way) k) have || ltb out (pixels k))
+filterOutcome b way have out = verdict b ▷ filterChecks (settingsOf b) way have out
+
+unfoldable pub balanceChecks : Settings → ℕ → ℕ → ℕ → Outcome
+balanceChecks k s t i = refuse 9 (badPixel k s t || not (ltb i (k .levels)))
 
 unfoldable pub balanceOutcome : List ℕ → ℕ → ℕ → ℕ → Outcome
-balanceOutcome b s t i = let k = settingsOf b in verdict b ▷ refuse 9 (badPixel k s t || not (ltb i (k .levels)))
+balanceOutcome b s t i = verdict b ▷ balanceChecks (settingsOf b) s t i

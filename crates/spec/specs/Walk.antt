@@ -4,6 +4,7 @@ use Prim.Native.Nat.{ℕ, _+_, _-_}
 use mathlib.Core.Bool.{Bool, true, false}
 use mathlib.Core.List.{List, [], _∷_}
 use lib.Dec.{ltb, eqb}
+use lib.ListN.{getD, take}
 use Rattle.spec.specs.declared.Settings.{Settings}
 use Rattle.spec.specs.declared.Move.{Move}
 use Rattle.spec.specs.declared.Move.the-variants.{To, Nowhere}
@@ -65,3 +66,18 @@ walkEnd p s t bs = after p (start p s t) bs
 
 unfoldable pub walkAnswers : Frame → ℕ → ℕ → List ℕ → List ℕ
 walkAnswers p s t bs = answers p (start p s t) bs
+
+-- ---- document 01: what the windows add, demand 3's level distances
+
+-- the window at (s, t), with cut point c before it
+unfoldable pub adds : Frame → ℕ → ℕ → ℕ → ℕ
+adds p s t c = if weightless p s t then 0 else (if monotone p s t then distance (median p s t) c else median p s t)
+
+-- a byte in a state, by where it leads
+unfoldable pub added : Frame → State → Move → ℕ
+added p x (To s t) = adds p s t (x .cut)
+added p x (Nowhere mark) = 0
+
+-- byte j of a list, from a state
+unfoldable pub addedAt : Frame → State → List ℕ → ℕ → ℕ
+addedAt p x bs j = let y = after p x (take j bs) in added p y (move (p .set) (y .column) (y .row) (getD bs j 0))
