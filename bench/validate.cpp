@@ -1,0 +1,131 @@
+// Holds the yardstick's three ways against its sorting filter on random frames and walks of both kinds:
+// answers, shift counts and stores. Prints how many windows were hollow, negative and not steady.
+#include "yardstick.hpp"
+#include <cstdio>
+
+using namespace bench;
+
+static long differences = 0;
+static struct {
+    long windows, hollow, negative, unsteady;
+} met;
+
+static void expect(bool fact, const char *what, int frame) {
+    if (fact) return;
+    if (differences++ < 20) std::printf("frame %d: %s differs\n", frame, what);
+}
+
+static void compare(const char *what, int frame, const Walk &way, const Walk &definition) {
+    expect(way.answers == definition.answers && way.shifts == definition.shifts, what, frame);
+}
+
+// The stores after a walk that ends at (column, row), counted anew from the frame.
+static bool holds(const Joint &joint, const Frame &frame, int column, int row) {
+    std::vector<uint16_t> counts(joint.counts.size());
+    std::vector<uint64_t> words(joint.words.size());
+    std::vector<int16_t> box(256);
+    each_pixel(frame, window_at(frame, column, row), [&](size_t p) {
+        uint32_t level = frame.values[p], g = frame.guide[p];
+        counts[size_t(level) * frame.guides + g]++;
+        words[level * joint.words_per_level + g / 64] |= uint64_t(1) << (g % 64);
+        box[g] = int16_t(box[g] + (int(level) <= joint.cut ? 1 : -1));
+    });
+    return counts == joint.counts && words == joint.words && std::equal(box.begin(), box.end(), joint.box);
+}
+
+static bool holds(const Columns &columns, const Frame &frame, int column, int row) {
+    std::vector<uint32_t> store(columns.store.size());
+    size_t all = size_t(frame.width) * frame.levels;
+    Rectangle w = window_at(frame, column, row);
+    for (int t = w.top; t <= w.bottom; t++)
+        for (int s = 0; s < frame.width; s++) {
+            uint32_t level = frame.values[frame.at(s, t)], g = frame.guide[frame.at(s, t)];
+            store[size_t(s) * frame.levels + level]++;
+            store[all + size_t(s) * frame.levels + level] += g;
+            if (s < w.left || s > w.right) continue;
+            store[2 * all + level]++;
+            store[2 * all + frame.levels + level] += g;
+        }
+    return store == columns.store;
+}
+
+static bool holds(const Chain &chain, const Frame &frame, int column, int row) {
+    std::vector<uint32_t> counts(frame.levels), sums(frame.levels);
+    each_pixel(frame, window_at(frame, column, row), [&](size_t p) {
+        counts[frame.values[p]]++;
+        sums[frame.values[p]] += frame.guide[p];
+    });
+    uint32_t node = chain.first;
+    for (int level = 0; level < frame.levels; level++) {
+        if (counts[level] == 0) continue;
+        if (node == 0) return false;
+        const Chain::Node &n = chain.nodes[node];
+        if (n.level != uint32_t(level) || n.count != counts[level] || n.guide_sum != sums[level]) return false;
+        node = n.next;
+    }
+    return node == 0;
+}
+
+static void count_windows(const Frame &frame) {
+    Sorting sorting(frame);
+    for (int row = 0; row < frame.height; row++)
+        for (int column = 0; column < frame.width; column++) {
+            Answer answer = sorting.answer(column, row);
+            met.windows++, met.hollow += answer.hollow, met.unsteady += !answer.steady;
+            met.negative += std::any_of(sorting.pixels.begin(), sorting.pixels.end(), [](auto &p) { return p.weight < 0; });
+        }
+}
+
+static Frame random_frame(Random &random, int number) {
+    Settings k;
+    k.width = 1 + int(random.below(24)), k.height = 1 + int(random.below(24));
+    k.levels = 2 + int(random.below(number % 5 == 0 ? 1023 : 30));
+    k.guides = 2 + int(random.below(number % 3 == 0 ? 255 : 20));
+    k.kind = random.below(2) ? TABLE : GUIDED;
+    k.radius = int(random.below(number % 7 == 0 ? 16 : 5));
+    k.smoothing = 1 + int(random.below(number % 2 ? 3 : 65025));
+    Frame frame = noise(k, uint64_t(number) + 1);
+    if (k.kind == TABLE && number % 3) {
+        int sort = number % 4;
+        for (auto &weight : frame.table) weight = uint16_t(sort == 0 || (sort == 1 && random.below(8)) ? 0 : random.below(257));
+    }
+    // Lonely guides have windows with negative weights.
+    if (number % 11 == 0)
+        for (size_t p = 0; p < frame.pixels(); p++) frame.guide.set(p, random.below(6) ? 0 : uint32_t(k.guides - 1));
+    return frame;
+}
+
+template <class Way>
+static void validate(const char *what, int number, const Frame &frame, int column, int row, const std::vector<uint8_t> &moves) {
+    Sorting sorting(frame);
+    Way way(frame);
+    compare(what, number, walk(way, frame, column, row, moves), walk(sorting, frame, column, row, moves));
+    for (uint8_t move : moves) {
+        int s = column + (move == RIGHT) - (move == LEFT), t = row + (move == DOWN) - (move == UP);
+        if (s >= 0 && t >= 0 && s < frame.width && t < frame.height) column = s, row = t;
+    }
+    expect(holds(way, frame, column, row), what, number);
+}
+
+int main(int count, char **words) {
+    int frames = count > 1 ? std::atoi(words[1]) : 1500;
+    Random random{99};
+    for (int number = 0; number < frames; number++) {
+        Frame frame = random_frame(random, number);
+        count_windows(frame);
+        std::vector<uint8_t> moves = serpentine(frame);
+        int column = 0, row = 0;
+        if (number % 2 == 0) {
+            column = int(random.below(uint32_t(frame.width))), row = int(random.below(uint32_t(frame.height)));
+            moves.clear();
+            for (int i = 0; i < 200; i++) moves.push_back(uint8_t(random.below(50) == 0 ? 7 : random.below(4)));
+        }
+        validate<Joint>("joint", number, frame, column, row, moves);
+        if (frame.kind == TABLE) continue;
+        validate<Columns>("columns", number, frame, column, row, moves);
+        validate<Chain>("chain", number, frame, column, row, moves);
+    }
+    std::printf("%d frames, %ld windows: %ld hollow, %ld with a negative weight, %ld not steady; %ld differences\n", frames,
+                met.windows, met.hollow, met.negative, met.unsteady, differences);
+    return differences != 0;
+}

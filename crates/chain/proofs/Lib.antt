@@ -1,0 +1,14 @@
+pub mod SumLaws
+pub mod ChainLaws
+pub mod LinkLaws
+pub mod FreeLaws
+pub mod StoreLaws
+pub mod PixelLaws
+pub mod InsertLaws
+pub mod ClearLaws
+pub mod KeyLaws
+pub mod MergeLaws
+pub mod LineLaws
+pub mod ReadLaws
+pub mod WindowLaws
+pub mod MoveLaws

@@ -1,0 +1,123 @@
+-- Counts and guide sums of a window's levels, from those of its lines: how many they are in all, and that a leaving line is a part of the window.
+-- Assumes nothing.
+use mathlib.Core.Path.{_≡_, refl, sym, ap, ap₂, _∙_, fun-ext}
+use mathlib.Core.Bool.{Bool, true, false}
+use mathlib.Core.List.{List}
+use Prim.Native.Nat.{ℕ, zero, suc, _+_, _-_, _*_, _≤_, _<_}
+use native.Mathlib.Nat.{mul-one, zero-mul}
+use native.Mathlib.Omega.{arith}
+use lib.Dec.{eqb, leb, ltb}
+use borrow.Author.Tests.{leb-true, ltb-true}
+use Rattle.spec.specs.declared.Plan.{Plan}
+use Rattle.spec.specs.Base.{if_then_else_, fold, foldRect, sum}
+use Rattle.spec.specs.Frame.{Frame, level, guide, frameOf, pixelLevel, pixelGuide}
+use Rattle.spec.specs.Checks.{Planned}
+use Rattle.spec.specs.Window.{span, over, inRow, Σ, levelSum}
+use Rattle.spec.proofs.Limits.{Pixel}
+use Rattle.spec.proofs.Plans.{facts}
+use Rattle.spec.proofs.Ranges.{natSums, fold-same, foldRect-turn}
+use Rattle.spec.proofs.Sums.{sum-const, sum-term, InWindow, in-window}
+use Rattle.spec.proofs.Histogram.{turn, fold-pick, over-fold, over-same}
+use Rattle.window.specs.declared.line.Line.{Line}
+use Rattle.window.specs.Line.{columnLine, rowLine, shift, advance, columnStep, rowStep, reverse, stepOf, Adjacent, right, left, down, up, pixelOf, InPlanes, lineFoldTo, lineFold}
+use Rattle.window.proofs.FormLaws.{is-right, is-left, is-down, is-up}
+use Rattle.window.proofs.LineLaws.{line-none, row-fold, columns-law}
+use Rattle.chain.specs.Chain.{sumBelow}
+use Rattle.chain.specs.Lines.{counted, guided, lineCount, lineGuides}
+use Rattle.chain.proofs.LineLaws.{line-level, line-guide}
+
+-- the window's sum by levels is its sum
+pub level-total : {p : Frame} {s t : ℕ} → Pixel p s t → (f : ℕ → ℕ → ℕ) → sumBelow (levelSum p s t f) (p .set .levels) ≡ Σ p s t f
+unfolding levelSum
+level-total {p} {s} {t} k f =
+    sym (over-fold _+_ 0 natSums p s t (λ i x y. if eqb (level p x y) i then f x y else 0) (p .set .levels))
+    ∙ over-same _+_ 0 natSums p s t _ f (λ x y a b. fold-pick _+_ 0 natSums (λ i. f x y) (level p x y) (p .set .levels) (k .good .level-low x y a b))
+
+-- where u and v make 255 for each one of w, so do their sums
+sum-mixed : (u v w : ℕ → ℕ) (a n : ℕ) → ((k : ℕ) → a ≤ k → k < a + n → u k + v k ≡ 255 * w k) → sum u a n + sum v a n ≡ 255 * sum w a n
+unfolding fold
+sum-mixed u v w a zero h = omega arith
+sum-mixed u v w a (suc n) h = omega (arith, sum-mixed u v w a n (λ k x y. h k x (omega arith)), h (a + n) (omega arith) (omega arith))
+
+-- what a pixel of level i lacks of 255
+abbrev pub lacking : ℕ → ℕ → ℕ → ℕ
+lacking i i′ f′ = if eqb i′ i then 255 - f′ else 0
+
+mixed : (b : Bool) (f : ℕ) → f ≤ 255 → (if b then 255 - f else 0) + (if b then f else 0) ≡ 255 * (if b then 1 else 0)
+mixed true f h = omega arith
+mixed false f h = omega arith
+
+-- ---- a window of an accepted file
+module _ {b : List ℕ} {z : Plan} (pl : Planned b z) where
+  abbrev pub window : (ℕ → ℕ → ℕ) → ℕ → ℕ → ℕ
+  window h s t = over _+_ 0 (frameOf b) s t (λ x y. h (level (frameOf b) x y) (guide (frameOf b) x y))
+
+  -- a line's pixels by levels
+  pub line-total : (d : Line) → InPlanes z d → sumBelow (lineCount b d) (z .levels) ≡ d .count
+  unfolding lineFoldTo
+  line-total d inside =
+      turn _+_ 0 natSums (λ i k. if eqb (pixelLevel b (pixelOf d k)) i then 1 else 0) 0 (z .levels) 0 (d .count)
+      ∙ fold-same _+_ 0 natSums _ (λ k. 1) 0 (d .count) (λ k x y. fold-pick _+_ 0 natSums (λ i. 1) (pixelLevel b (pixelOf d k)) (z .levels) (line-level pl d inside k (omega arith)))
+      ∙ sum-const 1 0 (d .count) ∙ mul-one (d .count)
+
+  pub line-mixed : (d : Line) → InPlanes z d → (i : ℕ) → lineFold _+_ 0 b d (lacking i) + lineGuides b d i ≡ 255 * lineCount b d i
+  unfolding lineFoldTo
+  line-mixed d inside i =
+      sum-mixed _ _ _ 0 (d .count) (λ k x y. mixed (eqb (pixelLevel b (pixelOf d k)) i) (pixelGuide b (pixelOf d k)) (line-guide pl d inside k (omega arith)))
+
+  pub window-mixed : (s t i : ℕ) → window (lacking i) s t + window (guided i) s t ≡ 255 * window (counted i) s t
+  unfolding over foldRect
+  window-mixed s t i =
+      let g = facts pl .limits in
+      sum-mixed _ _ _ _ _ (λ x a c. sum-mixed _ _ _ _ _ (λ y d e.
+      let w : InWindow (frameOf b) s t x y = in-window (frameOf b) s t x y a c d e in
+      mixed (eqb (level (frameOf b) x y) i) (guide (frameOf b) x y) (omega (arith, g .guide-low x y (w .wide) (w .high), g .sound .guides-high))))
+
+  -- ---- a column, a row of the window is a part of it
+  module _ (h : ℕ → ℕ → ℕ) where
+    column-part : (s t x : ℕ) → s - z .radius ≤ x → x < s - z .radius + span (z .radius) s (z .width) → lineFold _+_ 0 b (columnLine z x t) h ≤ window h s t
+    column-part s t x l k = rw (columns-law _+_ 0 pl h s t) (sum-term (λ x. lineFold _+_ 0 b (columnLine z x t) h) _ _ x l k)
+
+    rows-over : (s t : ℕ) → window h s t
+        ≡ sum (inRow _+_ 0 (frameOf b) s (λ x y. h (level (frameOf b) x y) (guide (frameOf b) x y))) (t - frameOf b .set .radius) (span (frameOf b .set .radius) t (frameOf b .set .height))
+    unfolding over foldRect inRow
+    rows-over s t = foldRect-turn _+_ 0 natSums (λ x y. h (level (frameOf b) x y) (guide (frameOf b) x y)) _ _ _ _
+
+    rows-law : (s t : ℕ) → window h s t ≡ sum (λ y. lineFold _+_ 0 b (rowLine z s y) h) (t - z .radius) (span (z .radius) t (z .height))
+    rows-law s t =
+        let f = facts pl in
+        rows-over s t
+        ∙ sym (ap₂ (λ (r n : ℕ). sum (inRow _+_ 0 (frameOf b) s (λ x y. h (level (frameOf b) x y) (guide (frameOf b) x y))) (t - r) (span r t n)) (f .radius) (f .height))
+        ∙ ap (λ (q : ℕ → ℕ). sum q (t - z .radius) (span (z .radius) t (z .height))) (fun-ext (λ y. sym (row-fold _+_ 0 pl h s y)))
+
+    row-part : (s t y : ℕ) → t - z .radius ≤ y → y < t - z .radius + span (z .radius) t (z .height) → lineFold _+_ 0 b (rowLine z s y) h ≤ window h s t
+    row-part s t y l k = rw (rows-law s t) (sum-term (λ y. lineFold _+_ 0 b (rowLine z s y) h) _ _ y l k)
+
+    -- a line shifted from the first column, from the first row; where it is off the picture, it has no pixel
+    shifted-column : (t x : ℕ) → shift (columnLine z 0 t) (x * 1) true ≡ columnLine z x t
+    unfolding shift columnLine
+    shifted-column t x =
+        let e : (t - z .radius) * z .width + 0 + x * 1 ≡ (t - z .radius) * z .width + x = rw (mul-one x) (omega arith) in
+        ap (λ (f : ℕ). record { first = f; stride = z .width; count = span (z .radius) t (z .height) }) e
+
+    shifted-row : (s y : ℕ) → shift (rowLine z s 0) (y * z .width) true ≡ rowLine z s y
+    unfolding shift rowLine
+    shifted-row s y =
+        let e : 0 * z .width + (s - z .radius) + y * z .width ≡ y * z .width + (s - z .radius) = rw (zero-mul (z .width)) (omega arith) in
+        ap (λ (f : ℕ). record { first = f; stride = 1; count = span (z .radius) s (z .width) }) e
+
+    shifted-part : (d : Line) (by n : ℕ) (on : Bool) → (on ≡ true → lineFold _+_ 0 b (shift d by true) h ≤ n) → lineFold _+_ 0 b (shift d by on) h ≤ n
+    unfolding shift
+    shifted-part d by n true k = k refl
+    shifted-part d by n false k = rw (line-none _+_ 0 b) (omega arith)
+
+    pub leaving-part : {s t s′ t′ : ℕ} → Adjacent z s t s′ t′ → lineFold _+_ 0 b (stepOf z s t s′ t′ .leaving) h ≤ window h s t
+    unfolding columnStep rowStep advance reverse span
+    leaving-part {s} {t} {s′} {t′} (right es et hs ht) = rw (is-right z s t s′ t′ (omega arith)) (
+        shifted-part _ _ _ (leb (z .radius) s) (λ e. rw (shifted-column t (s - z .radius)) (column-part s t (s - z .radius) (omega arith) (let k = leb-true (z .radius) s e in omega arith))))
+    leaving-part {s} {t} {s′} {t′} (left es et hs ht) = rw (is-left z s t s′ t′ (omega arith)) (
+        shifted-part _ _ _ (ltb (s′ + z .radius + 1) (z .width)) (λ e. rw (shifted-column t (s′ + z .radius + 1)) (column-part s t (s′ + z .radius + 1) (omega arith) (let k = ltb-true (s′ + z .radius + 1) (z .width) e in omega arith))))
+    leaving-part {s} {t} {s′} {t′} (down es et hs ht) = rw (is-down z s t s′ t′ (omega arith) (omega arith) (omega arith)) (
+        shifted-part _ _ _ (leb (z .radius) t) (λ e. rw (shifted-row s (t - z .radius)) (row-part s t (t - z .radius) (omega arith) (let k = leb-true (z .radius) t e in omega arith))))
+    leaving-part {s} {t} {s′} {t′} (up es et hs ht) = rw (is-up z s t s′ t′ (omega arith) (omega arith) (omega arith)) (
+        shifted-part _ _ _ (ltb (t′ + z .radius + 1) (z .height)) (λ e. rw (shifted-row s (t′ + z .radius + 1)) (row-part s t (t′ + z .radius + 1) (omega arith) (let k = ltb-true (t′ + z .radius + 1) (z .height) e in omega arith))))

@@ -1,0 +1,156 @@
+-- `chain::moves::start` meets its contract. The loop's invariant: the list holds the first k columns of the window.
+-- Assumes nothing.
+use mathlib.Core.Path.{_≡_, refl, sym, ap, _∙_, subst}
+use mathlib.Core.Bool.{true}
+use Prim.Native.Nat.{ℕ, _+_, _-_, _<_, _≤_}
+use native.Mathlib.Omega.{arith}
+use lib.ListN.{length}
+use Rattle.spec.specs.Window.{span}
+use Rattle.window.specs.declared.line.Line.{Line}
+use Rattle.window.specs.Line.{columnLine, InPlanes}
+use Rattle.window.proofs.PixelLaws.{plan-limits, levels-high}
+use Rattle.window.proofs.LineLaws.{span-in, span-high, column-in}
+use Rattle.chain.specs.Chain.{Beyond}
+use Rattle.chain.specs.Lines.{MergeableLine, MergedLine}
+use Rattle.chain.proofs.LineLaws.{cap-is, cap-few}
+use Rattle.chain.proofs.MoveLaws.{ColumnsListed, store-size, columns-empty, columns-insertable, columns-inserted, columns-listed, listed-stored}
+use Rattle.chain.proofs.moves.start.Statement.{statement}
+use Rattle.chain.proofs.moves.start.Tie as tie
+
+abbrev Inv-loop : tie.InvT-loop
+Inv-loop file z s t numbers₀ size left columns free₀ k₀ numbers free k =
+    (k ≤ columns) × (length numbers ≡ length numbers₀) × Beyond (size .cap) numbers₀ numbers × ColumnsListed file z size s t k free numbers
+
+abbrev μ-loop : tie.MeasureT-loop
+μ-loop file z s t numbers₀ size left columns free₀ k₀ numbers free k = columns - k
+
+-- the start, and the calls before the loop, from its head
+abbrev cleared : tie.At-loop Inv-loop μ-loop → tie.After-clear Inv-loop μ-loop
+cleared h = h .before .before .before
+
+abbrev spanned : tie.At-loop Inv-loop μ-loop → tie.After-span-of Inv-loop μ-loop
+spanned h = cleared h .before .before
+
+abbrev start : tie.At-loop Inv-loop μ-loop → tie.Start Inv-loop μ-loop
+start h = spanned h .before .before .before .before .before
+
+-- the column of a turn
+within : (c : tie.In-loop Inv-loop μ-loop) → c .before .loop .k < span (start (c .before) .args .z .radius) (start (c .before) .args .s) (start (c .before) .args .z .width)
+within c = subst (λ (n : ℕ). c .before .loop .k < n) (spanned (c .before) .span-of .ensures) (c .loop-test .taken)
+
+wide : (c : tie.In-loop Inv-loop μ-loop) → spanned (c .before) .before .low .result + c .before .loop .k < start (c .before) .args .z .width
+wide c = subst (λ (n : ℕ). n + c .before .loop .k < start (c .before) .args .z .width) (sym (spanned (c .before) .before .low .ensures)) (span-in _ _ _ _ (within c))
+
+line-is : (c : tie.After-column-line Inv-loop μ-loop)
+    → c .column-line .result ≡ columnLine (start (c .before .before) .args .z) (start (c .before .before) .args .s - start (c .before .before) .args .z .radius + c .before .before .loop .k) (start (c .before .before) .args .t)
+line-is c =
+    let h = c .before .before in
+    c .column-line .ensures ∙ ap (λ (x : ℕ). columnLine (start h .args .z) (x + h .loop .k) (start h .args .t)) (spanned h .before .low .ensures)
+
+size-of-requires : tie.Need-size-of-requires Inv-loop μ-loop
+size-of-requires c κs = let at = c .before .before in (plan-limits (at .pre .0) .radius, levels-high (at .pre .0))
+
+low-requires : tie.Need-low-requires Inv-loop μ-loop
+low-requires c κs = tt
+
+span-of-requires : tie.Need-span-of-requires Inv-loop μ-loop
+span-of-requires c κs = let at = c .before .before .before .before in let l = plan-limits (at .pre .0) in (at .pre .1 .0 .0, l .width, l .radius)
+
+clear-requires : tie.Need-clear-requires Inv-loop μ-loop
+clear-requires c κs =
+    let z = c .before .before .before in
+    let at = z .before .before .before in
+    let e = cap-is (at .pre .0) _ (z .size-of .ensures) in
+    (omega (arith, e, store-size (at .pre .0), at .pre .1 .1), omega (arith, cap-few (at .pre .0) _ (z .size-of .ensures)))
+
+loop-holds : tie.Need-loop-holds Inv-loop μ-loop
+loop-holds c =
+    let k = c .before .before in
+    let z = k .before .before .before .before in
+    let at = z .before .before .before in
+    (omega arith, refl, (λ j h. refl), columns-empty (at .pre .0) _ (z .size-of .ensures) _ _ (at .pre .1 .0 .0) (at .pre .1 .0 .1) _ (k .clear .ensures))
+
+add-column-line : tie.Need-add-column-line Inv-loop μ-loop
+add-column-line c = omega (arith, wide c, plan-limits (start (c .before) .pre .0) .width)
+
+column-line-requires : tie.Need-column-line-requires Inv-loop μ-loop
+column-line-requires c κs = let at = start (c .before) in let l = plan-limits (at .pre .0) in (l, (omega (arith, wide c, l .width), at .pre .1 .0 .1))
+
+-- the size of the list, and the window's pixel
+module _ (h : tie.At-loop Inv-loop μ-loop) where
+  abbrev sized : tie.After-size-of Inv-loop μ-loop
+  sized = spanned h .before .before
+
+merge-line-requires : tie.Need-merge-line-requires Inv-loop μ-loop
+merge-line-requires c κs =
+    let d = c .before in
+    let i = d .before in
+    let h = i .before in
+    let at = start h in (
+      at .pre .0,
+      (
+        subst (λ (q : Line). InPlanes (at .args .z) q) (sym (line-is d)) (column-in (plan-limits (at .pre .0)) _ _ (span-in _ _ _ _ (within i))),
+        (
+          sized h .size-of .ensures,
+          subst (λ (q : Line). MergeableLine true (at .args .file .now) (sized h .size-of .result) q (h .loop .free) (h .loop .numbers)) (sym (line-is d))
+              (columns-insertable (at .pre .0) _ (sized h .size-of .ensures) _ _ (at .pre .1 .0 .0) (at .pre .1 .0 .1) (within i) (h .loop .inv .3)),
+        ),
+      ),
+    )
+
+add-k : tie.Need-add-k Inv-loop μ-loop
+add-k c =
+    let i = c .before .before .before .before .before in
+    let at = start (i .before) in
+    omega (arith, within i, span-high (at .args .z .radius) (at .args .s) (at .args .z .width) (plan-limits (at .pre .0) .radius))
+
+loop-less : tie.Need-loop-less Inv-loop μ-loop
+loop-less c = let i = c .before .before .before .before .before in omega (arith, i .loop-test .taken)
+
+loop-again : tie.Need-loop-again Inv-loop μ-loop
+loop-again c =
+    let n = c .before .before in
+    let d = n .before .before in
+    let i = d .before in
+    let h = i .before in
+    let at = start h in
+    let v = h .loop .inv in (
+      omega (arith, i .loop-test .taken),
+      n .merge-line .kept .1 .1 .1 .1 .1 .1 .0 ∙ v .1,
+      (λ j b. n .merge-line .ensures .beyond j b ∙ v .2 j b),
+      columns-inserted (at .pre .0) _ (sized h .size-of .ensures) _ _ (at .pre .1 .0 .0) (at .pre .1 .0 .1) (within i) (v .3)
+          (subst (λ (q : Line). MergedLine true (at .args .file .now) (sized h .size-of .result) q (h .loop .free) (h .loop .numbers) (n .merge-line .result) (n .merge-line .last .1 .1 .1 .1 .1 .1 .0)) (line-is d) (n .merge-line .ensures)),
+    )
+
+same-length : tie.Need-same-length Inv-loop μ-loop
+same-length c = let h = c .before in h .loop .inv .1 ∙ cleared h .clear .kept .0
+
+returns : tie.Need-returns Inv-loop μ-loop
+returns c =
+    let h = c .before in
+    let at = start h in
+    let v = h .loop .inv in
+    let e : h .loop .k ≡ span (at .args .z .radius) (at .args .s) (at .args .z .width) = omega (arith, v .0, c .loop-test .left, spanned h .span-of .ensures) in
+    listed-stored (at .pre .0) _ _ _ (v .1 ∙ cleared h .clear .kept .0)
+    (subst (λ (n : ℕ). Beyond n (at .args .numbers .now) (h .loop .numbers)) (cap-is (at .pre .0) _ (sized h .size-of .ensures)) (λ j b. v .2 j b ∙ cleared h .clear .ensures .beyond j b))
+    (columns-listed (at .pre .0) _ (sized h .size-of .ensures) _ _ (at .pre .1 .0 .0) (at .pre .1 .0 .1) (rw e at (v .3)))
+
+pub start-spec : {M : Type 1} → statement M
+start-spec =
+    tie.close
+    (tie.spec
+    Inv-loop
+    μ-loop
+    size-of-requires
+    low-requires
+    span-of-requires
+    clear-requires
+    loop-holds
+    add-column-line
+    column-line-requires
+    merge-line-requires
+    add-k
+    loop-less
+    loop-again
+    same-length
+    returns)

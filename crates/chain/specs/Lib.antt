@@ -1,0 +1,4 @@
+pub mod Chain
+pub mod Keys
+pub mod Lines
+pub mod Moves

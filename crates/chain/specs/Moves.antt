@@ -1,0 +1,48 @@
+-- The list of a window: what its store holds, at a start and after a step.
+-- Assumes nothing.
+use mathlib.Core.Path.{_≡_}
+use mathlib.Core.List.{List}
+use Prim.Native.Nat.{ℕ}
+use lib.ListN.{length, drop}
+use Rattle.spec.specs.declared.Plan.{Plan}
+use Rattle.spec.specs.declared.Way.the-variants.{Chain as ChainWay}
+use Rattle.spec.specs.Frame.{guide, frameOf}
+use Rattle.spec.specs.Window.{levelSum}
+use Rattle.spec.specs.Chain.{ChainStore}
+use Rattle.spec.specs.Calls.{roomOf}
+use Rattle.window.specs.declared.line.Step.{Step}
+use Rattle.window.specs.Line.{stepOf, Adjacent}
+use Rattle.chain.specs.declared.FreeList.{FreeList}
+use Rattle.chain.specs.Lines.{sizeOf, ListOf}
+
+-- the pixels of level i in the window at (s, t), and the sum of their guides
+abbrev pub levelCounts : List ℕ → ℕ → ℕ → ℕ → ℕ
+levelCounts b s t = levelSum (frameOf b) s t (λ x y. 1)
+
+abbrev pub levelGuides : List ℕ → ℕ → ℕ → ℕ → ℕ
+levelGuides b s t = levelSum (frameOf b) s t (guide (frameOf b))
+
+-- the nodes of m hold the window's levels, and the others are in the free list
+abbrev pub Listed : List ℕ → Plan → ℕ → ℕ → FreeList → List ℕ → Type 0
+Listed b z s t free m = ListOf (sizeOf z) (levelCounts b s t) (levelGuides b s t) free m
+
+-- how many numbers of a store are the way's
+abbrev pub storeSize : List ℕ → ℕ
+storeSize b = roomOf ChainWay (frameOf b .set) .numbers
+
+-- the store m has become m′, which holds the window at (s, t)
+pub record Stored (b : List ℕ) (z : Plan) (s t : ℕ) (m : List ℕ) (free : FreeList) (m′ : List ℕ) : Type 0 where
+  pub store : ChainStore (frameOf b) s t m′
+  pub listed : Listed b z s t free m′
+  pub long : length m′ ≡ length m
+  pub rest : drop (storeSize b) m′ ≡ drop (storeSize b) m
+
+-- d is the step from a window, which the store holds, to its neighbour
+pub record Slides (b : List ℕ) (z : Plan) (d : Step) (free : FreeList) (m : List ℕ) : Type 0 where
+  pub s : ℕ
+  pub t : ℕ
+  pub s′ : ℕ
+  pub t′ : ℕ
+  pub adjacent : Adjacent z s t s′ t′
+  pub step : d ≡ stepOf z s t s′ t′
+  pub listed : Listed b z s t free m

@@ -1,0 +1,181 @@
+-- The climb along the list: the running count and guide sum are those of all levels up to the node; and the level it ends at is the window's median.
+-- Assumes nothing.
+use mathlib.Core.Path.{_≡_, refl, sym, ap, ap₂, _∙_}
+use mathlib.Core.Logic.{⊎-elim}
+use mathlib.Core.Bool.{Bool, true, false}
+use mathlib.Core.List.{List, [], _∷_}
+use Prim.Native.Nat.{ℕ, zero, suc, _+_, _-_, _*_, _≤_, _<_}
+use native.Mathlib.Omega.{arith}
+use lib.ListN.{length}
+use lib.IntN.{ℤ, pos, _+ℤ_, _*ℤ_}
+use lib.Signed.{_<ℤ_, leZ}
+use Rattle.ints.specs.Auto.{quote, ring! }
+use Rattle.spec.specs.Frame.{Frame, guide}
+use Rattle.spec.specs.Window.{levelSum}
+use Rattle.spec.specs.Median.{totalWeight, cumulative, median}
+use Rattle.spec.proofs.First.{First, First-unique}
+use Rattle.spec.proofs.Levels.{slope, offset, cumulative-zero, cumulative-next, level-linear}
+use Rattle.spec.proofs.Totals.{lt-leZ, median-first}
+use Rattle.window.specs.declared.coefficients.Coefficients.{Coefficients}
+use Rattle.window.specs.Coefficients.{WeighsAt}
+use Rattle.chain.specs.Chain.{levelIn, countIn, guidesIn, nextIn, Used, floor, Live, Successor, sumBelow}
+use Rattle.chain.proofs.SumLaws.{zero-or-pos, lt-or-ge, sum-none, sum-suc, sum-mono, sum-flat}
+use Rattle.chain.proofs.ChainLaws.{floor-pos, floor-zero}
+use Rattle.chain_search.specs.Climb.{reach, reachAt, Climbs}
+
+-- ---- nothing does not reach a positive number
+nothing : (c d : ℤ) → pos 2 *ℤ (c *ℤ pos 0 +ℤ d *ℤ pos 0) ≡ pos 0
+nothing c d = ring! (c ∷ d ∷ []) (search quote depth 12) (search quote depth 12) refl
+
+reach-none : (w : Coefficients) → pos 0 <ℤ w .total → reach w 0 0 ≡ false
+unfolding reach
+reach-none w h = ap (leZ (w .total)) (nothing (w .slope) (w .offset)) ∙ lt-leZ h
+
+-- ---- the measure: how many levels are ahead
+pub ahead : ℕ → List ℕ → ℕ → ℕ
+ahead l m zero = 0
+ahead l m (suc k) = l - levelIn m (suc k)
+
+ahead-pos : (l : ℕ) (m : List ℕ) (k : ℕ) → 0 < k → ahead l m k ≡ l - levelIn m k
+unfolding ahead
+ahead-pos l m zero p = absurd (omega arith)
+ahead-pos l m (suc k) p = refl
+
+ahead-zero : (l : ℕ) (m : List ℕ) → ahead l m 0 ≡ 0
+unfolding ahead
+ahead-zero l m = refl
+
+-- ---- the state at a turn: all before the node cur is summed, and none of it reaches the weight sum
+pub record Climbing (l : ℕ) (m : List ℕ) (a : Climbs l m) (w : Coefficients) (count sum cur : ℕ) : Type 0 where
+  pub y : ℕ
+  pub live : Live (a .cap) m y
+  pub next : cur ≡ nextIn m y
+  pub counted : count ≡ sumBelow (a .cnt) (floor m y)
+  pub summed : sum ≡ sumBelow (a .sm) (floor m y)
+  pub short : reach w count sum ≡ false
+  pub under : (j : ℕ) → j < floor m y → reachAt (a .cnt) (a .sm) w j ≡ false
+
+module _ (l : ℕ) (m : List ℕ) (a : Climbs l m) (w : Coefficients) where
+  pub climb-start : pos 0 <ℤ w .total → Climbing l m a w 0 0 (nextIn m 0)
+  climb-start h = record {
+    y = 0;
+    live = λ p. absurd (omega arith);
+    next = refl;
+    counted = sym (ap (sumBelow (a .cnt)) (floor-zero m) ∙ sum-none (a .cnt));
+    summed = sym (ap (sumBelow (a .sm)) (floor-zero m) ∙ sum-none (a .sm));
+    short = reach-none w h;
+    under = λ j q. absurd (omega (arith, floor-zero m));
+  }
+
+  module _ (count sum cur : ℕ) (s : Climbing l m a w count sum cur) where
+    goes : Successor (a .cap) m (floor m (s .y)) cur
+    goes = rw (s .next) (a .chain .shape .next (s .y) (s .live))
+
+    -- no level between
+    gap : (j : ℕ) → floor m (s .y) ≤ j → (0 < cur → j < levelIn m cur) → (a .cnt) j ≡ 0
+    gap j h n =
+        ⊎-elim (λ e. e)
+        (λ p. absurd (
+        let k = a .chain .found j p in
+        let r = goes .least (k .0) (k .1) (omega (arith, k .2)) in
+        omega (arith, r .1, n (r .0), k .2)))
+        (zero-or-pos ((a .cnt) j))
+
+    flat : (n : ℕ) → floor m (s .y) ≤ n → (0 < cur → n ≤ levelIn m cur) → (sumBelow (a .cnt) n ≡ count) × (sumBelow (a .sm) n ≡ sum)
+    flat n h q = (
+      sum-flat (a .cnt) (floor m (s .y)) n h (λ j p r. gap j p (λ w. omega (arith, q w))) ∙ sym (s .counted),
+      sum-flat (a .sm) (floor m (s .y)) n h (λ j p r. a .chain .empty j (gap j p (λ w. omega (arith, q w)))) ∙ sym (s .summed),
+    )
+
+    -- up to the node nothing reaches it
+    before : (j : ℕ) → (0 < cur → j < levelIn m cur) → reachAt (a .cnt) (a .sm) w j ≡ false
+    before j q =
+        ⊎-elim (s .under j)
+        (λ h. let f = flat (suc j) (omega arith) (λ w. omega (arith, q w)) in ap₂ (reach w) (f .0) (f .1) ∙ s .short)
+        (lt-or-ge j (floor m (s .y)))
+
+    pub climb-end : cur ≡ 0 → First (reachAt (a .cnt) (a .sm) w) l l
+    climb-end e = record { within = omega arith; passes = λ h. absurd (omega arith); before = λ j h. before j (λ w. omega arith) }
+
+    pub cur-in : 4 * cur < length m
+    cur-in = ⊎-elim (λ e. omega (arith, a .chain .shape .size)) (λ p. omega (arith, goes .is p .to, a .chain .shape .size)) (zero-or-pos cur)
+
+    module _ (p : 0 < cur) where
+      used : Used (a .cap) m cur
+      used = goes .is p
+
+      pub cur-level : levelIn m cur < l
+      cur-level = a .chain .below (levelIn m cur) (omega (arith, a .chain .counts cur used, used .some))
+
+      count-next : count + countIn m cur ≡ sumBelow (a .cnt) (suc (levelIn m cur))
+      count-next = omega (arith, flat (levelIn m cur) (goes .from p) (λ w. omega arith) .0, a .chain .counts cur used, sum-suc (a .cnt) (levelIn m cur))
+
+      sum-next : sum + guidesIn m cur ≡ sumBelow (a .sm) (suc (levelIn m cur))
+      sum-next = omega (arith, flat (levelIn m cur) (goes .from p) (λ w. omega arith) .1, a .chain .sums cur used, sum-suc (a .sm) (levelIn m cur))
+
+      pub count-small : count + countIn m cur ≤ 961
+      count-small = omega (arith, count-next, sum-mono (a .cnt) (suc (levelIn m cur)) l cur-level, a .few)
+
+      pub sum-small : sum + guidesIn m cur ≤ 245055
+      sum-small = omega (arith, sum-next, sum-mono (a .sm) (suc (levelIn m cur)) l cur-level, a .light)
+
+      at-node : (b : Bool) → reach w (count + countIn m cur) (sum + guidesIn m cur) ≡ b → reachAt (a .cnt) (a .sm) w (levelIn m cur) ≡ b
+      at-node b e = ap₂ (reach w) (sym count-next) (sym sum-next) ∙ e
+
+      pub climb-here : reach w (count + countIn m cur) (sum + guidesIn m cur) ≡ true → First (reachAt (a .cnt) (a .sm) w) l (levelIn m cur)
+      climb-here e = record { within = omega (arith, cur-level); passes = λ h. at-node true e; before = λ j h. before j (λ w. h) }
+
+      above : floor m cur ≡ suc (levelIn m cur)
+      above = floor-pos m cur p
+
+      pub climb-next : reach w (count + countIn m cur) (sum + guidesIn m cur) ≡ false → Climbing l m a w (count + countIn m cur) (sum + guidesIn m cur) (nextIn m cur)
+      climb-next e = record {
+        y = cur;
+        live = λ q. used;
+        next = refl;
+        counted = count-next ∙ ap (sumBelow (a .cnt)) (sym above);
+        summed = sum-next ∙ ap (sumBelow (a .sm)) (sym above);
+        short = e;
+        under = λ j h. ⊎-elim (λ w. before j (λ q. w)) (λ w. at-cur j (omega (arith, above))) (lt-or-ge j (levelIn m cur));
+      }
+        where
+          at-cur : (j : ℕ) → j ≡ levelIn m cur → reachAt (a .cnt) (a .sm) w j ≡ false
+          at-cur j z = rw z (at-node false e)
+
+      pub ahead-less : ahead l m (nextIn m cur) < ahead l m cur
+      ahead-less =
+          ⊎-elim
+          (λ z. let w : ahead l m (nextIn m cur) ≡ 0 = ap (ahead l m) z ∙ ahead-zero l m in omega (arith, ahead-pos l m cur p, cur-level))
+          (λ q. omega (arith, ahead-pos l m cur p, ahead-pos l m (nextIn m cur) q, cur-level, above, a .chain .shape .next cur (λ w. used) .from q))
+          (zero-or-pos (nextIn m cur))
+
+-- ---- the weight of the levels up to i is linear in their count and their guide sum
+join-weights : (c d f g f′ g′ : ℤ) → (c *ℤ g +ℤ d *ℤ f) +ℤ (c *ℤ g′ +ℤ d *ℤ f′) ≡ c *ℤ (g +ℤ g′) +ℤ d *ℤ (f +ℤ f′)
+join-weights c d f g f′ g′ = ring! (c ∷ d ∷ f ∷ g ∷ f′ ∷ g′ ∷ []) (search quote depth 12) (search quote depth 12) refl
+
+module _ (p : Frame) (s t : ℕ) (two : p .set .kind ≡ 2) where
+  abbrev cnt : ℕ → ℕ
+  cnt = levelSum p s t (λ x y. 1)
+
+  abbrev sm : ℕ → ℕ
+  sm = levelSum p s t (guide p)
+
+  cumulative-linear : (i : ℕ) → cumulative p s t i ≡ slope p s t *ℤ pos (sumBelow sm (suc i)) +ℤ offset p s t *ℤ pos (sumBelow cnt (suc i))
+  cumulative-linear zero =
+      let f : cnt 0 ≡ sumBelow cnt 1 = omega (arith, sum-suc cnt 0, sum-none cnt) in
+      let g : sm 0 ≡ sumBelow sm 1 = omega (arith, sum-suc sm 0, sum-none sm) in
+      cumulative-zero p s t ∙ level-linear p s t 0 two ∙ ap₂ (λ (x y : ℕ). slope p s t *ℤ pos x +ℤ offset p s t *ℤ pos y) g f
+  cumulative-linear (suc i) =
+      cumulative-next p s t i ∙ ap₂ _+ℤ_ (cumulative-linear i) (level-linear p s t (suc i) two)
+      ∙ join-weights (slope p s t) (offset p s t) (pos (sumBelow cnt (suc i))) (pos (sumBelow sm (suc i))) (pos (cnt (suc i))) (pos (sm (suc i)))
+      ∙ sym (ap₂ (λ (x y : ℕ). slope p s t *ℤ pos x +ℤ offset p s t *ℤ pos y) (sum-suc sm (suc i)) (sum-suc cnt (suc i)))
+
+  same-test : (w : Coefficients) → WeighsAt p s t w → (i : ℕ) → leZ (totalWeight p s t) (pos 2 *ℤ cumulative p s t i) ≡ reachAt cnt sm w i
+  unfolding reach
+  same-test w v i = rw (v .total, v .slope, v .offset) (ap (λ (u : ℤ). leZ (totalWeight p s t) (pos 2 *ℤ u)) (cumulative-linear i))
+
+  -- where the climb ends is the median
+  pub climb-median : (w : Coefficients) → WeighsAt p s t w → (r : ℕ) → First (reachAt cnt sm w) (p .set .levels) r → r ≡ median p s t
+  climb-median w v r k =
+      First-unique (λ i. leZ (totalWeight p s t) (pos 2 *ℤ cumulative p s t i)) (p .set .levels) r (median p s t)
+      (record { within = k .within; passes = λ h. same-test w v r ∙ k .passes h; before = λ j h. same-test w v j ∙ k .before j h }) (median-first p s t)

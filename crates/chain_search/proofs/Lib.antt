@@ -1,0 +1,2 @@
+pub mod ClimbLaws
+pub mod VisitLaws

@@ -1,0 +1,106 @@
+-- What a walk does at a window of kind 2: the climb ends at the median, and the new cut point and shift count are the definition's.
+-- Assumes nothing.
+use mathlib.Core.Path.{_≡_, refl, sym, ap, ap₂, _∙_, subst}
+use mathlib.Core.Bool.{Bool}
+use mathlib.Core.List.{List}
+use Prim.Native.Nat.{ℕ, _+_, _*_, _≤_, _<_}
+use native.Mathlib.Omega.{arith}
+use lib.IntN.{ℤ, pos}
+use lib.Signed.{_<ℤ_}
+use Rattle.spec.specs.declared.Plan.{Plan}
+use Rattle.spec.specs.Base.{if_then_else_, distance}
+use Rattle.spec.specs.Frame.{guide, pixelGuide, frameOf}
+use Rattle.spec.specs.Checks.{Planned}
+use Rattle.spec.specs.Weight.{monotone}
+use Rattle.spec.specs.Window.{pixelCount, guideSum}
+use Rattle.spec.specs.Median.{median}
+use Rattle.spec.specs.Walk.{State, arrive}
+use Rattle.spec.proofs.First.{First}
+use Rattle.spec.proofs.Plans.{facts, pixel-of, place-low}
+use Rattle.spec.proofs.Climb.{guided-full}
+use Rattle.spec.proofs.Bounds.{pixelCount-high, guideSum-high}
+use Rattle.window.specs.declared.coefficients.Coefficients.{Coefficients}
+use Rattle.window.specs.declared.line.Step.{Step}
+use Rattle.window.specs.Coefficients.{WeighsAt}
+use Rattle.window.specs.Line.{stepOf, Adjacent, StepInPlanes}
+use Rattle.window.proofs.LineLaws.{lines-in}
+use Rattle.window.proofs.PixelLaws.{plan-limits, guide-low, guides-high}
+use Rattle.chain.specs.declared.FreeList.{FreeList}
+use Rattle.chain.specs.Chain.{sumBelow}
+use Rattle.chain.specs.Lines.{nodesOf, sizeOf}
+use Rattle.chain.specs.Moves.{levelCounts, levelGuides, Listed}
+use Rattle.chain.proofs.WindowLaws.{level-total}
+use Rattle.chain_search.specs.declared.visit.Visit.{Visit}
+use Rattle.chain_search.specs.Climb.{reachAt, Climbs}
+use Rattle.chain_search.specs.Visit.{StateIs, Holds, Visited}
+use Rattle.chain_search.proofs.ClimbLaws.{climb-median}
+
+-- after a visit the walk can go on from there
+pub visited-holds : {b : List ℕ} {z : Plan} {s t c n : ℕ} {m m′ : List ℕ} {v : Visit} → Visited b z s t c n m v m′ → Holds b z s t v m′
+visited-holds h = record { sums = h .sums; listed = h .stored .listed }
+
+module _ {b : List ℕ} {z : Plan} (pl : Planned b z) where
+  pub step-in : {s t s′ t′ : ℕ} → Adjacent z s t s′ t′ → (d : Step) → d ≡ stepOf z s t s′ t′ → StepInPlanes z d
+  step-in adj d e = subst (λ (q : Step). StepInPlanes z q) (sym e) (lines-in (plan-limits pl) adj)
+
+  pub some-guides : (1 ≤ z .guides) × (z .guides ≤ 256)
+  some-guides = let f = facts pl in (omega (arith, f .guides, f .limits .sound .guides-low), guides-high pl)
+
+  module _ {s t : ℕ} (hs : s < z .width) (ht : t < z .height) where
+    -- the centre's guide
+    pub centre-is : (g : ℕ) → g ≡ pixelGuide b (t * z .width + s) → g ≡ guide (frameOf b) s t
+    centre-is g e = e ∙ facts pl .guide-at s t
+
+    pub centre-high : (g : ℕ) → g ≡ pixelGuide b (t * z .width + s) → g ≤ 255
+    centre-high g e = omega (arith, guide-low pl (place-low z s t hs ht), guides-high pl)
+
+    -- the window's list is one to climb along
+    pub climbs : (free : FreeList) (m : List ℕ) → Listed b z s t free m → Climbs (z .levels) m
+    unfolding sizeOf pixelCount guideSum
+    climbs free m c =
+        let f = facts pl in
+        let k = pixel-of pl hs ht in
+        record {
+          cap = nodesOf z;
+          cnt = levelCounts b s t;
+          sm = levelGuides b s t;
+          head = free .head;
+          free = free .count;
+          chain = c;
+          few =
+              let e : sumBelow (levelCounts b s t) (z .levels) ≡ sumBelow (levelCounts b s t) (frameOf b .set .levels) = ap (sumBelow (levelCounts b s t)) (f .levels) in
+              omega (arith, e, level-total k (λ x y. 1), pixelCount-high k);
+          light =
+              let e : sumBelow (levelGuides b s t) (z .levels) ≡ sumBelow (levelGuides b s t) (frameOf b .set .levels) = ap (sumBelow (levelGuides b s t)) (f .levels) in
+              omega (arith, e, level-total k (guide (frameOf b)), guideSum-high k);
+        }
+
+    module _ (two : z .kind ≡ 2) where
+      kind-is : frameOf b .set .kind ≡ 2
+      kind-is = sym (facts pl .kind) ∙ two
+
+      pub total-pos : (k : Coefficients) → WeighsAt (frameOf b) s t k → pos 0 <ℤ k .total
+      total-pos k w = subst (λ (n : ℤ). pos 0 <ℤ n) (sym (w .total)) (guided-full (pixel-of pl hs ht) kind-is .0)
+
+      pub climbed : (k : Coefficients) → WeighsAt (frameOf b) s t k → (free : FreeList) (m : List ℕ) → Listed b z s t free m → (r : ℕ)
+          → ((a : Climbs (z .levels) m) → First (reachAt (a .cnt) (a .sm) k) (z .levels) r) → r ≡ median (frameOf b) s t
+      unfolding climbs
+      climbed k w free m c r h =
+          climb-median (frameOf b) s t kind-is k w r
+          (subst (λ (l : ℕ). First (reachAt (levelCounts b s t) (levelGuides b s t) k) l r) (facts pl .levels) (h (climbs free m c)))
+
+      -- no window of kind 2 is weightless
+      arrive-is : (c n : ℕ) → arrive (frameOf b) s t c n
+          ≡ record { column = s; row = t; cut = median (frameOf b) s t; shifts = n + (if monotone (frameOf b) s t then distance (median (frameOf b) s t) c else median (frameOf b) s t); said = median (frameOf b) s t }
+      unfolding arrive
+      arrive-is c n = rw (guided-full (pixel-of pl hs ht) kind-is .1) refl
+
+      pub state-is : (c n r more : ℕ) (q : Bool) (v : Visit) → r ≡ median (frameOf b) s t → q ≡ monotone (frameOf b) s t → more ≡ (if q then distance r c else r)
+          → v .cut .0 ≡ r → v .shifts ≡ n + more → v .answer .0 ≡ r → StateIs b s t c n v
+      state-is c n r more q v er eq em ec en ea = record {
+        cut = ec ∙ er ∙ sym (ap (λ (x : State). x .cut) (arrive-is c n));
+        shifts =
+            en ∙ ap (λ (x : ℕ). n + x) (em ∙ ap₂ (λ (y : Bool) (x : ℕ). if y then distance x c else x) eq er)
+            ∙ sym (ap (λ (x : State). x .shifts) (arrive-is c n));
+        answer = ea ∙ er ∙ sym (ap (λ (x : State). x .said) (arrive-is c n));
+      }

@@ -1,0 +1,8 @@
+pub mod BlockLaws
+pub mod ContentLaws
+pub mod StoreLaws
+pub mod SideLaws
+pub mod MoveLaws
+pub mod SearchLaws
+pub mod TallyLaws
+pub mod VisitLaws

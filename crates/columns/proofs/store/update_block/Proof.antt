@@ -1,0 +1,117 @@
+-- `columns::store::update_block` meets its contract. Assumes nothing.
+use Prim.Native.Nat.{_*_, _-_, _≤_}
+use mathlib.Core.Path.{_≡_, _∙_}
+use native.Mathlib.Omega.{arith}
+use native.Mathlib.Nat.{mul-le-mul}
+use lib.Arith.{digits-lt}
+use Rattle.columns.specs.Blocks.{cellOf}
+use Rattle.columns.proofs.SideLaws.{Slid, slid-none, slid-here, slid-pick, slid-next, slid-all}
+use Rattle.columns.proofs.store.update_block.Statement.{statement}
+use Rattle.columns.proofs.store.update_block.Tie as tie
+
+abbrev Inv-loop : tie.InvT-loop
+Inv-loop numbers₀ l at more gain less lose a b c i₀ numbers i = (i ≤ l) × Slid l at (cellOf gain l more numbers₀) (cellOf lose l less numbers₀) i numbers₀ numbers
+
+abbrev μ-loop : tie.MeasureT-loop
+μ-loop numbers₀ l at more gain less lose a b c i₀ numbers i = l - i
+
+products : (c : tie.Start Inv-loop μ-loop) → (c .args .at * c .args .l ≤ 4194304) × (c .args .more * c .args .l ≤ 4194304) × (c .args .less * c .args .l ≤ 4194304)
+products c = let o = c .pre .0 in (mul-le-mul (o .1) (o .0), mul-le-mul (o .2) (o .0), mul-le-mul (o .3) (o .0))
+
+-- what a turn reads of the block that enters, and of the one that leaves
+entered : (c : tie.After-slice-known2 Inv-loop μ-loop) → c .before .before .before .pick .result ≡ cellOf (c .before .before .before .before .before .before .before .before .args .gain) (c .before .before .before .before .before .before .before .before .args .l) (c .before .before .before .before .before .before .before .before .args .more) (c .before .before .before .before .before .before .before .before .args .numbers .now) (c .before .before .before .before .before .before .loop .i)
+entered c = c .before .before .before .pick .ensures ∙ slid-pick (c .before .before .before .before .before .before .loop .inv .1) (c .before .before .before .before .before .loop-test .taken) (c .before .before .before .before .before .before .before .before .args .gain) (c .before .before .before .before .before .before .before .before .args .more) (c .before .before .before .before .before .before .before .before .pre .1 .0 .0)
+
+left : (c : tie.After-slice-known2 Inv-loop μ-loop) → c .before .pick2 .result ≡ cellOf (c .before .before .before .before .before .before .before .before .args .lose) (c .before .before .before .before .before .before .before .before .args .l) (c .before .before .before .before .before .before .before .before .args .less) (c .before .before .before .before .before .before .before .before .args .numbers .now) (c .before .before .before .before .before .before .loop .i)
+left c = c .before .pick2 .ensures ∙ slid-pick (c .before .before .before .before .before .before .loop .inv .1) (c .before .before .before .before .before .loop-test .taken) (c .before .before .before .before .before .before .before .before .args .lose) (c .before .before .before .before .before .before .before .before .args .less) (c .before .before .before .before .before .before .before .before .pre .1 .0 .1)
+
+mul-a : tie.Need-mul-a Inv-loop μ-loop
+mul-a c = omega (arith, products (c .before))
+
+mul-b : tie.Need-mul-b Inv-loop μ-loop
+mul-b c = omega (arith, products (c .before))
+
+mul-c : tie.Need-mul-c Inv-loop μ-loop
+mul-c c = omega (arith, products (c .before))
+
+loop-holds : tie.Need-loop-holds Inv-loop μ-loop
+loop-holds c = (omega arith, slid-none _ _ _ _ _)
+
+add-pick : tie.Need-add-pick Inv-loop μ-loop
+add-pick c = omega (arith, products (c .before .before .before .before), c .before .loop-test .taken, c .before .before .before .before .pre .0)
+
+pick-requires : tie.Need-pick-requires Inv-loop μ-loop
+pick-requires c κs = (λ q. omega (arith, digits-lt (c .before .before .before .before .pre .1 .0 .0 q) (c .before .loop-test .taken), c .before .before .loop .inv .1 .len, c .before .before .before .before .pre .0 .4))
+
+add-pick-2 : tie.Need-add-pick-2 Inv-loop μ-loop
+add-pick-2 c = omega (arith, products (c .before .before .before .before .before .before), c .before .before .before .loop-test .taken, c .before .before .before .before .before .before .pre .0)
+
+pick-requires-2 : tie.Need-pick-requires-2 Inv-loop μ-loop
+pick-requires-2 c κs = (λ q. omega (arith, digits-lt (c .before .before .before .before .before .before .pre .1 .0 .1 q) (c .before .before .before .loop-test .taken), c .before .before .before .before .loop .inv .1 .len, c .before .before .before .before .before .before .pre .0 .4))
+
+add-numbers : tie.Need-add-numbers Inv-loop μ-loop
+add-numbers c = omega (arith, products (c .before .before .before .before .before .before .before), c .before .before .before .before .loop-test .taken, c .before .before .before .before .before .before .before .pre .0)
+
+mul-numbers : tie.Need-mul-numbers Inv-loop μ-loop
+mul-numbers c = omega (arith, c .before .before .before .before .before .before .before .good, c .before .before .before .before .before .loop .inv .1 .len, c .before .before .before .before .before .before .before .pre .0 .4, c .before .before .before .before .loop-test .taken)
+
+slice-read-numbers : tie.Need-slice-read-numbers Inv-loop μ-loop
+slice-read-numbers c = omega (arith, c .before .before .before .before .before .before .loop .inv .1 .len, c .before .before .before .before .before .before .before .before .pre .0 .4, c .before .before .before .before .before .loop-test .taken)
+
+add-numbers-2 : tie.Need-add-numbers-2 Inv-loop μ-loop
+add-numbers-2 c = omega (arith, entered c, slid-here (c .before .before .before .before .before .before .loop .inv .1) (c .before .before .before .before .before .loop-test .taken), c .before .before .before .before .before .before .before .before .pre .1 .1 .room (c .before .before .before .before .before .before .loop .i) (c .before .before .before .before .before .loop-test .taken))
+
+sub-numbers : tie.Need-sub-numbers Inv-loop μ-loop
+sub-numbers c = omega (arith, entered c, left c, slid-here (c .before .before .before .before .before .before .loop .inv .1) (c .before .before .before .before .before .loop-test .taken), c .before .before .before .before .before .before .before .before .pre .1 .1 .enough (c .before .before .before .before .before .before .loop .i) (c .before .before .before .before .before .loop-test .taken))
+
+add-numbers-3 : tie.Need-add-numbers-3 Inv-loop μ-loop
+add-numbers-3 c = omega (arith, products (c .before .before .before .before .before .before .before .before), c .before .before .before .before .before .loop-test .taken, c .before .before .before .before .before .before .before .before .pre .0)
+
+mul-numbers-2 : tie.Need-mul-numbers-2 Inv-loop μ-loop
+mul-numbers-2 c = omega (arith, c .before .before .before .before .before .before .before .before .good, c .before .before .before .before .before .before .loop .inv .1 .len, c .before .before .before .before .before .before .before .before .pre .0 .4, c .before .before .before .before .before .loop-test .taken)
+
+slice-write-numbers : tie.Need-slice-write-numbers Inv-loop μ-loop
+slice-write-numbers c = omega (arith, c .before .before .before .before .before .before .loop .inv .1 .len, c .before .before .before .before .before .before .before .before .pre .0 .4, c .before .before .before .before .before .loop-test .taken)
+
+add-i : tie.Need-add-i Inv-loop μ-loop
+add-i c = omega (arith, c .before .before .before .before .before .loop-test .taken, c .before .before .before .before .before .before .before .before .pre .0)
+
+loop-less : tie.Need-loop-less Inv-loop μ-loop
+loop-less c = omega (arith, c .before .before .before .before .before .loop-test .taken)
+
+loop-again : tie.Need-loop-again Inv-loop μ-loop
+loop-again c = (omega (arith, c .before .before .before .before .before .loop-test .taken), slid-next (c .before .before .before .before .before .before .loop .inv .1) (c .before .before .before .before .before .loop-test .taken) (omega (arith, c .before .before .before .before .before .before .loop .inv .1 .len, c .before .before .before .before .before .before .before .before .pre .0 .4, c .before .before .before .before .before .loop-test .taken)) (c .before .before .before .before .before .before .before .before .pre .1 .1) (entered c) (left c))
+
+same-length : tie.Need-same-length Inv-loop μ-loop
+same-length c = c .before .loop .inv .1 .len
+
+returns : tie.Need-returns Inv-loop μ-loop
+returns c = slid-all (c .before .loop .inv .1) (c .loop-test .left)
+
+pub update-block-spec : {M : Type 1} → statement M
+update-block-spec =
+    tie.close
+    (tie.spec
+    Inv-loop
+    μ-loop
+    mul-a
+    mul-b
+    mul-c
+    loop-holds
+    add-pick
+    pick-requires
+    add-pick-2
+    pick-requires-2
+    add-numbers
+    mul-numbers
+    slice-read-numbers
+    add-numbers-2
+    sub-numbers
+    add-numbers-3
+    mul-numbers-2
+    slice-write-numbers
+    add-i
+    loop-less
+    loop-again
+    same-length
+    returns)

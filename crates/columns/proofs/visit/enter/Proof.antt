@@ -1,0 +1,45 @@
+-- `columns::visit::enter` meets its contract. Assumes nothing.
+use Prim.Native.Nat.{_-_}
+use native.Mathlib.Omega.{arith}
+use Rattle.spec.specs.Frame.{frameOf}
+use Rattle.columns.proofs.VisitLaws.{made, made-self, room-long}
+use borrow.Author.Needs.{needs}
+use Rattle.columns.proofs.visit.enter.Statement.{statement}
+use Rattle.columns.proofs.visit.enter.Tie as tie
+
+start-requires : tie.Need-start-requires
+start-requires c κs = let st = c .before .before .before in (st .pre .0 .0, (st .pre .1 .0 .0, st .pre .1 .0 .1, room-long (frameOf (st .args .file .now)) (st .pre .1 .1)))
+
+start-requires-2 : tie.Need-start-requires-2
+start-requires-2 c κs = search needs
+
+cast-tally-below : tie.Need-cast-tally-below
+cast-tally-below c = search needs
+
+add-tally-below : tie.Need-add-tally-below
+add-tally-below c = search needs
+
+tally-below-requires : tie.Need-tally-below-requires
+tally-below-requires c κs = let st = c .before .before .before .before .before .before .before .before .before in (st .pre .0 .0, ((st .pre .1 .0 .0, st .pre .1 .0 .1, omega (arith, st .pre .1 .0 .2)), made-self (frameOf (st .args .file .now)) (st .args .s) (st .args .t) _ _ (c .before .before .before .before .before .start .ensures)))
+
+answer-at-requires : tie.Need-answer-at-requires
+answer-at-requires c κs = let st = c .before .before .before .before .before .before .before .before .before .before .before in (st .pre .0, (st .pre .1 .0, (made-self (frameOf (st .args .file .now)) (st .args .s) (st .args .t) _ _ (c .before .before .before .before .before .before .before .start .ensures), (c .before .before .before .before .start2 .ensures, c .before .tally-below .ensures))))
+
+same-length : tie.Need-same-length
+same-length c = search needs
+
+returns : tie.Need-returns
+returns c = let st = c .before .before .before .before .before .before .before .before .before .before .before .before in record { visited = c .answer-at .ensures; store = made (frameOf (st .args .file .now)) (st .args .s) (st .args .t) _ _ (c .before .before .before .before .before .before .before .before .start .ensures) }
+
+pub enter-spec : {M : Type 1} → statement M
+enter-spec =
+    tie.close
+    (tie.spec
+    start-requires
+    start-requires-2
+    cast-tally-below
+    add-tally-below
+    tally-below-requires
+    answer-at-requires
+    same-length
+    returns)

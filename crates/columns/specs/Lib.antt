@@ -1,0 +1,4 @@
+pub mod Blocks
+pub mod Tally
+pub mod Search
+pub mod Visit

@@ -1,0 +1,264 @@
+// The column store: its start, and its moves. Its length is storeSize; what lies beyond stays as it was.
+use spec::Plan;
+use window::line;
+use window::pixel;
+ghost use mathlib.Core.Path.{_≡_};
+ghost use mathlib.Core.Bool.{true, false};
+ghost use mathlib.Core.List.{_++_};
+ghost use Prim.Native.Nat.{ℕ, _+_, _-_, _*_, _<_, _≤_};
+ghost use lib.ListN.{length, getD, set, drop};
+ghost use Rattle.spec.specs.Base.{if_then_else_};
+ghost use Rattle.spec.specs.Checks.{Planned};
+ghost use Rattle.spec.specs.Columns.{columnStore};
+ghost use Rattle.spec.specs.Frame.{frameOf};
+ghost use Rattle.window.specs.Line.{Adjacent};
+ghost use Rattle.columns.specs.Blocks.{when, Put, Able, Cleared, Swap, Ready, Neighbours, block, cellOf, pixelD, stripD, rowD, exchangeOf, storeSize};
+
+// Which column or row enters and which one leaves as the centre moves by one, and whether it is in the picture.
+pub struct Exchange {
+    pub entering: usize,
+    pub enters: bool,
+    pub leaving: usize,
+    pub leaves: bool,
+}
+
+// A number raised or lowered.
+pub fn change(numbers: &mut [u32], at: usize, v: u32, add: bool)
+    requires { ⌜ at < length (now numbers) ⌝ }
+    requires { ⌜ (add ≡ true → getD (now numbers) at 0 + v < 4294967296) ⌝ }
+    requires { ⌜ (add ≡ false → v ≤ getD (now numbers) at 0) ⌝ }
+    ensures { λ _. ⌜ now (numbers .exit) ≡ set (now (numbers .entry)) at (if add then getD (now (numbers .entry)) at 0 + v else getD (now (numbers .entry)) at 0 - v) ⌝ }
+{
+    let n = numbers[at];
+    if add {
+        numbers[at] = n + v;
+        return;
+    }
+    numbers[at] = n - v;
+}
+
+// One pixel, into or out of the counts of block a and the guide sums of block b.
+pub fn count_pixel(
+    file: &[u8],
+    z: Plan,
+    numbers: &mut [u32],
+    a: usize,
+    b: usize,
+    x: usize,
+    y: usize,
+    add: bool,
+)
+    requires { ⌜ Planned (now file) z ⌝ }
+    requires { ⌜ (x < z .width) × (y < z .height) ⌝ }
+    requires { ⌜ (a < 2 * z .width + 2) × (b < 2 * z .width + 2) × (2 * (z .width * z .levels) + 2 * z .levels ≤ length (now numbers)) ⌝ }
+    requires { ⌜ Able add (z .levels) (pixelD (frameOf (now file)) a b x y) (now numbers) ⌝ }
+    ensures { λ _. ⌜ Put add (z .levels) (pixelD (frameOf (now (file .entry))) a b x y) (now (numbers .entry)) (now (numbers .exit)) ⌝ }
+{
+    let l = z.levels;
+    let q = y * z.width + x;
+    let i = pixel::level_at(file, z, q);
+    let g = pixel::guide_at(file, z, q);
+    let at = i.0 as usize;
+    change(numbers, a * l + at, 1, add);
+    change(numbers, b * l + at, g.0 as u32, add);
+}
+
+// Some pixels of row y, into or out of the blocks that lie so far apart from column to column.
+pub fn count_strip(
+    file: &[u8],
+    z: Plan,
+    numbers: &mut [u32],
+    y: usize,
+    a: usize,
+    b: usize,
+    apart: usize,
+    first: usize,
+    count: usize,
+    add: bool,
+)
+    requires { ⌜ Planned (now file) z ⌝ }
+    requires { ⌜ (y < z .height) × (first + count ≤ z .width) × (2 * (z .width * z .levels) + 2 * z .levels ≤ length (now numbers)) ⌝ }
+    requires { ⌜ ((x : ℕ) → x < z .width → (a + x * apart < 2 * z .width + 2) × (b + x * apart < 2 * z .width + 2)) ⌝ }
+    requires { ⌜ Able add (z .levels) (stripD (frameOf (now file)) y a b apart first count) (now numbers) ⌝ }
+    ensures { λ _. ⌜ Put add (z .levels) (stripD (frameOf (now (file .entry))) y a b apart first count) (now (numbers .entry)) (now (numbers .exit)) ⌝ }
+{
+    let mut k: usize = 0;
+    while k < count {
+        let x = first + k;
+        let step = x * apart;
+        count_pixel(file, z, numbers, a + step, b + step, x, y, add);
+        k += 1;
+    }
+}
+
+// Row y, into or out of the store of a window at column s.
+pub fn count_row(file: &[u8], z: Plan, numbers: &mut [u32], s: usize, y: usize, add: bool)
+    requires { ⌜ Planned (now file) z ⌝ }
+    requires { ⌜ (s < z .width) × (y < z .height) × (2 * (z .width * z .levels) + 2 * z .levels ≤ length (now numbers)) ⌝ }
+    requires { ⌜ Able add (z .levels) (rowD (frameOf (now file)) s y) (now numbers) ⌝ }
+    ensures { λ _. ⌜ Put add (z .levels) (rowD (frameOf (now (file .entry))) s y) (now (numbers .entry)) (now (numbers .exit)) ⌝ }
+{
+    let w = z.width;
+    let left = line::low(s, z.radius);
+    let columns = line::span_of(s, z.radius, w);
+    count_strip(file, z, numbers, y, 0, w, 1, 0, w, add);
+    count_strip(file, z, numbers, y, 2 * w, 2 * w + 1, 0, left, columns, add);
+}
+
+// The first n numbers to 0.
+pub fn clear(numbers: &mut [u32], n: usize)
+    requires { ⌜ n ≤ length (now numbers) ⌝ }
+    ensures { λ _. ⌜ Cleared n (now (numbers .entry)) (now (numbers .exit)) ⌝ }
+{
+    let mut j: usize = 0;
+    while j < n {
+        numbers[j] = 0;
+        j += 1;
+    }
+}
+
+// The store of the window at (s, t), whatever was there before.
+pub fn start(file: &[u8], z: Plan, numbers: &mut [u32], s: usize, t: usize)
+    requires { ⌜ Planned (now file) z ⌝ }
+    requires { ⌜ (s < z .width) × (t < z .height) × (storeSize (frameOf (now file)) ≤ length (now numbers)) ⌝ }
+    ensures { λ _. ⌜ now (numbers .exit) ≡ columnStore (frameOf (now (file .entry))) s t ++ drop (storeSize (frameOf (now (file .entry)))) (now (numbers .entry)) ⌝ }
+{
+    let n = 2 * (z.width * z.levels) + 2 * z.levels;
+    clear(numbers, n);
+    let top = line::low(t, z.radius);
+    let rows = line::span_of(t, z.radius, z.height);
+    let mut k: usize = 0;
+    while k < rows {
+        count_row(file, z, numbers, s, top + k, true);
+        k += 1;
+    }
+}
+
+// The centre goes from c to the neighbour c2 among size columns or rows.
+pub fn exchange_of(c: usize, c2: usize, r: usize, size: usize) -> Exchange
+    requires { ⌜ (c < size) × (c2 < size) × (size ≤ 1024) × (r ≤ 15) ⌝ }
+    ensures { λ e. ⌜ e ≡ exchangeOf c c2 r size ⌝ }
+{
+    if c < c2 {
+        let high = c + r + 1;
+        return Exchange {
+            entering: high,
+            enters: high < size,
+            leaving: line::low(c, r),
+            leaves: r <= c,
+        };
+    }
+    let high = c2 + r + 1;
+    Exchange {
+        entering: line::low(c2, r),
+        enters: r <= c2,
+        leaving: high,
+        leaves: high < size,
+    }
+}
+
+// Row y, where it is in the picture.
+pub fn count_row_if(
+    file: &[u8],
+    z: Plan,
+    numbers: &mut [u32],
+    s: usize,
+    y: usize,
+    on: bool,
+    add: bool,
+)
+    requires { ⌜ Planned (now file) z ⌝ }
+    requires { ⌜ (s < z .width) × (on ≡ true → y < z .height) × (2 * (z .width * z .levels) + 2 * z .levels ≤ length (now numbers)) ⌝ }
+    requires { ⌜ Able add (z .levels) (λ m i. when on (rowD (frameOf (now file)) s y m i)) (now numbers) ⌝ }
+    ensures { λ _. ⌜ Put add (z .levels) (λ m i. when on (rowD (frameOf (now (file .entry))) s y m i)) (now (numbers .entry)) (now (numbers .exit)) ⌝ }
+{
+    if on {
+        count_row(file, z, numbers, s, y, add);
+    }
+}
+
+// From row t to the neighbour t2: one row in, one row out.
+pub fn vertical(file: &[u8], z: Plan, numbers: &mut [u32], s: usize, t: usize, t2: usize)
+    requires { ⌜ Planned (now file) z ⌝ }
+    requires { ⌜ (s < z .width) × Neighbours t t2 (z .height) ⌝ }
+    requires { ⌜ now numbers ≡ columnStore (frameOf (now file)) s t ++ drop (storeSize (frameOf (now file))) (now numbers) ⌝ }
+    ensures { λ _. ⌜ now (numbers .exit) ≡ columnStore (frameOf (now (file .entry))) s t2 ++ drop (storeSize (frameOf (now (file .entry)))) (now (numbers .entry)) ⌝ }
+{
+    let d = exchange_of(t, t2, z.radius, z.height);
+    count_row_if(file, z, numbers, s, d.entering, d.enters, true);
+    count_row_if(file, z, numbers, s, d.leaving, d.leaves, false);
+}
+
+// A number, or 0.
+pub fn pick(numbers: &[u32], at: usize, on: bool) -> u32
+    requires { ⌜ (on ≡ true → at < length (now numbers)) ⌝ }
+    ensures { λ k. ⌜ k ≡ when on (getD (now (numbers .entry)) at 0) ⌝ }
+{
+    if on {
+        return numbers[at];
+    }
+    0
+}
+
+// Block at gains block more and loses block less, where there are such, in one pass over the levels.
+pub fn update_block(
+    numbers: &mut [u32],
+    l: usize,
+    at: usize,
+    more: usize,
+    gain: bool,
+    less: usize,
+    lose: bool,
+)
+    requires { ⌜ (l ≤ 1024) × (at ≤ 4096) × (more ≤ 4096) × (less ≤ 4096) × (at * l + l ≤ length (now numbers)) ⌝ }
+    requires { ⌜ (gain ≡ true → more < at) × (lose ≡ true → less < at) ⌝ }
+    requires { ⌜ Ready l at (cellOf gain l more (now numbers)) (cellOf lose l less (now numbers)) (now numbers) ⌝ }
+    ensures { λ _. ⌜ Swap l (block at (cellOf gain l more (now (numbers .entry)))) (block at (cellOf lose l less (now (numbers .entry)))) (now (numbers .entry)) (now (numbers .exit)) ⌝ }
+{
+    let a = at * l;
+    let b = more * l;
+    let c = less * l;
+    let mut i: usize = 0;
+    while i < l {
+        let u = pick(numbers, b + i, gain);
+        let v = pick(numbers, c + i, lose);
+        numbers[a + i] = numbers[a + i] + u - v;
+        i += 1;
+    }
+}
+
+// From column s to the neighbour s2: the window gains a column and loses one; the columns stay. No pixel is read: file and t say which window's store it is.
+pub fn sideways(file: &[u8], z: Plan, numbers: &mut [u32], s: usize, s2: usize, t: usize)
+    requires { ⌜ Planned (now file) z ⌝ }
+    requires { ⌜ (t < z .height) × Neighbours s s2 (z .width) ⌝ }
+    requires { ⌜ now numbers ≡ columnStore (frameOf (now file)) s t ++ drop (storeSize (frameOf (now file))) (now numbers) ⌝ }
+    ensures { λ _. ⌜ now (numbers .exit) ≡ columnStore (frameOf (now (file .entry))) s2 t ++ drop (storeSize (frameOf (now (file .entry)))) (now (numbers .entry)) ⌝ }
+{
+    let w = z.width;
+    let l = z.levels;
+    let d = exchange_of(s, s2, z.radius, w);
+    update_block(numbers, l, 2 * w, d.entering, d.enters, d.leaving, d.leaves);
+    update_block(
+        numbers,
+        l,
+        2 * w + 1,
+        w + d.entering,
+        d.enters,
+        w + d.leaving,
+        d.leaves,
+    );
+}
+
+// From (s, t) to the neighbour (s2, t2).
+pub fn slide(file: &[u8], z: Plan, numbers: &mut [u32], s: usize, t: usize, s2: usize, t2: usize)
+    requires { ⌜ Planned (now file) z ⌝ }
+    requires { ⌜ Adjacent z s t s2 t2 ⌝ }
+    requires { ⌜ now numbers ≡ columnStore (frameOf (now file)) s t ++ drop (storeSize (frameOf (now file))) (now numbers) ⌝ }
+    ensures { λ _. ⌜ now (numbers .exit) ≡ columnStore (frameOf (now (file .entry))) s2 t2 ++ drop (storeSize (frameOf (now (file .entry)))) (now (numbers .entry)) ⌝ }
+{
+    if s == s2 {
+        vertical(file, z, numbers, s, t, t2);
+        return;
+    }
+    sideways(file, z, numbers, s, s2, t);
+}

@@ -1,0 +1,5 @@
+pub mod Outcomes
+pub mod Planning
+pub mod Table
+pub mod Weights
+pub mod Shown

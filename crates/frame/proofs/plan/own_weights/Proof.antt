@@ -1,0 +1,22 @@
+-- `frame::plan::own_weights` meets its contract. Assumes nothing.
+use Rattle.spec.specs.Frame.{ownWeights}
+use lib.Dec.{lit<}
+use borrow.Author.Tests.{eq-eqb, ne-eqb}
+use mathlib.Core.Path.{_∙_}
+use borrow.Author.Needs.{needs}
+use Rattle.frame.proofs.plan.own_weights.Statement.{statement}
+use Rattle.frame.proofs.plan.own_weights.Tie as tie
+
+returns : tie.Need-returns
+unfolding ownWeights
+returns c = (simp (eq-eqb _ _ (c .if1 .taken)), lit< tt)
+
+product-requires : tie.Need-product-requires
+product-requires c κs = search needs
+
+returns-2 : tie.Need-returns-2
+unfolding ownWeights
+returns-2 c = (c .product .ensures .0 ∙ simp (ne-eqb _ _ (c .before .before .if1 .left)), c .product .ensures .1)
+
+pub own-weights-spec : {M : Type 1} → statement M
+own-weights-spec = tie.close (tie.spec returns product-requires returns-2)

@@ -1,0 +1,3 @@
+pub mod Parts
+pub mod Weights
+pub mod Open

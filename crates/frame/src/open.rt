@@ -1,0 +1,121 @@
+// An opened frame: the caller's bytes beside the trailer, and the parts of them that it shows. A refused file is opened too, with its refusal and a
+// blank trailer, so that it shows nothing and no function here asks anything of its caller.
+use crate::check;
+use crate::plan;
+use crate::read;
+use spec::Settings;
+use spec::Trailer;
+use spec::Verdict;
+ghost use mathlib.Core.Path.{_≡_};
+ghost use Rattle.spec.specs.Refusal.{numbered};
+ghost use Rattle.spec.specs.Checks.{verdict};
+ghost use Rattle.frame.specs.Open.{shown, blankTrailer, opened, Opens, planeOf};
+
+pub enum Plane {
+    Values,
+    Guides,
+    Table,
+}
+
+// What the checks say of a file, and its trailer; a blank one where they refuse it.
+pub struct Head {
+    pub verdict: Verdict,
+    pub trailer: Trailer,
+}
+
+// n bytes from so far back from the trailer; none where the file has no such part.
+pub fn part(file: &[u8], back: usize, n: usize) -> &[u8]
+    ensures { λ r. ⌜ now r ≡ shown (now (file .entry)) back n ⌝ }
+{
+    if file.len() < read::TRAILER {
+        return &file[0..0];
+    }
+    let at = file.len() - read::TRAILER;
+    if at < back {
+        return &file[0..0];
+    }
+    if back < n {
+        return &file[0..0];
+    }
+    let start = at - back;
+    let end = start + n;
+    &file[start..end]
+}
+
+fn blank() -> Trailer
+    ensures { λ r. ⌜ r ≡ blankTrailer ⌝ }
+{
+    let settings = Settings {
+        width: 0,
+        height: 0,
+        levels: 0,
+        guides: 0,
+        kind: 0,
+        radius: 0,
+        smoothing: 0,
+    };
+    Trailer {
+        settings,
+        value: 0,
+        guide: 0,
+        table: 0,
+    }
+}
+
+pub fn read_head(file: &[u8]) -> Head
+    ensures { λ r. ⌜ Opens (now (file .entry)) r ⌝ }
+{
+    let v = check::check(file);
+    if check::stops(v) {
+        let none = blank();
+        return Head {
+            verdict: v,
+            trailer: none,
+        };
+    }
+    let t = read::trailer_of(file);
+    Head {
+        verdict: v,
+        trailer: t,
+    }
+}
+
+// The bytes of a plane or of the table, by a head.
+pub fn show(which: Plane, file: &[u8], h: Head) -> &[u8]
+    ensures { λ r. ⌜ now r ≡ planeOf which (now (file .entry)) (h .trailer) ⌝ }
+{
+    let t = h.trailer;
+    let k = t.settings;
+    match which {
+        Plane::Values => part(file, t.value, check::plane_bytes(k)),
+        Plane::Guides => part(file, t.guide, check::plane_bytes(k)),
+        Plane::Table => part(file, t.table, 2 * plan::own_weights(t)),
+    }
+}
+
+// An opened frame. An enum can't hold a reference, so whether it is accepted is a field of its head.
+pub struct Frame<'a> {
+    pub file: &'a [u8],
+    pub head: Head,
+}
+
+pub fn open<'a>(file: &'a [u8]) -> Frame<'a>
+    ensures { λ r. ⌜ (r .file ≡ file .entry) × (numbered (r .head .verdict) ≡ verdict (now (file .entry))) × (r .head .trailer ≡ opened (now (file .entry))) ⌝ }
+{
+    let head = read_head(file);
+    Frame { file, head }
+}
+
+// The bytes of a plane or of the table of an opened frame.
+pub fn bytes<'a>(which: Plane, f: Frame<'a>) -> &'a [u8]
+    ensures { λ r. ⌜ now r ≡ planeOf which (now (f .entry .file)) (f .entry .head .trailer) ⌝ }
+{
+    show(which, f.file, f.head)
+}
+
+// The bytes of a plane or of the table of a file.
+pub fn plane_of(which: Plane, file: &[u8]) -> &[u8]
+    ensures { λ r. ⌜ now r ≡ planeOf which (now (file .entry)) (opened (now (file .entry))) ⌝ }
+{
+    bytes(which, open(file))
+}

@@ -1,0 +1,4 @@
+pub mod Stores
+pub mod Writing
+pub mod RoundTrip
+pub mod Reopening

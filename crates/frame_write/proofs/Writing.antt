@@ -1,0 +1,179 @@
+-- Laws of the writer: its checks in their order, what an accepted writing has, and the file that is stored. Assumes nothing.
+use mathlib.Core.Path.{_≡_, refl, sym, ap, _∙_}
+use mathlib.Core.Bool.{Bool, true, false, true≢false, not, _&&_, _||_}
+use mathlib.Core.List.{List, _++_}
+use Prim.Native.Nat.{ℕ, _+_, _*_, _≤_}
+use native.Mathlib.Nat.{mul-le-mul, zero-add}
+use native.Mathlib.Omega.{arith}
+use lib.Dec.{ltb, eqb}
+use lib.ListN.{length, drop, length-append}
+use lib.Seq.{sets, sets-eq}
+use borrow.Author.Tests.{ltb-false, eqb-true, not-false}
+use Rattle.spec.specs.declared.Settings.{Settings}
+use Rattle.spec.specs.Bytes.{to16, to32, all16}
+use Rattle.spec.specs.Refusal.{Outcome, accepted, refused, _▷_, refuse, fires}
+use Rattle.spec.specs.Frame.{pixels, tableSize}
+use Rattle.spec.specs.Checks.{heaviest, settingsOutcome}
+use Rattle.spec.specs.Writer.{fieldBytes, distanceBytes, written, writtenSize, badLength, scanList, writerOutcome, stored}
+use Rattle.spec.proofs.Checks.{not-refused, both-accepted, not-fired, neither, both}
+use Rattle.spec.proofs.Limits.{settings-limits}
+use Rattle.frame.proofs.Outcomes.{past}
+use Rattle.frame_write.specs.Write.{reportOf, Fit}
+use Rattle.frame_write.proofs.Stores.{joined, length-all16}
+
+-- ---- the checks, one after the other
+module _ (k : Settings) (v g a : List ℕ) (room : ℕ) where
+  abbrev pub of-length : Outcome
+  of-length = refuse 6 (badLength k (length v) (length g) (length a))
+
+  abbrev pub of-values : Outcome
+  of-values = scanList v (k .levels) 0
+
+  abbrev pub of-guides : Outcome
+  of-guides = scanList g (k .guides) (2 * pixels k)
+
+  abbrev pub of-table : Outcome
+  of-table = scanList a (heaviest + 1) (4 * pixels k)
+
+  abbrev pub of-room : Outcome
+  of-room = refuse 11 (ltb room (writtenSize k (length a)))
+
+  pub past1 : {u : Outcome} → settingsOutcome k ≡ accepted → u ≡ (of-length ▷ of-values ▷ of-guides ▷ of-table ▷ of-room) → u ≡ writerOutcome k v g a room
+  unfolding writerOutcome
+  past1 = past (settingsOutcome k) (of-length ▷ of-values ▷ of-guides ▷ of-table ▷ of-room)
+
+  pub past2 : {u : Outcome} → settingsOutcome k ≡ accepted → of-length ≡ accepted → u ≡ (of-values ▷ of-guides ▷ of-table ▷ of-room) → u ≡ writerOutcome k v g a room
+  past2 s l e = past1 s (past of-length (of-values ▷ of-guides ▷ of-table ▷ of-room) l e)
+
+  pub past3 : {u : Outcome} → settingsOutcome k ≡ accepted → of-length ≡ accepted → of-values ≡ accepted → u ≡ (of-guides ▷ of-table ▷ of-room) → u ≡ writerOutcome k v g a room
+  past3 s l x e = past2 s l (past of-values (of-guides ▷ of-table ▷ of-room) x e)
+
+  pub past4 : {u : Outcome} → settingsOutcome k ≡ accepted → of-length ≡ accepted → of-values ≡ accepted → of-guides ≡ accepted → u ≡ (of-table ▷ of-room)
+      → u ≡ writerOutcome k v g a room
+  past4 s l x y e = past3 s l x (past of-guides (of-table ▷ of-room) y e)
+
+  pub past5 : {u : Outcome} → settingsOutcome k ≡ accepted → of-length ≡ accepted → of-values ≡ accepted → of-guides ≡ accepted → of-table ≡ accepted → u ≡ of-room
+      → u ≡ writerOutcome k v g a room
+  past5 s l x y z e = past4 s l x y (past of-table of-room z e)
+
+-- ---- what an accepted writing has passed, check by check
+pub record Passed (k : Settings) (v g a : List ℕ) (room : ℕ) : Type 0 where
+  pub settings : settingsOutcome k ≡ accepted
+  pub lengths : badLength k (length v) (length g) (length a) ≡ false
+  pub values : scanList v (k .levels) 0 ≡ accepted
+  pub guides : scanList g (k .guides) (2 * pixels k) ≡ accepted
+  pub table : scanList a (heaviest + 1) (4 * pixels k) ≡ accepted
+  pub space : ltb room (writtenSize k (length a)) ≡ false
+
+pub passes : (k : Settings) (v g a : List ℕ) (room : ℕ) → writerOutcome k v g a room ≡ accepted → Passed k v g a room
+unfolding writerOutcome
+passes k v g a room e =
+    let l = of-length k v g a room in
+    let x = of-values k v g a room in
+    let y = of-guides k v g a room in
+    let z = of-table k v g a room in
+    let r = of-room k v g a room in
+    let e1 = both-accepted (settingsOutcome k) (l ▷ x ▷ y ▷ z ▷ r) e in
+    let e2 = both-accepted l (x ▷ y ▷ z ▷ r) (e1 .1) in
+    let e3 = both-accepted x (y ▷ z ▷ r) (e2 .1) in
+    let e4 = both-accepted y (z ▷ r) (e3 .1) in
+    let e5 = both-accepted z r (e4 .1) in
+    record {
+      settings = e1 .0;
+      lengths = not-fired 6 _ (e2 .0);
+      values = e3 .0;
+      guides = e4 .0;
+      table = e5 .0;
+      space = not-fired 11 _ (e5 .1);
+    }
+
+-- the lengths that check 6 lets through: a table is empty, or of kind 1 and whole
+pub record Lengths (k : Settings) (v g a : ℕ) : Type 0 where
+  pub values : v ≡ pixels k
+  pub guides : g ≡ pixels k
+  pub table : eqb a 0 ≡ false → (k .kind ≡ 1) × (a ≡ tableSize k)
+
+table-shape : (k : Settings) (a : ℕ) → (not (eqb a 0) && not (eqb (k .kind) 1 && eqb a (tableSize k))) ≡ false → eqb a 0 ≡ false → (k .kind ≡ 1) × (a ≡ tableSize k)
+table-shape k a e h =
+    let s : not (eqb (k .kind) 1 && eqb a (tableSize k)) ≡ false = ap (λ (b : Bool). not b && not (eqb (k .kind) 1 && eqb a (tableSize k))) (sym h) ∙ e in
+    let q = both _ _ (not-false _ s) in
+    (eqb-true _ _ (q .0), eqb-true _ _ (q .1))
+
+pub lengths : (k : Settings) (v g a : ℕ) → badLength k v g a ≡ false → Lengths k v g a
+unfolding badLength
+lengths k v g a bad =
+    let bv = not (eqb v (pixels k)) in
+    let bg = not (eqb g (pixels k)) in
+    let ba = not (eqb a 0) && not (eqb (k .kind) 1 && eqb a (tableSize k)) in
+    let q = neither (bv || bg) ba bad in
+    let planes = neither bv bg (q .0) in
+    record { values = eqb-true _ _ (not-false _ (planes .0)); guides = eqb-true _ _ (not-false _ (planes .1)); table = table-shape k a (q .1) }
+
+table-few : (k : Settings) (a : ℕ) (x : Bool) → eqb a 0 ≡ x → k .guides ≤ 256 → (x ≡ false → (k .kind ≡ 1) × (a ≡ tableSize k)) → a ≤ 65536
+table-few k a true e h s = let z : a ≡ 0 = eqb-true _ _ e in omega arith
+table-few k a false e h s = rw (s refl .1) (mul-le-mul {n₂ = 256} h h)
+
+pub fit : (k : Settings) (v g a : List ℕ) (room : ℕ) → writerOutcome k v g a room ≡ accepted → Fit k v g a room
+fit k v g a room e =
+    let p = passes k v g a room e in
+    let ok = settings-limits k (p .settings) in
+    let l = lengths k (length v) (length g) (length a) (p .lengths) in
+    record {
+      few = ok .pixels-high;
+      values = l .values;
+      guides = l .guides;
+      table = table-few k (length a) _ refl (ok .guides-high) (l .table);
+      space = ltb-false _ _ (p .space);
+    }
+
+-- ---- the file, in its five pieces
+pub fields-long : (j : Settings) → length (fieldBytes j) ≡ 12
+unfolding fieldBytes to16
+fields-long j = refl
+
+pub distances-long : (n p : ℕ) → length (distanceBytes n p) ≡ 16
+unfolding distanceBytes to32 to16
+distances-long n p = refl
+
+joined0 : (l : List ℕ) (m : ℕ) (vs ws : List ℕ) {prev out : List ℕ} → prev ≡ sets l 0 vs → length vs ≡ m → out ≡ sets prev m ws → out ≡ sets l 0 (vs ++ ws)
+joined0 l m vs ws {prev} e n f = joined l 0 m vs ws e n (f ∙ ap (λ (j : ℕ). sets prev j ws) (sym (zero-add m)))
+
+pub file-stored : (l : List ℕ) (k : Settings) (v g a : List ℕ) {o1 o2 o3 o4 o5 : List ℕ} → length v ≡ pixels k → length g ≡ pixels k
+    → o1 ≡ sets l 0 (all16 v) → o2 ≡ sets o1 (2 * length v) (all16 g) → o3 ≡ sets o2 (4 * length v) (all16 a)
+    → o4 ≡ sets o3 (4 * length v + 2 * length a) (fieldBytes k) → o5 ≡ sets o4 (4 * length v + 2 * length a + 12) (distanceBytes (length a) (length v))
+    → o5 ≡ sets l 0 (written k v g a)
+unfolding written
+file-stored l k v g a hv hg e1 e2 e3 e4 e5 =
+    let n2 : length (all16 v ++ all16 g) ≡ 4 * length v = simp length-append (omega (arith, length-all16 v, length-all16 g)) in
+    let n3 : length ((all16 v ++ all16 g) ++ all16 a) ≡ 4 * length v + 2 * length a = simp length-append (omega (arith, length-all16 v, length-all16 g, length-all16 a)) in
+    let n4 : length (((all16 v ++ all16 g) ++ all16 a) ++ fieldBytes k) ≡ 4 * length v + 2 * length a + 12
+    = simp length-append (omega (arith, length-all16 v, length-all16 g, length-all16 a, fields-long k)) in
+    let f2 = joined0 l (2 * length v) (all16 v) (all16 g) e1 (length-all16 v) e2 in
+    let f3 = joined0 l (4 * length v) (all16 v ++ all16 g) (all16 a) f2 n2 e3 in
+    let f4 = joined0 l (4 * length v + 2 * length a) ((all16 v ++ all16 g) ++ all16 a) (fieldBytes k) f3 n3 e4 in
+    let f5 = joined0 l (4 * length v + 2 * length a + 12) (((all16 v ++ all16 g) ++ all16 a) ++ fieldBytes k) (distanceBytes (length a) (length v)) f4 n4 e5 in
+    f5 ∙ ap (λ (n : ℕ). sets l 0 ((((all16 v ++ all16 g) ++ all16 a) ++ fieldBytes k) ++ distanceBytes (length a) n)) hv
+
+pub written-long : (k : Settings) (v g a : List ℕ) → length v ≡ pixels k → length g ≡ pixels k → length (written k v g a) ≡ writtenSize k (length a)
+unfolding written writtenSize
+written-long k v g a hv hg =
+    simp length-append (omega (arith, length-all16 v, length-all16 g, length-all16 a, fields-long k, distances-long (length a) (pixels k)))
+
+pub file-placed : (k : Settings) (v g a old : List ℕ) {out : List ℕ} → Fit k v g a (length old) → out ≡ sets old 0 (written k v g a)
+    → out ≡ written k v g a ++ drop (length (written k v g a)) old
+file-placed k v g a old h e =
+    let n : 0 + length (written k v g a) ≤ length old = omega (arith, written-long k v g a (h .values) (h .guides), h .space) in
+    e ∙ sets-eq (written k v g a) old 0 n ∙ ap (λ (j : ℕ). written k v g a ++ drop j old) (zero-add (length (written k v g a)))
+
+-- ---- what the answer and the output say of an outcome
+pub declines : (o : Outcome) (m n : ℕ) → fires o ≡ true → reportOf o m ≡ reportOf o n
+declines accepted m n e = absurd (true≢false (sym e))
+declines (refused j l) m n e = refl
+
+pub keeps : (o : Outcome) (new old : List ℕ) → fires o ≡ true → old ≡ stored o new old
+keeps accepted new old e = absurd (true≢false (sym e))
+keeps (refused j l) new old e = refl
+
+pub saves : (o : Outcome) (new old : List ℕ) → o ≡ accepted → new ++ drop (length new) old ≡ stored o new old
+saves accepted new old e = refl
+saves (refused j l) new old e = absurd (not-refused e)

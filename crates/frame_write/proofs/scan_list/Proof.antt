@@ -1,0 +1,70 @@
+-- `frame_write::scan_list` meets its contract. The invariant: no number before place k is too large. Assumes nothing.
+use Rattle.spec.proofs.Checks.{scan-found, scan-none}
+use Rattle.spec.specs.Writer.{scanList}
+use borrow.Author.Needs.{needs}
+use lib.ListN.{length, getD}
+use borrow.Author.Count.{below-more}
+use Prim.Native.Nat.{ℕ, _-_, _≤_, _<_}
+use mathlib.Core.Path.{_∙_}
+use native.Mathlib.Omega.{arith}
+use Rattle.frame_write.proofs.scan_list.Statement.{statement}
+use Rattle.frame_write.proofs.scan_list.Tie as tie
+
+abbrev Inv-loop : tie.InvT-loop
+Inv-loop list limit offset k₀ k = (k ≤ length list) × ((j : ℕ) → j < k → getD list j 0 < limit)
+
+abbrev μ-loop : tie.MeasureT-loop
+μ-loop list limit offset k₀ k = length list - k
+
+loop-holds : tie.Need-loop-holds Inv-loop μ-loop
+loop-holds c = (omega arith, λ j h. absurd (omega arith))
+
+mul-if1 : tie.Need-mul-if1 Inv-loop μ-loop
+mul-if1 c = omega arith
+
+shared-slice-read-if1 : tie.Need-shared-slice-read-if1 Inv-loop μ-loop
+shared-slice-read-if1 c = omega arith
+
+mul-too-large : tie.Need-mul-too-large Inv-loop μ-loop
+mul-too-large c = omega arith
+
+add-too-large : tie.Need-add-too-large Inv-loop μ-loop
+add-too-large c = omega arith
+
+too-large-requires : tie.Need-too-large-requires Inv-loop μ-loop
+too-large-requires c κs = search needs
+
+returns : tie.Need-returns Inv-loop μ-loop
+unfolding scanList
+returns c = c .too-large .ensures ∙ scan-found _ _ _ _ (c .before .before .before .before .loop .k) (c .before .before .before .loop-test .taken) (c .before .if1 .taken) (c .before .before .before .before .loop .inv .1)
+
+add-k : tie.Need-add-k Inv-loop μ-loop
+add-k c = omega arith
+
+loop-less : tie.Need-loop-less Inv-loop μ-loop
+loop-less c = omega arith
+
+loop-again : tie.Need-loop-again Inv-loop μ-loop
+loop-again c = (omega arith, below-more _ _ (c .before .before .before .loop .inv .1) (c .if1 .left))
+
+returns-2 : tie.Need-returns-2 Inv-loop μ-loop
+unfolding scanList
+returns-2 c = scan-none _ _ _ _ (λ j h. c .before .loop .inv .1 j (omega arith))
+
+pub scan-list-spec : {M : Type 1} → statement M
+scan-list-spec =
+    tie.close
+    (tie.spec
+    Inv-loop
+    μ-loop
+    loop-holds
+    mul-if1
+    shared-slice-read-if1
+    mul-too-large
+    add-too-large
+    too-large-requires
+    returns
+    add-k
+    loop-less
+    loop-again
+    returns-2)

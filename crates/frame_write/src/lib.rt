@@ -1,0 +1,114 @@
+// The writer of a frame: checks first, then every byte straight to its place in the lent output. Any arguments are taken; a refusal changes no byte.
+pub mod put;
+
+use frame::check;
+use spec::Refusal;
+use spec::Settings;
+use spec::Verdict;
+ghost use mathlib.Core.Path.{_≡_};
+ghost use Prim.Native.Nat.{_<_};
+ghost use lib.ListN.{length};
+ghost use Rattle.spec.specs.Refusal.{numbered};
+ghost use Rattle.spec.specs.Writer.{badLength, scanList, writerOutcome};
+ghost use Rattle.frame_write.specs.Write.{reported, reportOf, Writes};
+
+// The file's length, or why nothing was written.
+pub enum Written {
+    Length(usize),
+    Refused(Refusal),
+}
+
+// Check 6: a plane of the wrong length, or a table that is neither empty nor, in kind 1, M·M.
+fn bad_length(k: Settings, v: usize, g: usize, a: usize) -> bool
+    ensures { λ r. ⌜ r ≡ badLength k v g a ⌝ }
+{
+    let p = check::product(k.width, k.height);
+    if v != p {
+        return true;
+    }
+    if g != p {
+        return true;
+    }
+    if a == 0 {
+        return false;
+    }
+    if k.kind != 1 {
+        return true;
+    }
+    let c = check::product(k.guides, k.guides);
+    a != c
+}
+
+// Check 7 of numbers that would begin at an offset.
+fn scan_list(list: &[u16], limit: u16, offset: usize) -> Verdict
+    requires { ⌜ offset < 1099511627776 ⌝ }
+    ensures { λ r. ⌜ numbered r ≡ scanList (now (list .entry)) limit offset ⌝ }
+{
+    let mut k = 0;
+    while k < list.len() {
+        if limit <= list[k] {
+            return check::too_large(offset + 2 * k);
+        }
+        k += 1;
+    }
+    Verdict::Accepted
+}
+
+// Checks 2 to 7 and 11 of what is to be written into an output of room bytes.
+fn check_writing(k: Settings, values: &[u16], guides: &[u16], table: &[u16], room: usize) -> Verdict
+    ensures { λ r. ⌜ numbered r ≡ writerOutcome k (now (values .entry)) (now (guides .entry)) (now (table .entry)) room ⌝ }
+{
+    let s = check::check_settings(k);
+    if check::stops(s) {
+        return s;
+    }
+    if bad_length(k, values.len(), guides.len(), table.len()) {
+        return Verdict::Refused(Refusal::Distance);
+    }
+    let p = check::product(k.width, k.height);
+    let v = scan_list(values, k.levels, 0);
+    if check::stops(v) {
+        return v;
+    }
+    let g = scan_list(guides, k.guides, 2 * p);
+    if check::stops(g) {
+        return g;
+    }
+    let a = scan_list(table, check::HEAVIEST + 1, 4 * p);
+    if check::stops(a) {
+        return a;
+    }
+    if room < 4 * p + 2 * table.len() + 28 {
+        return Verdict::Refused(Refusal::Room);
+    }
+    Verdict::Accepted
+}
+
+// The answer that a verdict leads to.
+fn answer(v: Verdict, n: usize) -> Written
+    ensures { λ r. ⌜ reported r ≡ reportOf (numbered v) n ⌝ }
+{
+    match v {
+        Verdict::Accepted => Written::Length(n),
+        Verdict::Refused(e) => Written::Refused(e),
+    }
+}
+
+// Writes value plane, guide plane, table and trailer without gaps from the output's first byte; an empty table means the built-in weights.
+pub fn write(
+    k: Settings,
+    values: &[u16],
+    guides: &[u16],
+    table: &[u16],
+    output: &mut [u8],
+) -> Written
+    ensures { λ r. ⌜ Writes k (now (values .entry)) (now (guides .entry)) (now (table .entry)) (now (output .entry)) r (now (output .exit)) ⌝ }
+{
+    let v = check_writing(k, values, guides, table, output.len());
+    if check::stops(v) {
+        return answer(v, 0);
+    }
+    put::put_file(output, k, values, guides, table);
+    let size = 4 * values.len() + 2 * table.len() + 28;
+    answer(v, size)
+}

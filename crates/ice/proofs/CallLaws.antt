@@ -1,0 +1,169 @@
+-- From what the checks and the loops say to the contracts of walk and filter.
+-- Assumes nothing.
+use Prim.Native.Nat.{ℕ, _+_, _*_, _≤_, _<_}
+use mathlib.Core.Path.{_≡_, refl, ap, ap₂, sym, _∙_, subst}
+use mathlib.Core.Bool.{Bool, true, false}
+use mathlib.Core.Logic.{_⊎_, inl, inr}
+use mathlib.Core.List.{List, _++_}
+use native.Mathlib.Nat.{mul-le-mul}
+use lib.IntN.{ℤ, pos}
+use lib.ListN.{length, take, drop, take-append-drop}
+use Rattle.spec.specs.declared.Settings.{Settings}
+use Rattle.spec.specs.declared.Plan.{Plan}
+use Rattle.spec.specs.declared.Room.{Room}
+use Rattle.spec.specs.declared.Verdict.{Verdict}
+use Rattle.spec.specs.declared.Way.{Way}
+use Rattle.spec.specs.declared.Way.the-variants.{Joint}
+use Rattle.spec.specs.Refusal.{Outcome, accepted, fires, numbered, _▷_}
+use Rattle.spec.specs.Frame.{Frame, settingsOf, planOf, pixels, frameOf}
+use Rattle.spec.specs.Checks.{verdict, Planned}
+use Rattle.spec.specs.Walk.{State, walkEnd, walkAnswers}
+use Rattle.spec.specs.Filter.{filtered, filterEnd}
+use Rattle.spec.specs.Median.{balance}
+use Rattle.spec.specs.Calls.{wayOf, roomOf, countsOf, wordsOf, walkChecks, walkOutcome, filterChecks, filterOutcome, balanceOutcome}
+use Rattle.spec.proofs.Limits.{Pixel}
+use Rattle.spec.proofs.Plans.{Facts, facts}
+use Rattle.spec.proofs.Calls.{way-serves, Fits, WalkAccepted, walk-accepted, FilterAccepted, filter-accepted, BalanceAccepted, balance-accepted}
+use Rattle.frame.specs.declared.plan.Opened.{Opened}
+use Rattle.frame.specs.Parts.{openedPlan}
+use Rattle.ice.specs.declared.Walked.{Walked}
+use Rattle.ice.specs.declared.Balanced.{Balanced}
+use Rattle.frame.specs.Weights.{weightCount}
+use Rattle.ways.specs.Visit.{settingsIn, Stores, lent, Fit, Serves}
+use Rattle.ice.specs.Result.{Finished, Zeroed}
+use Rattle.ice.specs.Contract.{Untouched, Ended, Walks, Filters, Balances}
+use Rattle.ways.proofs.EachLaws.{settings-same}
+use Rattle.ice.proofs.OutcomeLaws.{set-of, stopped, passed-on, fires-not, quiet}
+
+-- an opened file that no check refuses has its plan
+pub planned-of : {b : List ℕ} (h : Opened) → (numbered (h .verdict) ≡ verdict b) × (h .plan ≡ openedPlan b) → fires (numbered (h .verdict)) ≡ false → Planned b (h .plan)
+unfolding openedPlan
+planned-of {b} h e f =
+    let q : fires (verdict b) ≡ false = ap fires (sym (e .0)) ∙ f in
+    record { accepts = quiet (verdict b) q; plan = e .1 ∙ rw q refl }
+
+-- ---- the outcome, by who decides
+module _ (b : List ℕ) (own : Outcome) (v : Verdict) (e : numbered v ≡ verdict b) where
+  pub file-decides : fires (numbered v) ≡ true → numbered v ≡ (verdict b ▷ own)
+  file-decides f = e ∙ sym (stopped (verdict b) own (ap fires (sym e) ∙ f))
+
+pub own-decides : {b : List ℕ} {z : Plan} → Planned b z → (own : Settings → Outcome) → own (settingsIn z) ≡ (verdict b ▷ own (settingsOf b))
+own-decides {b} {z} k own =
+    ap own (settings-same k ∙ set-of b) ∙ sym (ap (λ (o : Outcome). o ▷ own (settingsOf b)) (k .accepts))
+
+-- ---- refused
+untouched : {v : Verdict} {r : Walked} (a : Stores) (out : List ℕ) → Zeroed v r → Untouched a a out out r
+untouched a out h = record { shifts = h .shifts; cut = h .cut; cells = h .cells; counts = refl; words = refl; numbers = refl; answers = refl }
+
+module _ (v : Verdict) (r : Walked) (h : Zeroed v r) (f : fires (numbered v) ≡ true) (a : Stores) (out : List ℕ) where
+  pub walks-refused : (b : List ℕ) (way s t : ℕ) (ms : List ℕ) → numbered v ≡ walkOutcome b way s t (length ms) (lent a) (length out) → Walks b way s t ms a a out out r
+  walks-refused b way s t ms e =
+      record { verdict = ap numbered (h .verdict) ∙ e; refused = λ _. untouched a out h; walked = λ q. absurd (fires-not (numbered v) f (e ∙ q)) }
+
+  pub filters-refused : (b : List ℕ) (way : ℕ) → numbered v ≡ filterOutcome b way (lent a) (length out) → Filters b way a a out out r
+  filters-refused b way e =
+      record { verdict = ap numbered (h .verdict) ∙ e; refused = λ _. untouched a out h; filtered = λ q. absurd (fires-not (numbered v) f (e ∙ q)) }
+
+-- ---- accepted
+whole : (n : ℕ) (front z a : List ℕ) → take n z ≡ front → drop n z ≡ drop n a → z ≡ front ++ drop n a
+whole n front z a e q = sym (take-append-drop n z) ∙ ap₂ (λ (x y : List ℕ). x ++ y) e q
+
+ended : {way : Way} {p : Frame} {x : State} {a z : Stores} {r : Walked} (due after : List ℕ) → Finished way p x a z r → after ≡ due → Ended way p x a z due after r
+ended {way} {p} {x} {a} {z} due after h e =
+    record {
+      shifts = h .shifts;
+      cut = h .cut;
+      cells = h .holds .cells;
+      counts = whole (roomOf way (p .set) .counts) (countsOf way p (x .column) (x .row)) (z .counts) (a .counts) (h .holds .counts) (h .kept .counts .beyond);
+      words = whole (roomOf way (p .set) .words) (wordsOf way p (x .column) (x .row)) (z .words) (a .words) (h .holds .words) (h .kept .words .beyond);
+      numbers = h .holds .numbers;
+      numbers-long = h .kept .numbers .long;
+      numbers-rest = h .kept .numbers .beyond;
+      answers = e;
+    }
+
+module _ (b : List ℕ) (way : ℕ) (y : Way) (ey : y ≡ wayOf way) (a z : Stores) (before after : List ℕ) (r : Walked) where
+  pub walks-done : (s t : ℕ) (ms : List ℕ) → walkOutcome b way s t (length ms) (lent a) (length before) ≡ accepted
+      → Finished y (frameOf b) (walkEnd (frameOf b) s t ms) a z r → after ≡ walkAnswers (frameOf b) s t ms ++ drop (length ms + 1) before
+      → Walks b way s t ms a z before after r
+  walks-done s t ms o h e =
+      record {
+        verdict = ap numbered (h .verdict) ∙ sym o;
+        refused = λ n. absurd (n o);
+        walked = λ _. subst (λ (q : Way). Ended q (frameOf b) (walkEnd (frameOf b) s t ms) a z (walkAnswers (frameOf b) s t ms ++ drop (length ms + 1) before) after r) ey (ended _ _ h e);
+      }
+
+  pub filters-done : filterOutcome b way (lent a) (length before) ≡ accepted → Finished y (frameOf b) (filterEnd (frameOf b)) a z r
+      → after ≡ filtered (frameOf b) ++ drop (pixels (frameOf b .set)) before → Filters b way a z before after r
+  filters-done o h e =
+      record {
+        verdict = ap numbered (h .verdict) ∙ sym o;
+        refused = λ n. absurd (n o);
+        filtered = λ _. subst (λ (q : Way). Ended q (frameOf b) (filterEnd (frameOf b)) a z (filtered (frameOf b) ++ drop (pixels (frameOf b .set)) before) after r) ey (ended _ _ h e);
+      }
+
+-- ---- what an accepted call hands on
+module _ {b : List ℕ} {z : Plan} (k : Planned b z) (way : ℕ) (y : Way) (ey : y ≡ wayOf way) where
+  serves-by : (wayOf way ≡ Joint) ⊎ (settingsOf b .kind ≡ 2) → Serves y z
+  serves-by (inl e) = inl (ey ∙ e)
+  serves-by (inr e) = inr (facts k .kind ∙ ap (λ (s : Settings). s .kind) (set-of b) ∙ e)
+
+  fits-by : (a : Stores) → Fits (roomOf (wayOf way) (settingsOf b)) (lent a) → Fit y (settingsIn z) a
+  fits-by a f =
+      let e : settingsOf b ≡ settingsIn z = sym (settings-same k ∙ set-of b) in
+      let g : Fits (roomOf y (settingsIn z)) (lent a) = subst (λ (q : Way). Fits (roomOf q (settingsIn z)) (lent a)) (sym ey) (subst (λ (s : Settings). Fits (roomOf (wayOf way) s) (lent a)) e f) in
+      record { counts = g .counts; words = g .words; numbers = g .numbers }
+
+  pub record Granted (s t n : ℕ) (a : Stores) (out : ℕ) : Type 0 where
+    pub serves : Serves y z
+    pub pixel : (s < z .width) × (t < z .height)
+    pub moves : n ≤ 1048576
+    pub fit : Fit y (settingsIn z) a
+    pub answers : n + 1 ≤ out
+
+  pub granted : (s t n : ℕ) (a : Stores) (out : ℕ) → walkOutcome b way s t n (lent a) out ≡ accepted → Granted s t n a out
+  granted s t n a out o =
+      let h = walk-accepted b way s t n (lent a) out o in
+      let f = facts k in
+      record {
+        serves = serves-by (way-serves (settingsOf b) way (h .serves));
+        pixel = (rw (f .width) (h .pixel .in-column), rw (f .height) (h .pixel .in-row));
+        moves = h .moves;
+        fit = fits-by a (h .room);
+        answers = h .answers;
+      }
+
+  pub record FilterGranted (a : Stores) (out : ℕ) : Type 0 where
+    pub serves : Serves y z
+    pub fit : Fit y (settingsIn z) a
+    pub plane : z .width * z .height ≤ out
+
+  pub filter-granted : (a : Stores) (out : ℕ) → filterOutcome b way (lent a) out ≡ accepted → FilterGranted a out
+  filter-granted a out o =
+      let h = filter-accepted b way (lent a) out o in
+      let f = facts k in
+      record {
+        serves = serves-by (way-serves (settingsOf b) way (h .serves));
+        fit = fits-by a (h .room);
+        plane = rw (f .width, f .height) (rw (sym (set-of b)) at (h .plane));
+      }
+
+-- ---- balance
+pub balances-refused : (b : List ℕ) (s t i : ℕ) (v : Verdict) (r : Balanced) → r .verdict ≡ v → r .balance ≡ pos 0 → fires (numbered v) ≡ true
+    → numbered v ≡ balanceOutcome b s t i → Balances b s t i r
+balances-refused b s t i v r ev eb f e =
+    record { verdict = ap numbered ev ∙ e; refused = λ _. eb; balanced = λ q. absurd (fires-not (numbered v) f (e ∙ q)) }
+
+pub balances-done : (b : List ℕ) (s t i : ℕ) (r : Balanced) → numbered (r .verdict) ≡ balanceOutcome b s t i → balanceOutcome b s t i ≡ accepted
+    → r .balance ≡ balance (frameOf b) s t i → Balances b s t i r
+balances-done b s t i r e o q = record { verdict = e; refused = λ n. absurd (n o); balanced = λ _. q }
+
+pub balance-granted : {b : List ℕ} {z : Plan} → Planned b z → (s t i : ℕ) → balanceOutcome b s t i ≡ accepted → (s < z .width) × (t < z .height)
+balance-granted {b} k s t i o =
+    let h = balance-accepted b s t i o in
+    let f = facts k in
+    (rw (f .width) (h .pixel .in-column), rw (f .height) (h .pixel .in-row))
+
+-- ---- room for the weights of any table
+pub weights-fit : {b : List ℕ} {z : Plan} → Planned b z → weightCount b ≤ 65536
+weights-fit {b} k = let f = facts k in mul-le-mul (f .limits .sound .guides-high) (f .limits .sound .guides-high)

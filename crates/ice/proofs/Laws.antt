@@ -1,0 +1,161 @@
+-- Stores over several calls, one byte of a walk, and the two loops: each loop's invariant and what a turn does to it, over plain values.
+-- Assumes nothing.
+use Prim.Native.Nat.{ℕ, zero, suc, _+_, _-_, _*_, _/_, _%_, _≤_, _<_}
+use mathlib.Core.Path.{_≡_, refl, ap, sym, _∙_, subst}
+use mathlib.Core.Bool.{Bool, true, false}
+use mathlib.Core.Logic.{_⊎_, inl, inr}
+use mathlib.Core.List.{List, [], _∷_, _++_, append-assoc}
+use native.Mathlib.Omega.{arith}
+use native.Mathlib.Numerals.{add-one}
+use lib.ListN.{length, getD, take, drop, set, length-append, length-take, length-drop, length-set}
+use lib.Seq.{take-suc, take-length, drop-cons, set-at, set-split, drop-set-lt}
+use lib.IntN.{ℤ}
+use lib.Dec.{ltb, eqb}
+use borrow.Author.Tests.{ltb-true, eqb-true}
+use Rattle.spec.specs.declared.Settings.{Settings}
+use Rattle.spec.specs.declared.Plan.{Plan}
+use Rattle.spec.specs.declared.Way.{Way}
+use Rattle.spec.specs.declared.Move.{Move}
+use Rattle.spec.specs.declared.Move.the-variants.{To, Nowhere}
+use Rattle.spec.specs.Base.{if_then_else_}
+use Rattle.spec.specs.Frame.{Frame, frameOf}
+use Rattle.spec.specs.Checks.{Planned}
+use Rattle.spec.specs.Walk.{State, arrive, toIf, move, follow, step, after, answers}
+use Rattle.spec.specs.Calls.{roomOf}
+use Rattle.spec.proofs.Limits.{FrameLimits, Pixel}
+use Rattle.spec.proofs.Plans.{Facts, facts}
+use Rattle.spec.proofs.Steps.{after-one, length-answers}
+use Rattle.spec.proofs.Walks.{Held, held-step, step-to, step-nowhere}
+use Rattle.window.specs.Line.{Adjacent, right, left, down, up}
+use Rattle.ways.specs.declared.Visit.{Visit}
+use Rattle.ways.specs.Visit.{settingsIn, Stores, Fit, Left, Kept, stateOf, Within, AtWindow, Visited, Carried}
+use Rattle.ways.proofs.EachLaws.{settings-same}
+
+-- ---- stores over several calls
+pub left-same : (n : ℕ) (a : List ℕ) → Left n a a
+left-same n a = record { long = refl; beyond = refl }
+
+pub left-trans : (n : ℕ) (a b c : List ℕ) → Left n a b → Left n b c → Left n a c
+left-trans n a b c x y = record { long = y .long ∙ x .long; beyond = y .beyond ∙ x .beyond }
+
+pub left-set : (a : List ℕ) (i n x : ℕ) → i < n → Left n a (set a i x)
+left-set a i n x h = record { long = length-set a i x; beyond = drop-set-lt n a i x h }
+
+pub kept-same : (way : Way) (k : Settings) (z : Stores) → Kept way k z z
+kept-same way k z = record { counts = left-same _ _; words = left-same _ _; numbers = left-same _ _ }
+
+pub kept-trans : (way : Way) (k : Settings) (a b c : Stores) → Kept way k a b → Kept way k b c → Kept way k a c
+kept-trans way k a b c x y =
+    record {
+      counts = left-trans _ _ _ _ (x .counts) (y .counts);
+      words = left-trans _ _ _ _ (x .words) (y .words);
+      numbers = left-trans _ _ _ _ (x .numbers) (y .numbers);
+    }
+
+pub fit-kept : (way : Way) (k : Settings) (a z : Stores) → Fit way k a → Kept way k a z → Fit way k z
+fit-kept way k a z f h =
+    record {
+      counts = omega (arith, f .counts, h .counts .long);
+      words = omega (arith, f .words, h .words .long);
+      numbers = omega (arith, f .numbers, h .numbers .long);
+    }
+
+-- ---- where a byte leads: to a neighbour
+to-is : (b : Bool) (x y s t : ℕ) → toIf b x y ≡ To s t → (b ≡ true) × (s ≡ x) × (t ≡ y)
+to-is true x y s t e = (refl, cc, cc)
+to-is false x y s t e = let z : _≡_ {A = ℕ} 0 1 = cc in absurd (omega arith)
+
+pub move-adjacent : (z : Plan) (s t b s′ t′ : ℕ) → s < z .width → t < z .height → move (settingsIn z) s t b ≡ To s′ t′ → Adjacent z s t s′ t′
+unfolding move
+move-adjacent z s t b s′ t′ hs ht = by (eqb b 0) (eqb b 1) (eqb b 2) (eqb b 3)
+  where
+    by : (b0 b1 b2 b3 : Bool)
+        → (if b0 then toIf (ltb (s + 1) (z .width)) (s + 1) t else if b1 then toIf (ltb 0 s) (s - 1) t
+        else if b2 then toIf (ltb (t + 1) (z .height)) s (t + 1) else if b3 then toIf (ltb 0 t) s (t - 1) else Nowhere 65533) ≡ To s′ t′
+        → Adjacent z s t s′ t′
+    by true b1 b2 b3 e = let q = to-is (ltb (s + 1) (z .width)) (s + 1) t s′ t′ e in right (q .1) (q .2) (omega (arith, q .1, ltb-true (s + 1) (z .width) (q .0))) ht
+    by false true b2 b3 e = let q = to-is (ltb 0 s) (s - 1) t s′ t′ e in left (omega (arith, q .1, ltb-true 0 s (q .0))) (q .2) hs ht
+    by false false true b3 e = let q = to-is (ltb (t + 1) (z .height)) s (t + 1) s′ t′ e in down (q .1) (q .2) hs (omega (arith, q .2, ltb-true (t + 1) (z .height) (q .0)))
+    by false false false true e = let q = to-is (ltb 0 t) s (t - 1) s′ t′ e in up (q .1) (omega (arith, q .2, ltb-true 0 t (q .0))) hs ht
+    by false false false false e = let q : _≡_ {A = ℕ} 0 1 = cc in absurd (omega arith)
+
+-- ---- one byte, from a visit x: it moves, or it stays
+module _ (way : Way) {b : List ℕ} {z : Plan} (k : Planned b z) (x : Visit) (byte : ℕ) (d : List ℤ) (v : Visit) where
+  pub visited-moves : (a s : Stores) (column row : ℕ) → move (settingsIn z) (x .column) (x .row) byte ≡ To column row
+      → Visited way b (arrive (frameOf b) column row (x .cut .0) (x .shifts)) a s d v
+      → Visited way b (step (frameOf b) (stateOf x) byte) a s d v
+  visited-moves a s column row e h =
+      let m : move (frameOf b .set) (x .column) (x .row) byte ≡ To column row = rw (settings-same k) at e in
+      subst (λ (y : State). Visited way b y a s d v) (sym (step-to (frameOf b) (stateOf x) byte column row m)) h
+
+  pub visited-stays : (s : Stores) (mark : ℕ) → move (settingsIn z) (x .column) (x .row) byte ≡ Nowhere mark → AtWindow way b s d v
+      → stateOf v ≡ record { column = x .column; row = x .row; cut = x .cut .0; shifts = x .shifts; said = mark }
+      → Visited way b (step (frameOf b) (stateOf x) byte) s s d v
+  visited-stays s mark e h q =
+      let m : move (frameOf b .set) (x .column) (x .row) byte ≡ Nowhere mark = rw (settings-same k) at e in
+      record { state = q ∙ sym (step-nowhere (frameOf b) (stateOf x) byte mark m); here = h; kept = kept-same way (frameOf b .set) s }
+
+-- ---- a walk's state is within the plan
+pub within-of : {b : List ℕ} {z : Plan} → Planned b z → (v : Visit) (n : ℕ) → Held (frameOf b) (stateOf v) n → n ≤ 1048577 → Within z v
+within-of {b} {z} k v n h l =
+    let f = facts k in
+    record {
+      column = rw (f .width) (h .in-column);
+      row = rw (f .height) (h .in-row);
+      cut = rw (f .levels) (h .cut-low);
+      shifts = omega (arith, h .shifts-low);
+    }
+
+-- ---- a list with one more byte
+pub answers-one : (p : Frame) (x : State) (bs : List ℕ) (b : ℕ) → answers p x (bs ++ (b ∷ [])) ≡ answers p x bs ++ (step p (after p x bs) b .said ∷ [])
+unfolding after answers
+answers-one p x [] b = refl
+answers-one p x (c ∷ bs) b = ap (λ (l : List ℕ). x .said ∷ l) (answers-one p (step p x c) bs b)
+
+-- the answer buffer, one answer on
+pub told-more : (front A A₀ : List ℕ) (i a : ℕ) → length front ≡ i + 1 → i + 1 < length A₀ → A ≡ front ++ drop (i + 1) A₀
+    → set A (i + 1) a ≡ (front ++ (a ∷ [])) ++ drop (i + 1 + 1) A₀
+told-more front A A₀ i a n l e =
+    let d : drop (i + 1) A₀ ≡ getD A₀ (i + 1) 0 ∷ drop (suc (i + 1)) A₀ = drop-cons A₀ (i + 1) 0 l in
+    let m : suc (i + 1) ≡ i + 1 + 1 = omega arith in
+    ap (λ (q : List ℕ). set q (i + 1) a) (e ∙ ap (λ (q : List ℕ). front ++ q) d)
+    ∙ set-at front (getD A₀ (i + 1) 0) (drop (suc (i + 1)) A₀) a (i + 1) n
+    ∙ ap (λ (q : ℕ). front ++ (a ∷ drop q A₀)) m ∙ sym (append-assoc front (a ∷ []) (drop (i + 1 + 1) A₀))
+
+-- ---- what holds in any loop of steps: i bytes of the list ms are done, from the state x; a are the stores where the loop begins
+pub record Going (way : Way) (b : List ℕ) (ms : List ℕ) (x : State) (a z : Stores) (d : List ℤ) (v : Visit) (i : ℕ) : Type 0 where
+  pub most : i ≤ length ms
+  pub visited : Visited way b (after (frameOf b) x (take i ms)) a z d v
+  pub held : Held (frameOf b) (stateOf v) (1 + i)
+
+module _ (way : Way) (b ms : List ℕ) where
+  pub going-start : (z : Stores) (d : List ℤ) (v : Visit) → AtWindow way b z d v → Held (frameOf b) (stateOf v) 1 → Going way b ms (stateOf v) z z d v 0
+  unfolding after
+  going-start z d v h on = record { most = omega arith; visited = record { state = refl; here = h; kept = kept-same way (frameOf b .set) z }; held = on }
+
+  pub going-more : (x : State) (a z : Stores) (d : List ℤ) (v : Visit) (i : ℕ) → Going way b ms x a z d v i → i < length ms → (byte : ℕ) → byte ≡ getD ms i 0
+      → (z′ : Stores) (d′ : List ℤ) (v′ : Visit) → Visited way b (step (frameOf b) (stateOf v) byte) z z′ d′ v′ → Going way b ms x a z′ d′ v′ (i + 1)
+  going-more x a z d v i w l byte eb z′ d′ v′ h =
+      let p = frameOf b in
+      let e : after p x (take (i + 1) ms) ≡ step p (stateOf v) byte =
+      rw (eb, add-one i, take-suc ms i 0 l) (after-one p x (take i ms) (getD ms i 0) ∙ ap (λ (q : State). step p q (getD ms i 0)) (sym (w .visited .state))) in
+      let j : suc (1 + i) ≡ 1 + (i + 1) = omega arith in
+      record {
+        most = omega arith;
+        visited = rw e (record { state = h .state; here = h .here; kept = kept-trans way _ a z z′ (w .visited .kept) (h .kept) });
+        held = subst (λ (n : ℕ). Held p (stateOf v′) n) j (subst (λ (q : State). Held p q (suc (1 + i))) (sym (h .state)) (held-step (w .held) byte));
+      }
+
+  pub going-end : (x y : State) (a₀ a z : Stores) (d : List ℤ) (v : Visit) (i : ℕ) → Going way b ms y a z d v i → length ms ≤ i → y ≡ x
+      → Kept way (frameOf b .set) a₀ a → Visited way b (after (frameOf b) x ms) a₀ z d v
+  going-end x y a₀ a z d v i w l e kept =
+      let j : i ≡ length ms = omega (arith, w .most) in
+      let all : take i ms ≡ ms = ap (λ (n : ℕ). take n ms) j ∙ take-length ms in
+      let s : after (frameOf b) y (take i ms) ≡ after (frameOf b) x ms = cc in
+      let h : Visited way b (after (frameOf b) x ms) a z d v = rw s at (w .visited) in
+      record { state = h .state; here = h .here; kept = kept-trans way _ a₀ a z kept (h .kept) }
+
+-- what a turn's call asks: room is kept
+pub fit-going : (way : Way) {b : List ℕ} {z : Plan} → Planned b z → (a₀ a s : Stores) → Fit way (settingsIn z) a₀ → Kept way (frameOf b .set) a₀ a
+    → Kept way (frameOf b .set) a s → Fit way (settingsIn z) s
+fit-going way {b} {z} k a₀ a s h x y = let e = sym (settings-same k) in fit-kept way (settingsIn z) a₀ s h (rw e at (kept-trans way (frameOf b .set) a₀ a s x y))

@@ -1,0 +1,6 @@
+pub mod OutcomeLaws
+pub mod Laws
+pub mod WalkLoop
+pub mod FilterLoop
+pub mod CallLaws
+pub mod Demands

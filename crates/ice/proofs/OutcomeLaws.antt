@@ -1,0 +1,76 @@
+-- The calls' own checks against their definitions, and what a refused or accepted call has.
+-- Assumes nothing.
+use Prim.Native.Nat.{ℕ, _+_, _*_, _/_, _≤_, _<_}
+use mathlib.Core.Path.{_≡_, refl, sym, ap, _∙_, subst}
+use mathlib.Core.Bool.{Bool, true, false, true≢false}
+use mathlib.Core.List.{List}
+use native.Mathlib.Omega.{arith}
+use native.Mathlib.Nat.{mul-le-mul, le-trans}
+use lib.ListN.{length}
+use Rattle.spec.specs.declared.Settings.{Settings}
+use Rattle.spec.specs.declared.Plan.{Plan}
+use Rattle.spec.specs.declared.Room.{Room}
+use Rattle.spec.specs.declared.Verdict.{Verdict}
+use Rattle.spec.specs.declared.Way.{Way}
+use Rattle.spec.specs.Calls.{wayOf, roomOf, lacks}
+use Rattle.spec.specs.Refusal.{Outcome, accepted, refused, fires, numbered, _▷_}
+use Rattle.spec.specs.Frame.{settingsOf, frameOf}
+use Rattle.spec.specs.Checks.{verdict, Planned}
+use Rattle.spec.proofs.Limits.{SettingsLimits, FrameLimits}
+use Rattle.spec.proofs.Plans.{Facts, facts}
+use Rattle.ways.specs.Visit.{settingsIn}
+use Rattle.ways.proofs.EachLaws.{settings-same}
+
+-- what a call said of a test, and how the branch went
+pub known : {flag test : Bool} {b : Bool} → flag ≡ test → flag ≡ b → test ≡ b
+known e q = sym e ∙ q
+
+-- what `way_of`, `needed` and `lacking` said together
+pub short-is : (n : ℕ) (k : Settings) (y : Way) (need have : Room) {flag b : Bool} → y ≡ wayOf n → need ≡ roomOf y k → flag ≡ lacks need have → flag ≡ b
+    → lacks (roomOf (wayOf n) k) have ≡ b
+short-is n k y need have ey en ef q = rw (← ey, ← en) (sym ef ∙ q)
+
+-- ---- sizes that `needed` multiplies
+pub record Products (z : Plan) : Type 0 where
+  pub cells : z .levels * z .guides ≤ 262144
+  pub words : z .levels * ((z .guides + 63) / 64) ≤ 4096
+  pub columns : z .width * z .levels ≤ 1048576
+  pub nodes : (2 * z .radius + 1) * (2 * z .radius + 1) ≤ 961
+  pub pixels : z .width * z .height ≤ 262144
+
+pub products : (z : Plan) → SettingsLimits (settingsIn z) → Products z
+products z h =
+    let side : 2 * z .radius + 1 ≤ 31 = omega (arith, h .radius-high) in
+    let few : (z .guides + 63) / 64 ≤ 4 = omega (arith, h .guides-high) in
+    record {
+      cells = mul-le-mul (h .levels-high) (h .guides-high);
+      words = mul-le-mul (h .levels-high) few;
+      columns = mul-le-mul (h .width-high) (h .levels-high);
+      nodes = mul-le-mul side side;
+      pixels = h .pixels-high;
+    }
+
+-- ---- the plan's settings are the file's
+pub set-of : (b : List ℕ) → frameOf b .set ≡ settingsOf b
+unfolding frameOf
+set-of b = refl
+
+pub settings-limits-in : {b : List ℕ} {z : Plan} → Planned b z → SettingsLimits (settingsIn z)
+settings-limits-in k = subst SettingsLimits (sym (settings-same k)) (facts k .limits .sound)
+
+-- ---- outcomes
+pub stopped : (x y : Outcome) → fires x ≡ true → (x ▷ y) ≡ x
+stopped accepted y e = absurd (true≢false (sym e))
+stopped (refused n l) y e = refl
+
+pub passed-on : (x y : Outcome) → fires x ≡ false → (x ▷ y) ≡ y
+passed-on accepted y e = refl
+passed-on (refused n l) y e = absurd (true≢false e)
+
+pub fires-not : (x : Outcome) → fires x ≡ true → x ≡ accepted → ⊥
+fires-not accepted e q = true≢false (sym e)
+fires-not (refused n l) e q = true≢false (ap fires q)
+
+pub quiet : (x : Outcome) → fires x ≡ false → x ≡ accepted
+quiet accepted e = refl
+quiet (refused n l) e = absurd (true≢false e)

@@ -1,0 +1,96 @@
+use borrow.Author.Tests.{eq-eqb, ne-eqb, lt-ltb, le-ltb, le-leb, lt-leb}
+use Rattle.spec.specs.Walk.{move}
+use borrow.Author.Needs.{needs}
+use Rattle.ice.proofs.walk.next.Statement.{statement}
+use Rattle.ice.proofs.walk.next.Tie as tie
+use Rattle.ice.proofs.walk.next.Reads as reads
+use Rattle.ice.proofs.walk.next.Lts as lts
+
+-- src/walk.rt:33:12
+add-if2 : tie.Need-add-if2
+add-if2 c = search needs
+
+-- src/walk.rt:34:29
+add-t8 : tie.Need-add-t8
+add-t8 c = search needs
+
+-- src/walk.rt:34:13
+returns : tie.Need-returns
+unfolding move
+returns c = search (needs, eq-eqb, ne-eqb, lt-ltb, le-ltb)
+
+-- src/walk.rt:36:9
+returns-2 : tie.Need-returns-2
+unfolding move
+returns-2 c = search (needs, eq-eqb, ne-eqb, lt-ltb, le-ltb)
+
+-- src/walk.rt:40:29
+sub-t10 : tie.Need-sub-t10
+sub-t10 c = search needs
+
+-- src/walk.rt:40:13
+returns-3 : tie.Need-returns-3
+unfolding move
+returns-3 c = search (needs, eq-eqb, ne-eqb, lt-ltb, le-ltb)
+
+-- src/walk.rt:42:9
+returns-4 : tie.Need-returns-4
+unfolding move
+returns-4 c = search (needs, eq-eqb, ne-eqb, lt-ltb, le-ltb)
+
+-- src/walk.rt:45:12
+add-if6 : tie.Need-add-if6
+add-if6 c = search needs
+
+-- src/walk.rt:46:37
+add-t13 : tie.Need-add-t13
+add-t13 c = search needs
+
+-- src/walk.rt:46:13
+returns-5 : tie.Need-returns-5
+unfolding move
+returns-5 c = search (needs, eq-eqb, ne-eqb, lt-ltb, le-ltb)
+
+-- src/walk.rt:48:9
+returns-6 : tie.Need-returns-6
+unfolding move
+returns-6 c = search (needs, eq-eqb, ne-eqb, lt-ltb, le-ltb)
+
+-- src/walk.rt:52:37
+sub-t15 : tie.Need-sub-t15
+sub-t15 c = search needs
+
+-- src/walk.rt:52:13
+returns-7 : tie.Need-returns-7
+unfolding move
+returns-7 c = search (needs, eq-eqb, ne-eqb, lt-ltb, le-ltb)
+
+-- src/walk.rt:54:9
+returns-8 : tie.Need-returns-8
+unfolding move
+returns-8 c = search (needs, eq-eqb, ne-eqb, lt-ltb, le-ltb)
+
+-- src/walk.rt:27:1
+returns-9 : tie.Need-returns-9
+unfolding move
+returns-9 c = search (needs, eq-eqb, ne-eqb, lt-ltb, le-ltb)
+
+pub next-spec : {M : Type 1} → statement M
+next-spec =
+    tie.close
+    (tie.spec
+    add-if2
+    add-t8
+    returns
+    returns-2
+    sub-t10
+    returns-3
+    returns-4
+    add-if6
+    add-t13
+    returns-5
+    returns-6
+    sub-t15
+    returns-7
+    returns-8
+    returns-9)

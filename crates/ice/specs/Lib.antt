@@ -1,0 +1,3 @@
+pub mod Result
+pub mod Contract
+pub mod Demands

@@ -1,0 +1,168 @@
+// The walk: its checks, its loop, one byte of its list.
+use crate::Walked;
+use spec::Level;
+use spec::Move;
+use spec::Plan;
+use spec::Verdict;
+use spec::Way;
+use ways::Visit;
+use ways::dispatch;
+ghost use mathlib.Core.Path.{_≡_};
+ghost use mathlib.Core.List.{_++_};
+ghost use Prim.Native.Nat.{ℕ, _+_, _<_, _≤_};
+ghost use lib.ListN.{length, drop};
+ghost use Rattle.spec.specs.Frame.{frameOf};
+ghost use Rattle.spec.specs.Checks.{Planned};
+ghost use Rattle.spec.specs.Walk as definitions;
+ghost use Rattle.spec.specs.Calls.{zeros};
+ghost use Rattle.spec.proofs.Limits.{SettingsLimits};
+ghost use Rattle.joint_search.specs.Arrive.{WeightRows};
+ghost use Rattle.ways.specs.Visit.{settingsIn, stateOf, stores, Fit, Serves, Within, AtWindow, Visited};
+ghost use Rattle.ice.specs.Result.{Finished};
+
+// Where a byte leads.
+pub fn next(z: Plan, column: usize, row: usize, byte: u8) -> Move
+    requires { ⌜ SettingsLimits (settingsIn z) ⌝ }
+    requires { ⌜ (column < z .width) × (row < z .height) ⌝ }
+    ensures { λ r. ⌜ r ≡ definitions.move (settingsIn z) column row byte ⌝ }
+{
+    if byte == 0 {
+        if column + 1 < z.width {
+            return Move::To(column + 1, row);
+        }
+        return Move::Nowhere(65534);
+    }
+    if byte == 1 {
+        if 0 < column {
+            return Move::To(column - 1, row);
+        }
+        return Move::Nowhere(65534);
+    }
+    if byte == 2 {
+        if row + 1 < z.height {
+            return Move::To(column, row + 1);
+        }
+        return Move::Nowhere(65534);
+    }
+    if byte == 3 {
+        if 0 < row {
+            return Move::To(column, row - 1);
+        }
+        return Move::Nowhere(65534);
+    }
+    Move::Nowhere(65533)
+}
+
+// One byte of the list: the window that it leads to, or the mark.
+pub fn step(
+    file: &[u8],
+    z: Plan,
+    way: Way,
+    weights: &[u16],
+    visit: Visit,
+    byte: u8,
+    cells: &mut [i16; 256],
+    counts: &mut [u16],
+    words: &mut [u64],
+    numbers: &mut [u32],
+) -> Visit
+    requires { ⌜ (Planned (now file) z) × (WeightRows (now file) z (now weights)) × (Serves way z) ⌝ }
+    requires { ⌜ Within z visit ⌝ }
+    requires { ⌜ Fit way (settingsIn z) (stores (now counts) (now words) (now numbers)) ⌝ }
+    requires { ⌜ AtWindow way (now file) (stores (now counts) (now words) (now numbers)) (now cells) visit ⌝ }
+    ensures { λ r. ⌜ Visited way (now (file .entry)) (definitions.step (frameOf (now (file .entry))) (stateOf visit) byte) (stores (now (counts .entry)) (now (words .entry)) (now (numbers .entry))) (stores (now (counts .exit)) (now (words .exit)) (now (numbers .exit))) (now (cells .exit)) r ⌝ }
+{
+    let m = next(z, visit.column, visit.row, byte);
+    match m {
+        Move::To(column, row) => dispatch::slide(
+            file,
+            z,
+            way,
+            weights,
+            visit,
+            column,
+            row,
+            cells,
+            counts,
+            words,
+            numbers,
+        ),
+        Move::Nowhere(mark) => {
+            let cut = visit.cut;
+            let carry = visit.carry;
+            Visit {
+                column: visit.column,
+                row: visit.row,
+                cut,
+                shifts: visit.shifts,
+                answer: Level(mark),
+                carry,
+            }
+        }
+    }
+}
+
+// The walk's work, after the checks. The box comes and goes by value, and is lent inside.
+pub fn travel(
+    file: &[u8],
+    z: Plan,
+    way: Way,
+    weights: &[u16],
+    column: usize,
+    row: usize,
+    moves: &[u8],
+    cells: [i16; 256],
+    counts: &mut [u16],
+    words: &mut [u64],
+    numbers: &mut [u32],
+    answers: &mut [u16],
+) -> Walked
+    requires { ⌜ (Planned (now file) z) × (WeightRows (now file) z (now weights)) × (Serves way z) ⌝ }
+    requires { ⌜ (column < z .width) × (row < z .height) ⌝ }
+    requires { ⌜ length (now moves) ≤ 1048576 ⌝ }
+    requires { ⌜ Fit way (settingsIn z) (stores (now counts) (now words) (now numbers)) ⌝ }
+    requires { ⌜ length (now moves) + 1 ≤ length (now answers) ⌝ }
+    requires { ⌜ cells ≡ zeros ⌝ }
+    ensures { λ r. ⌜ Finished way (frameOf (now (file .entry))) (definitions.walkEnd (frameOf (now (file .entry))) column row (now (moves .entry))) (stores (now (counts .entry)) (now (words .entry)) (now (numbers .entry))) (stores (now (counts .exit)) (now (words .exit)) (now (numbers .exit))) r ⌝ }
+    ensures { λ _. ⌜ now (answers .exit) ≡ definitions.walkAnswers (frameOf (now (file .entry))) column row (now (moves .entry)) ++ drop (length (now (moves .entry)) + 1) (now (answers .entry)) ⌝ }
+{
+    let mut held = cells;
+    let mut visit = dispatch::enter(
+        file,
+        z,
+        way,
+        weights,
+        column,
+        row,
+        &mut held,
+        counts,
+        words,
+        numbers,
+    );
+    answers[0] = visit.answer.0;
+    let mut i = 0;
+    while i < moves.len() {
+        let then = step(
+            file,
+            z,
+            way,
+            weights,
+            visit,
+            moves[i],
+            &mut held,
+            counts,
+            words,
+            numbers,
+        );
+        visit = then;
+        i += 1;
+        answers[i] = visit.answer.0;
+    }
+    let cut = visit.cut;
+    Walked {
+        verdict: Verdict::Accepted,
+        shifts: visit.shifts,
+        cut,
+        cells: held,
+    }
+}

@@ -1,0 +1,199 @@
+-- Laws of the start: zeros hold no pixel, and the window's columns, one after the other, make the window.
+-- Assumes nothing.
+use mathlib.Core.Path.{_≡_, refl, sym, ap, ap₂, _∙_}
+use mathlib.Core.Bool.{true}
+use mathlib.Core.List.{List, _++_}
+use Prim.Native.Nat.{ℕ, zero, suc, _+_, _-_, _*_, _/_, _%_, _^_, _≤_, _<_, min}
+use native.Mathlib.Nat.{mul-le-mul}
+use native.Mathlib.Numerals.{add-one}
+use native.Mathlib.Omega.{arith}
+use lib.Arith.{digits-lt}
+use lib.Dec.{lit<}
+use lib.ListN.{length, getD, set, drop, replicate, length-append, length-replicate, length-drop, getD-replicate, List·getD-append, replicate-append-replicate}
+use lib.Seq.{drop-cons, set-at, append-snoc, drop-at}
+use lib.IntN.{ℤ, pos, _+ℤ_}
+use Rattle.spec.specs.declared.Plan.{Plan}
+use Rattle.spec.specs.Base.{sum, sumℤ}
+use Rattle.spec.specs.Frame.{frameOf}
+use Rattle.spec.specs.Checks.{Planned}
+use Rattle.spec.specs.Window.{span, count}
+use Rattle.spec.proofs.Plans.{pixel-of}
+use Rattle.spec.proofs.Levels.{cell}
+use Rattle.window.specs.declared.line.Line.{Line}
+use Rattle.window.specs.Line.{columnLine, InPlanes, lineFold}
+use Rattle.window.proofs.PixelLaws.{plan-limits, guides-high, levels-high}
+use Rattle.window.proofs.LineLaws.{fold-none, fold-more, columns-law, column-in}
+use Rattle.joint.specs.Bit.{bit}
+use Rattle.joint.specs.Store.{cellAt, wordAt, wordsPer, changed, changedℤ, countIn, hit}
+use Rattle.joint.specs.Line.{side, sideOf, lineCount, lineSide, Ready, Room, BoxRoom, Kept, Passed}
+use Rattle.joint.specs.Window.{JointAt, Fresh, Columns, Filled}
+use Rattle.joint.proofs.BitLaws.{bit-high}
+use Rattle.joint.proofs.RepLaws.{rep-eq, count-in}
+use Rattle.joint.proofs.LineLaws.{line-le, line-abs}
+use Rattle.joint.proofs.ListLaws.{rep-own, rep-self}
+use Rattle.joint.proofs.WindowLaws.{plan-cells, plan-words, joint-of}
+
+-- ---- zeros
+pub clear-next : (xs : List ℕ) (k : ℕ) → k < length xs → set (replicate k 0 ++ drop k xs) k 0 ≡ replicate (k + 1) 0 ++ drop (k + 1) xs
+clear-next xs k h =
+    ap (λ (q : List ℕ). set (replicate k 0 ++ q) k 0) (drop-cons xs k 0 h)
+    ∙ set-at (replicate k 0) (getD xs k 0) (drop (suc k) xs) 0 k (length-replicate k 0)
+    ∙ sym (append-snoc (replicate k 0) 0 (drop (suc k) xs))
+    ∙ ap₂ (λ (p q : List ℕ). p ++ q) (replicate-append-replicate k 1 0) (ap (λ (n : ℕ). drop n xs) (sym (add-one k)))
+
+pub clear-long : (xs : List ℕ) (k : ℕ) → k ≤ length xs → length (replicate k 0 ++ drop k xs) ≡ length xs
+clear-long xs k h = length-append (replicate k 0) (drop k xs) ∙ omega (arith, length-replicate {A = ℕ} k 0, length-drop k xs)
+
+clear-at : (xs : List ℕ) (n k : ℕ) → k < n → getD (replicate n 0 ++ drop n xs) k 0 ≡ 0
+clear-at xs n k h = List·getD-append (replicate n 0) (drop n xs) 0 k (rw (length-replicate {A = ℕ} n 0) h) ∙ getD-replicate n k 0 0 h
+
+clear-rest : (xs : List ℕ) (n : ℕ) → drop n (replicate n 0 ++ drop n xs) ≡ drop n xs
+clear-rest xs n = drop-at (replicate n 0) (drop n xs) n (length-replicate n 0)
+
+zero-box : (f : ℕ) → getD (replicate 256 (pos 0)) f (pos 0) ≡ pos 0
+zero-box f = go 256 f
+  where
+    go : (n f : ℕ) → getD (replicate n (pos 0)) f (pos 0) ≡ pos 0
+    go zero f = refl
+    go (suc n) zero = refl
+    go (suc n) (suc f) = go n f
+
+-- ---- the columns
+module _ {b : List ℕ} {z : Plan} (pl : Planned b z) where
+  abbrev L : ℕ
+  L = z .levels
+
+  abbrev M : ℕ
+  M = z .guides
+
+  abbrev K : ℕ
+  K = wordsPer (z .guides)
+
+  -- of the columns from x on, k of them: the pixels of level i and guide f, and what they add to cell f
+  abbrev columnsCount : ℕ → ℕ → ℕ → ℕ → ℕ → ℕ
+  columnsCount x t k i f = sum (λ a. lineFold _+_ 0 b (columnLine z a t) (λ v g. hit v g i f)) x k
+
+  abbrev columnsSide : ℕ → ℕ → ℕ → ℕ → ℕ → ℤ
+  columnsSide x t c k f = sumℤ (λ a. lineFold _+ℤ_ (pos 0) b (columnLine z a t) (sideOf c f)) x k
+
+  -- after the zeros nothing is held
+  pub cleared : (x t c : ℕ) {xs ws xs₁ ws₁ : List ℕ} → L * M ≤ length xs → L * K ≤ length ws → xs₁ ≡ replicate (L * M) 0 ++ drop (L * M) xs → ws₁ ≡ replicate (L * K) 0 ++ drop (L * K) ws
+      → (Filled b z x t c 0 xs₁ ws₁ xs₁ ws₁ (replicate 256 (pos 0))) × Kept z xs ws xs₁ ws₁
+  cleared x t c {xs} {ws} {xs₁} {ws₁} hx hw ex ew =
+      let lx : length xs₁ ≡ length xs = ap length ex ∙ clear-long xs (L * M) hx in
+      let lw : length ws₁ ≡ length ws = ap length ew ∙ clear-long ws (L * K) hw in
+      let cell0 : (i f : ℕ) → i < L → f < M → getD xs₁ (cellAt M i f) 0 ≡ 0 = λ i f h k. ap (λ (q : List ℕ). getD q (cellAt M i f) 0) ex ∙ clear-at xs (L * M) (cellAt M i f) (digits-lt h k) in
+      let word0 : (i j : ℕ) → i < L → j < K → getD ws₁ (i * K + j) 0 ≡ 0 = λ i j h k. ap (λ (q : List ℕ). getD q (i * K + j) 0) ew ∙ clear-at ws (L * K) (i * K + j) (digits-lt h k) in (
+        record {
+          cells = rw lx hx;
+          words = rw lw hw;
+          kept = record { long = refl; long-words = refl; rest = refl; rest-words = refl };
+          held = record {
+            outside = λ i g u h. fold-none _+_ 0 _ x;
+            cells = λ i f h k. cell0 i f h k ∙ sym (fold-none _+_ 0 _ x);
+            marks = λ i g h k. mark i g (word0 i (g / 64) h (omega arith));
+          };
+          low = λ i f h k. omega (arith, cell0 i f h k);
+          box-long = length-replicate 256 (pos 0);
+          box-low = λ f. rw (zero-box f) (omega arith);
+          box = λ f. zero-box f ∙ sym (fold-none _+ℤ_ (pos 0) _ x);
+        },
+        record {
+          long = lx;
+          long-words = lw;
+          rest = ap (drop (L * M)) ex ∙ clear-rest xs (L * M);
+          rest-words = ap (drop (L * K)) ew ∙ clear-rest ws (L * K);
+        },
+      )
+    where
+      mark : (i g : ℕ) → getD ws₁ (wordAt M i g) 0 ≡ 0 → bit (getD ws₁ (wordAt M i g) 0) (g % 64) ≡ min 1 (columnsCount x t 0 i g)
+      mark i g e = rw (e, fold-none _+_ 0 (λ a. lineFold _+_ 0 b (columnLine z a t) (λ v f. hit v f i g)) x) (bit-high 0 0 (g % 64) (lit< tt) (omega arith))
+
+  -- one column more
+  module _ {x n t c k : ℕ} {xs ws xs₁ ws₁ : List ℕ} {bx₁ : List ℤ} {d : Line} (co : Columns z x n t) (h : k < n) (fl : Filled b z x t c k xs ws xs₁ ws₁ bx₁) (ed : d ≡ columnLine z (x + k) t) where
+    in-planes : InPlanes z d
+    in-planes = rw ed (column-in (plan-limits pl) (x + k) t (omega (arith, co .wide)))
+
+    pub fill-asks : Ready b z xs₁ ws₁ × (InPlanes z d × Room true b z d xs₁ × BoxRoom (d .count) bx₁)
+    fill-asks = (
+      record {
+        planned = pl;
+        cells = rw (fl .kept .long) (fl .cells);
+        words = rw (fl .kept .long-words) (fl .words);
+        held = rep-self _ _ _ xs₁ ws₁ (fl .held);
+      },
+      (
+        in-planes,
+        record { fits = λ i f hi hf. omega (arith, fl .low i f hi hf, line-le b d (d .count) i f, in-planes .few, co .few) },
+        record { long = fl .box-long; room = λ f. omega (arith, fl .box-low f, in-planes .few, co .few) },
+      ),
+    )
+
+    pub fill-again : {xs₂ ws₂ : List ℕ} {bx₂ : List ℤ} → Passed true b z d c (d .count) xs₁ ws₁ bx₁ xs₂ ws₂ bx₂ → Filled b z x t c (k + 1) xs ws xs₂ ws₂ bx₂
+    unfolding changed changedℤ
+    fill-again {xs₂} {ws₂} g = record {
+      cells = fl .cells;
+      words = fl .words;
+      kept = record {
+        long = g .kept .long ∙ fl .kept .long;
+        long-words = g .kept .long-words ∙ fl .kept .long-words;
+        rest = g .kept .rest ∙ fl .kept .rest;
+        rest-words = g .kept .rest-words ∙ fl .kept .rest-words;
+      };
+      held = rep-eq _ _ _ _ xs₂ ws₂ (λ i f u. turn i f u) (g .held);
+      low = λ i f hi hf. omega (arith, g .held .cells i f hi hf, count-in M i f xs₁ hf, line-le b d (d .count) i f, fl .low i f hi hf, in-planes .few);
+      box-long = g .box-long ∙ fl .box-long;
+      box-low = λ f. rw (g .box f) (omega (arith, line-abs b d true c (d .count) f (getD bx₁ f (pos 0)), fl .box-low f, in-planes .few));
+      box = λ f. g .box f ∙ ap₂ (λ (u v : ℤ). u +ℤ v) (fl .box f) (ap (λ (q : Line). lineSide b q c (q .count) f) ed) ∙ sym (fold-more _+ℤ_ (pos 0) _ x k);
+    }
+      where
+        turn : (i f : ℕ) → i < L → countIn M xs₁ i f + lineCount b d (d .count) i f ≡ columnsCount x t (k + 1) i f
+        turn i f u = ap₂ (λ (p q : ℕ). p + q) (sym (rep-own _ _ _ xs₁ ws₁ (fl .held) i f u)) (ap (λ (q : Line). lineCount b q (q .count) i f) ed) ∙ sym (fold-more _+_ 0 _ x k)
+
+  -- all columns are the window
+  window-count : (s t i f : ℕ) → columnsCount (s - z .radius) t (span (z .radius) s (z .width)) i f ≡ count (frameOf b) s t i f
+  unfolding count hit
+  window-count s t i f = sym (columns-law _+_ 0 pl (λ v g. hit v g i f) s t)
+
+  window-cell : (s t c f : ℕ) → columnsSide (s - z .radius) t c (span (z .radius) s (z .width)) f ≡ cell (frameOf b) s t c f
+  unfolding cell sideOf side
+  window-cell s t c f = sym (columns-law _+ℤ_ (pos 0) pl (sideOf c f) s t)
+
+  pub cells-small : L * M ≤ 262144
+  cells-small = mul-le-mul {n₂ = 1024} (levels-high pl) (guides-high pl)
+
+  pub words-small : L * K ≤ 4096
+  words-small =
+      let m : K ≤ 4 = omega (arith, guides-high pl) in
+      mul-le-mul {n₂ = 1024} (levels-high pl) m
+
+-- ---- the whole start
+few : (r s w : ℕ) → r ≤ 15 → s < w → (s - r + span r s w ≤ w) × (span r s w ≤ 31)
+unfolding span
+few r s w h k = (omega arith, omega arith)
+
+module _ {b : List ℕ} {z : Plan} {s t c x n : ℕ} {xs ws xs₁ ws₁ : List ℕ} (fr : Fresh b z s t xs ws)
+    (ex : xs₁ ≡ replicate (z .levels * z .guides) 0 ++ drop (z .levels * z .guides) xs)
+    (ew : ws₁ ≡ replicate (z .levels * wordsPer (z .guides)) 0 ++ drop (z .levels * wordsPer (z .guides)) ws)
+    (e : x ≡ s - z .radius) (d : n ≡ span (z .radius) s (z .width)) where
+  zeros : (Filled b z x t c 0 xs₁ ws₁ xs₁ ws₁ (replicate 256 (pos 0))) × Kept z xs ws xs₁ ws₁
+  zeros = cleared (fr .planned) x t c (rw (plan-cells (fr .planned)) (fr .cells)) (rw (plan-words (fr .planned)) (fr .words)) ex ew
+
+  pub build-asks : (Planned b z × Columns z x n t) × Filled b z x t c 0 xs₁ ws₁ xs₁ ws₁ (replicate 256 (pos 0))
+  build-asks =
+      let r = few (z .radius) s (z .width) (plan-limits (fr .planned) .radius) (fr .column) in
+      ((fr .planned, record { wide = rw (e, d) (r .0); few = rw d (r .1); row = fr .row }), zeros .0)
+
+  pub built : {xs₂ ws₂ : List ℕ} {bx₂ : List ℤ} → ((k : ℕ) → getD ws₂ k 0 < 2 ^ 64) → Filled b z x t c n xs₁ ws₁ xs₂ ws₂ bx₂ → JointAt (frameOf b) s t c xs ws xs₂ ws₂ bx₂
+  built {xs₂} {ws₂} fit fl =
+      let kp = zeros .1 in
+      joint-of (fr .planned) (pixel-of (fr .planned) (fr .column) (fr .row))
+      (record {
+        long = fl .kept .long ∙ kp .long;
+        long-words = fl .kept .long-words ∙ kp .long-words;
+        rest = fl .kept .rest ∙ kp .rest;
+        rest-words = fl .kept .rest-words ∙ kp .rest-words;
+      })
+      (fr .cells) (fr .words)
+      (rep-eq _ _ _ (count (frameOf b) s t) xs₂ ws₂ (λ i f u. rw (e, d) (window-count (fr .planned) s t i f)) (fl .held)) fit
+      (fl .box-long) (λ f h. fl .box f ∙ rw (e, d) (window-cell (fr .planned) s t c f))

@@ -1,0 +1,4 @@
+pub mod Bit
+pub mod Store
+pub mod Line
+pub mod Window

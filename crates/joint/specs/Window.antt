@@ -1,0 +1,60 @@
+-- What the stores and the box hold for a window.
+-- Assumes nothing.
+use mathlib.Core.Path.{_≡_}
+use mathlib.Core.List.{List, _++_}
+use Prim.Native.Nat.{ℕ, _+_, _*_, _≤_, _<_}
+use lib.ListN.{length, getD, drop}
+use lib.IntN.{ℤ, pos, natAbs, _+ℤ_}
+use Rattle.spec.specs.declared.Plan.{Plan}
+use Rattle.spec.specs.Base.{sum, sumℤ}
+use Rattle.spec.specs.Frame.{Frame, frameOf}
+use Rattle.spec.specs.Checks.{Planned}
+use Rattle.spec.specs.Joint.{jointCounts, wordsPerLevel, occupancyWords, balanceBox}
+use Rattle.window.specs.Line.{columnLine, lineFold}
+use Rattle.joint.specs.Store.{cellAt, wordsPer, hit, Rep}
+use Rattle.joint.specs.Line.{sideOf, Kept}
+
+-- how many counts, and how many words
+abbrev pub cellCount : Frame → ℕ
+cellCount p = p .set .levels * p .set .guides
+
+abbrev pub wordCount : Frame → ℕ
+wordCount p = p .set .levels * wordsPerLevel (p .set)
+
+-- stores that held xs and ws now hold the window at (s, t), the rest of them as it was; and the box is the window's at the cut point c
+pub record JointAt (p : Frame) (s t c : ℕ) (xs ws xs′ ws′ : List ℕ) (bx′ : List ℤ) : Type 0 where
+  pub counts : xs′ ≡ jointCounts p s t ++ drop (cellCount p) xs
+  pub words : ws′ ≡ occupancyWords p s t ++ drop (wordCount p) ws
+  pub box : bx′ ≡ balanceBox p s t c
+
+-- a window of an accepted file, and the stores and the box that hold it
+pub record Held (b : List ℕ) (z : Plan) (s t c : ℕ) (xs ws : List ℕ) (bx : List ℤ) : Type 0 where
+  pub planned : Planned b z
+  pub column : s < z .width
+  pub row : t < z .height
+  pub joint : JointAt (frameOf b) s t c xs ws xs ws bx
+
+-- a window to be built, and stores that are long enough
+pub record Fresh (b : List ℕ) (z : Plan) (s t : ℕ) (xs ws : List ℕ) : Type 0 where
+  pub planned : Planned b z
+  pub column : s < z .width
+  pub row : t < z .height
+  pub cells : cellCount (frameOf b) ≤ length xs
+  pub words : wordCount (frameOf b) ≤ length ws
+
+-- n columns from column x of the windows of row t
+pub record Columns (z : Plan) (x n t : ℕ) : Type 0 where
+  pub wide : x + n ≤ z .width
+  pub few : n ≤ 31
+  pub row : t < z .height
+
+-- the first k of those columns are in the stores, which held xs and ws, and in the box
+pub record Filled (b : List ℕ) (z : Plan) (x t c k : ℕ) (xs ws xs′ ws′ : List ℕ) (bx′ : List ℤ) : Type 0 where
+  pub cells : z .levels * z .guides ≤ length xs
+  pub words : z .levels * wordsPer (z .guides) ≤ length ws
+  pub kept : Kept z xs ws xs′ ws′
+  pub held : Rep (z .levels) (z .guides) (λ i f. sum (λ a. lineFold _+_ 0 b (columnLine z a t) (λ v g. hit v g i f)) x k) xs′ ws′
+  pub low : (i f : ℕ) → i < z .levels → f < z .guides → getD xs′ (cellAt (z .guides) i f) 0 ≤ 31 * k
+  pub box-long : length bx′ ≡ 256
+  pub box-low : (f : ℕ) → natAbs (getD bx′ f (pos 0)) ≤ 31 * k
+  pub box : (f : ℕ) → getD bx′ f (pos 0) ≡ sumℤ (λ a. lineFold _+ℤ_ (pos 0) b (columnLine z a t) (sideOf c f)) x k

@@ -1,0 +1,104 @@
+// The stores and the box made for a window, whatever they held.
+use crate::line;
+use spec::Level;
+use spec::Plan;
+use window::line::column_line;
+use window::line::low;
+use window::line::span_of;
+ghost use mathlib.Core.Path.{_≡_};
+ghost use mathlib.Core.List.{_++_};
+ghost use Prim.Native.Nat.{_≤_};
+ghost use lib.ListN.{length, drop, replicate};
+ghost use Rattle.spec.specs.Frame.{frameOf};
+ghost use Rattle.spec.specs.Checks.{Planned};
+ghost use Rattle.joint.specs.Window.{JointAt, Fresh, Columns, Filled};
+
+// 0 in the first n places.
+pub fn clear_counts(s: &mut [u16], n: usize)
+    requires { ⌜ n ≤ length (now s) ⌝ }
+    ensures { λ _. ⌜ now (s .exit) ≡ replicate n 0 ++ drop n (now (s .entry)) ⌝ }
+{
+    let mut k = 0;
+    while k < n {
+        s[k] = 0;
+        k += 1;
+    }
+}
+
+pub fn clear_words(s: &mut [u64], n: usize)
+    requires { ⌜ n ≤ length (now s) ⌝ }
+    ensures { λ _. ⌜ now (s .exit) ≡ replicate n 0 ++ drop n (now (s .entry)) ⌝ }
+{
+    let mut k = 0;
+    while k < n {
+        s[k] = 0;
+        k += 1;
+    }
+}
+
+// Adds n columns from column x of the windows of row t to stores and a box that hold no pixel.
+pub fn fill(
+    file: &[u8],
+    z: Plan,
+    x: usize,
+    n: usize,
+    t: usize,
+    cut: Level,
+    cells: &mut [i16; 256],
+    counts: &mut [u16],
+    words: &mut [u64],
+)
+    requires { ⌜ (Planned (now file) z) × (Columns z x n t) ⌝ }
+    requires { ⌜ Filled (now file) z x t (cut .0) 0 (now counts) (now words) (now counts) (now words) (now cells) ⌝ }
+    ensures { λ _. ⌜ Filled (now (file .entry)) z x t (cut .0) n (now (counts .entry)) (now (words .entry)) (now (counts .exit)) (now (words .exit)) (now (cells .exit)) ⌝ }
+{
+    let mut k = 0;
+    while k < n {
+        let d = column_line(z, x + k, t);
+        line::change_line(file, z, d, true, cut, cells, counts, words);
+        k += 1;
+    }
+}
+
+// The stores and the lent box of the window at (s, t), at the cut point.
+pub fn build(
+    file: &[u8],
+    z: Plan,
+    s: usize,
+    t: usize,
+    cut: Level,
+    cells: &mut [i16; 256],
+    counts: &mut [u16],
+    words: &mut [u64],
+)
+    requires { ⌜ Fresh (now file) z s t (now counts) (now words) ⌝ }
+    ensures { λ _. ⌜ JointAt (frameOf (now (file .entry))) s t (cut .0) (now (counts .entry)) (now (words .entry)) (now (counts .exit)) (now (words .exit)) (now (cells .exit)) ⌝ }
+{
+    let l = z.levels;
+    let m = z.guides;
+    clear_counts(counts, l * m);
+    clear_words(words, l * ((m + 63) / 64));
+    *cells = [0i16; 256];
+    let x = low(s, z.radius);
+    let n = span_of(s, z.radius, z.width);
+    fill(file, z, x, n, t, cut, cells, counts, words);
+}
+
+// The same with the box by value, as document 01 passes it.
+pub fn start(
+    file: &[u8],
+    z: Plan,
+    s: usize,
+    t: usize,
+    cut: Level,
+    cells: [i16; 256],
+    counts: &mut [u16],
+    words: &mut [u64],
+) -> [i16; 256]
+    requires { ⌜ Fresh (now file) z s t (now counts) (now words) ⌝ }
+    ensures { λ r. ⌜ JointAt (frameOf (now (file .entry))) s t (cut .0) (now (counts .entry)) (now (words .entry)) (now (counts .exit)) (now (words .exit)) r ⌝ }
+{
+    let mut out = cells;
+    build(file, z, s, t, cut, &mut out, counts, words);
+    out
+}

@@ -1,0 +1,11 @@
+pub mod ScanLaws
+pub mod ShiftLaws
+pub mod SumLaws
+pub mod FormulaLaws
+pub mod FewLaws
+pub mod SearchLaws
+pub mod WeightlessLaws
+pub mod RowLaws
+pub mod ArriveLaws
+pub mod VisitLaws
+pub mod BalanceLaws

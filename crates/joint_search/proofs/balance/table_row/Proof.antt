@@ -1,0 +1,66 @@
+-- `table_row` meets its contract: after k turns the row has k weights. Assumes nothing.
+use native.Mathlib.Omega.{arith}
+use Prim.Native.Nat.{_-_, _≤_}
+use Rattle.spec.specs.Frame.{frameOf}
+use Rattle.window.proofs.PixelLaws.{guides-high}
+use Rattle.joint_search.proofs.BalanceLaws.{Rowed, row-start, row-next}
+use Rattle.joint_search.proofs.balance.table_row.Statement.{statement}
+use Rattle.joint_search.proofs.balance.table_row.Tie as tie
+
+abbrev Inv-loop : tie.InvT-loop
+Inv-loop file z f m out₀ k₀ out k =
+    (k ≤ m) × Rowed (frameOf file) k (f .0) out
+
+abbrev μ-loop : tie.MeasureT-loop
+μ-loop file z f m out₀ k₀ out k = m - k
+
+abbrev start : tie.At-loop Inv-loop μ-loop → tie.Start Inv-loop μ-loop
+start h = h .before .before
+
+loop-holds : tie.Need-loop-holds Inv-loop μ-loop
+loop-holds c = (omega arith, row-start _ _)
+
+cast-t9 : tie.Need-cast-t9 Inv-loop μ-loop
+cast-t9 c = let at = start (c .before) in omega (arith, c .loop-test .taken, guides-high (at .pre .0))
+
+table-weight-requires : tie.Need-table-weight-requires Inv-loop μ-loop
+table-weight-requires c κs = let at = start (c .before) in (at .pre .0, at .pre .1, c .loop-test .taken)
+
+mul-out : tie.Need-mul-out Inv-loop μ-loop
+mul-out c = let t = c .before in let at = start (t .before) in omega (arith, t .loop-test .taken, guides-high (at .pre .0), t .before .loop .inv .1 .long)
+
+array-write-out : tie.Need-array-write-out Inv-loop μ-loop
+array-write-out c = let t = c .before in let at = start (t .before) in omega (arith, t .loop-test .taken, guides-high (at .pre .0), t .before .loop .inv .1 .long)
+
+add-k : tie.Need-add-k Inv-loop μ-loop
+add-k c = let t = c .before in let at = start (t .before) in omega (arith, t .loop-test .taken, guides-high (at .pre .0), t .before .loop .inv .1 .long)
+
+loop-less : tie.Need-loop-less Inv-loop μ-loop
+loop-less c = omega (arith, c .before .loop-test .taken)
+
+loop-again : tie.Need-loop-again Inv-loop μ-loop
+loop-again c =
+    let t = c .before in
+    let at = start (t .before) in
+    (omega (arith, t .loop-test .taken), row-next (omega (arith, t .loop-test .taken, guides-high (at .pre .0))) (t .before .loop .inv .1) (c .table-weight .ensures))
+
+returns : tie.Need-returns Inv-loop μ-loop
+returns c =
+    let h = c .before in
+    record { long = h .loop .inv .1 .long; is = λ g l. h .loop .inv .1 .is g (omega (arith, h .loop .inv .0, c .loop-test .left)) }
+
+pub table-row-spec : {M : Type 1} → statement M
+table-row-spec =
+    tie.close
+    (tie.spec
+    Inv-loop
+    μ-loop
+    loop-holds
+    cast-t9
+    table-weight-requires
+    mul-out
+    array-write-out
+    add-k
+    loop-less
+    loop-again
+    returns)

@@ -1,0 +1,54 @@
+-- The rows of weights of both kinds, the sums that a walk carries, and what a window answers and adds to a walk.
+-- Assumes nothing.
+use mathlib.Core.Path.{_≡_}
+use mathlib.Core.List.{List, _++_}
+use Prim.Native.Nat.{ℕ, _+_, _≤_, _<_}
+use lib.ListN.{length, getD, drop}
+use lib.IntN.{ℤ}
+use Rattle.spec.specs.declared.Plan.{Plan}
+use Rattle.spec.specs.Frame.{Frame}
+use Rattle.spec.specs.Median.{median}
+use Rattle.spec.specs.Joint.{balanceBox}
+use Rattle.spec.specs.Walk.{arrive}
+use Rattle.frame.specs.Weights.{weightCount, tableList}
+use Rattle.window.specs.declared.sums.Sums.{Sums}
+use Rattle.window.specs.Sums.{SumsAt}
+use Rattle.joint.specs.Window.{JointAt}
+use Rattle.joint_search.specs.declared.find.Found.{Found}
+use Rattle.joint_search.specs.declared.visit.Visit.{Visit}
+use Rattle.joint_search.specs.declared.arrive.Arrival.{Arrival}
+
+-- a search rests at the answer after k shifts more than n, and the box is there
+pub record Answered (p : Frame) (s t k n : ℕ) (r : Found) (bx : List ℤ) : Type 0 where
+  pub level : r .level .0 ≡ median p s t
+  pub shifts : r .shifts ≡ n + k
+  pub box : bx ≡ balanceBox p s t (r .level .0)
+
+-- ---- rows of weights: the numbers 0 1 2 .. of kind 2, and the table of kind 1
+pub record Ramp (m : ℕ) (row : List ℕ) : Type 0 where
+  pub long : m ≤ length row
+  pub is : (f : ℕ) → f < m → getD row f 0 ≡ f
+
+pub record WeightRows (b : List ℕ) (z : Plan) (row : List ℕ) : Type 0 where
+  pub table : z .kind ≡ 1 → row ≡ tableList b ++ drop (weightCount b) row
+  pub ramp : z .kind ≡ 2 → Ramp (z .guides) row
+
+-- ---- a window's part in a walk, with the cut point c and n shifts before it
+
+-- the sums are carried in kind 2 alone
+pub record Carried (p : Frame) (s t : ℕ) (a : Sums) : Type 0 where
+  pub sums : p .set .kind ≡ 2 → SumsAt p s t a
+
+pub record Arrives (p : Frame) (s t c n : ℕ) (r : Arrival) (bx : List ℤ) : Type 0 where
+  pub answer : r .answer .0 ≡ arrive p s t c n .said
+  pub cut : r .cut .0 ≡ arrive p s t c n .cut
+  pub shifts : r .shifts ≡ arrive p s t c n .shifts
+  pub box : bx ≡ balanceBox p s t (r .cut .0)
+
+-- the same with the stores, which held xs and ws
+pub record Visited (p : Frame) (s t c n : ℕ) (r : Visit) (xs ws xs′ ws′ : List ℕ) (bx′ : List ℤ) : Type 0 where
+  pub joint : JointAt p s t (r .cut .0) xs ws xs′ ws′ bx′
+  pub carried : Carried p s t (r .sums)
+  pub answer : r .answer .0 ≡ arrive p s t c n .said
+  pub cut : r .cut .0 ≡ arrive p s t c n .cut
+  pub shifts : r .shifts ≡ arrive p s t c n .shifts

@@ -1,0 +1,29 @@
+-- What a pixel adds to the balance: its weight, taken off where its level is above the given one.
+-- Assumes nothing.
+use mathlib.Core.Path.{_≡_}
+use mathlib.Core.List.{List}
+use Prim.Native.Nat.{ℕ, _<_}
+use lib.ListN.{length, getD}
+use lib.IntN.{ℤ, _*ℤ_}
+use Rattle.spec.specs.declared.Plan.{Plan}
+use Rattle.spec.specs.Frame.{Frame, table, frameOf}
+use Rattle.spec.specs.Checks.{Planned}
+use Rattle.spec.specs.Weight.{weight}
+use Rattle.joint.specs.Line.{side}
+use Rattle.joint_search.specs.declared.formula.Formula.{Formula}
+use Rattle.joint_search.specs.Formula.{Weighs}
+
+unfoldable pub signedWeight : Frame → ℕ → ℕ → ℕ → ℕ → ℕ → ℤ
+signedWeight p s t c i g = side c i *ℤ weight p s t g
+
+-- a window of an accepted file, and a row that weighs it
+pub record Weighed (b : List ℕ) (z : Plan) (s t : ℕ) (ns : List ℕ) (w : Formula) : Type 0 where
+  pub planned : Planned b z
+  pub column : s < z .width
+  pub row : t < z .height
+  pub weighs : Weighs (frameOf b) s t ns w
+
+-- the table's row of a guide, in 256 numbers
+pub record TableRow (p : Frame) (m f : ℕ) (row : List ℕ) : Type 0 where
+  pub long : length row ≡ 256
+  pub is : (g : ℕ) → g < m → getD row g 0 ≡ table p f g

@@ -1,0 +1,6 @@
+pub mod Scan
+pub mod Box
+pub mod Formula
+pub mod Search
+pub mod Arrive
+pub mod Balance

@@ -1,0 +1,221 @@
+// A window's part in a walk: its answer, the cut point after it, and the shifts that it adds. A window without weight answers its centre's own level
+// and keeps both.
+use crate::answer;
+use crate::formula;
+use crate::formula::Formula;
+use crate::rows;
+use spec::Level;
+use spec::Plan;
+use window::coefficients;
+use window::pixel;
+use window::sums::Sums;
+ghost use mathlib.Core.Path.{_≡_};
+ghost use mathlib.Core.Bool.{true};
+ghost use Prim.Native.Nat.{_<_};
+ghost use Rattle.spec.specs.Frame.{frameOf};
+ghost use Rattle.spec.specs.Weight.{monotone};
+ghost use Rattle.spec.specs.Median.{balance, weightless};
+ghost use Rattle.spec.specs.Joint.{balanceBox};
+ghost use Rattle.joint_search.specs.Search.{Counted, Ready};
+ghost use Rattle.joint_search.specs.Arrive.{WeightRows, Carried, Arrives};
+
+pub struct Arrival {
+    pub answer: Level,
+    pub cut: Level,
+    pub shifts: u64,
+}
+
+// Whether no level weighs anything.
+pub fn none_weighs(
+    file: &[u8],
+    z: Plan,
+    weights: &[u16],
+    w: Formula,
+    s: usize,
+    t: usize,
+    counts: &[u16],
+    words: &[u64],
+) -> bool
+    requires { ⌜ Ready (now file) z s t (now counts) (now words) (now weights) w ⌝ }
+    requires { ⌜ monotone (frameOf (now file)) s t ≡ true ⌝ }
+    ensures { λ r. ⌜ r ≡ weightless (frameOf (now (file .entry))) s t ⌝ }
+{
+    let m = z.guides;
+    let l = z.levels as u16;
+    let mut i: u16 = 0;
+    while i < l {
+        let v = formula::level_weight(weights, w, Level(i), m, counts, words);
+        if 0 < v {
+            return false;
+        }
+        i += 1;
+    }
+    true
+}
+
+// The same where the balance at the cut point is known: only where it is 0 are the levels looked at.
+pub fn is_weightless(
+    file: &[u8],
+    z: Plan,
+    weights: &[u16],
+    w: Formula,
+    s: usize,
+    t: usize,
+    cut: Level,
+    bal: i64,
+    counts: &[u16],
+    words: &[u64],
+) -> bool
+    requires { ⌜ Ready (now file) z s t (now counts) (now words) (now weights) w ⌝ }
+    requires { ⌜ (monotone (frameOf (now file)) s t ≡ true) × (bal ≡ balance (frameOf (now file)) s t (cut .0)) × (cut .0 < frameOf (now file) .set .levels) ⌝ }
+    ensures { λ r. ⌜ r ≡ weightless (frameOf (now (file .entry))) s t ⌝ }
+{
+    if bal < 0 {
+        return false;
+    }
+    if 0 < bal {
+        return false;
+    }
+    none_weighs(file, z, weights, w, s, t, counts, words)
+}
+
+// Kind 1.
+pub fn arrive_table(
+    file: &[u8],
+    z: Plan,
+    weights: &[u16],
+    s: usize,
+    t: usize,
+    cut: Level,
+    shifts: u64,
+    cells: &mut [i16; 256],
+    counts: &[u16],
+    words: &[u64],
+) -> Arrival
+    requires { ⌜ (Counted (now file) z s t (now counts) (now words)) × (WeightRows (now file) z (now weights)) × (z .kind ≡ 1) ⌝ }
+    requires { ⌜ (cut .0 < frameOf (now file) .set .levels) × (shifts < 1099511627776) × (now cells ≡ balanceBox (frameOf (now file)) s t (cut .0)) ⌝ }
+    ensures { λ r. ⌜ Arrives (frameOf (now (file .entry))) s t (cut .0) shifts r (now (cells .exit)) ⌝ }
+{
+    let m = z.guides;
+    let w = rows::table_formula(file, z, weights, s, t);
+    let bal = formula::box_balance(cells, weights, w, m);
+    if is_weightless(file, z, weights, w, s, t, cut, bal, counts, words) {
+        let own = pixel::level_at(file, z, t * z.width + s);
+        return Arrival {
+            answer: own,
+            cut: cut,
+            shifts: shifts,
+        };
+    }
+    let found = answer::from_cut(
+        file,
+        z,
+        weights,
+        w,
+        s,
+        t,
+        cut,
+        bal,
+        shifts,
+        cells,
+        counts,
+        words,
+    );
+    let level = found.level;
+    Arrival {
+        answer: level,
+        cut: level,
+        shifts: found.shifts,
+    }
+}
+
+// Kind 2, by the window's sums: every window weighs something.
+pub fn arrive_guided(
+    file: &[u8],
+    z: Plan,
+    weights: &[u16],
+    a: Sums,
+    s: usize,
+    t: usize,
+    cut: Level,
+    shifts: u64,
+    cells: &mut [i16; 256],
+    counts: &[u16],
+    words: &[u64],
+) -> Arrival
+    requires { ⌜ (Counted (now file) z s t (now counts) (now words)) × (WeightRows (now file) z (now weights)) × (z .kind ≡ 2) × (Carried (frameOf (now file)) s t a) ⌝ }
+    requires { ⌜ (cut .0 < frameOf (now file) .set .levels) × (shifts < 1099511627776) × (now cells ≡ balanceBox (frameOf (now file)) s t (cut .0)) ⌝ }
+    ensures { λ r. ⌜ Arrives (frameOf (now (file .entry))) s t (cut .0) shifts r (now (cells .exit)) ⌝ }
+{
+    let m = z.guides;
+    let centre = pixel::guide_at(file, z, t * z.width + s);
+    let k = coefficients::from_sums(z, a, centre);
+    let w = rows::guided_formula(file, z, weights, s, t, k);
+    if coefficients::monotone(z, k) {
+        let bal = formula::box_balance(cells, weights, w, m);
+        let near = answer::from_cut(
+            file,
+            z,
+            weights,
+            w,
+            s,
+            t,
+            cut,
+            bal,
+            shifts,
+            cells,
+            counts,
+            words,
+        );
+        let level = near.level;
+        return Arrival {
+            answer: level,
+            cut: level,
+            shifts: near.shifts,
+        };
+    }
+    let far = answer::from_zero(
+        file,
+        z,
+        weights,
+        w,
+        s,
+        t,
+        cut,
+        k.total,
+        shifts,
+        cells,
+        counts,
+        words,
+    );
+    let level = far.level;
+    Arrival {
+        answer: level,
+        cut: level,
+        shifts: far.shifts,
+    }
+}
+
+// Either kind.
+pub fn arrive(
+    file: &[u8],
+    z: Plan,
+    weights: &[u16],
+    a: Sums,
+    s: usize,
+    t: usize,
+    cut: Level,
+    shifts: u64,
+    cells: &mut [i16; 256],
+    counts: &[u16],
+    words: &[u64],
+) -> Arrival
+    requires { ⌜ (Counted (now file) z s t (now counts) (now words)) × (WeightRows (now file) z (now weights)) × (Carried (frameOf (now file)) s t a) ⌝ }
+    requires { ⌜ (cut .0 < frameOf (now file) .set .levels) × (shifts < 1099511627776) × (now cells ≡ balanceBox (frameOf (now file)) s t (cut .0)) ⌝ }
+    ensures { λ r. ⌜ Arrives (frameOf (now (file .entry))) s t (cut .0) shifts r (now (cells .exit)) ⌝ }
+{
+    if z.kind == 2 {
+        return arrive_guided(file, z, weights, a, s, t, cut, shifts, cells, counts, words);
+    }
+    arrive_table(file, z, weights, s, t, cut, shifts, cells, counts, words)
+}

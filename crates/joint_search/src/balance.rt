@@ -1,0 +1,170 @@
+// Document 01's balance of a window at any level, 2U(i) - T, from the file alone: no stores, one pass over the window's pixels in 64 bits.
+use crate::formula;
+use crate::formula::Formula;
+use crate::rows;
+use frame::read;
+use frame::weight;
+use spec::Guide;
+use spec::Level;
+use spec::Plan;
+use window::coefficients;
+use window::line::Line;
+use window::line::column_line;
+use window::line::low;
+use window::line::span_of;
+use window::pixel;
+use window::sums;
+ghost use mathlib.Core.Path.{_≡_};
+ghost use Prim.Native.Nat.{_<_, _≤_};
+ghost use lib.IntN.{pos, natAbs, _+ℤ_, _*ℤ_};
+ghost use Rattle.spec.specs.Frame.{table, frameOf};
+ghost use Rattle.spec.specs.Checks.{Planned};
+ghost use Rattle.spec.specs.Median.{balance};
+ghost use Rattle.window.specs.Line.{InPlanes, lineFold};
+ghost use Rattle.joint.specs.Line.{side};
+ghost use Rattle.joint_search.specs.Formula.{Weighs};
+ghost use Rattle.joint_search.specs.Arrive.{Ramp};
+ghost use Rattle.joint_search.specs.Balance.{signedWeight, Weighed, TableRow};
+
+// A sum with a pixel's weight more, or less where the pixel's level is above the given one.
+pub fn add_signed(sum: i64, weight: i64, level: Level, top: Level) -> i64
+    requires { ⌜ (natAbs sum ≤ 173129780571075) × (natAbs weight ≤ 180155859075) ⌝ }
+    ensures { λ r. ⌜ r ≡ sum +ℤ side (top .0) (level .0) *ℤ weight ⌝ }
+{
+    if level.0 <= top.0 {
+        return sum + weight;
+    }
+    sum - weight
+}
+
+pub fn add(a: i64, b: i64) -> i64
+    requires { ⌜ (natAbs a ≤ 173129780571075) × (natAbs b ≤ 173129780571075) ⌝ }
+    ensures { λ r. ⌜ r ≡ a +ℤ b ⌝ }
+{
+    a + b
+}
+
+// What a line of the window adds.
+pub fn line_balance(
+    file: &[u8],
+    z: Plan,
+    weights: &[u16],
+    w: Formula,
+    s: usize,
+    t: usize,
+    d: Line,
+    top: Level,
+) -> i64
+    requires { ⌜ (Weighed (now file) z s t (now weights) w) × (InPlanes z d) ⌝ }
+    ensures { λ r. ⌜ r ≡ lineFold _+ℤ_ (pos 0) (now (file .entry)) d (signedWeight (frameOf (now (file .entry))) s t (top .0)) ⌝ }
+{
+    let row = w.row;
+    let slope = w.slope;
+    let offset = w.offset;
+    let first = d.first;
+    let stride = d.stride;
+    let n = d.count;
+    let mut sum: i64 = 0;
+    let mut k = 0;
+    while k < n {
+        let q = first + k * stride;
+        let level = pixel::level_at(file, z, q);
+        let g = pixel::guide_at(file, z, q);
+        let x = weights[row + (g.0 as usize)] as i64;
+        sum = add_signed(sum, formula::combine(slope, offset, x, 1), level, top);
+        k += 1;
+    }
+    sum
+}
+
+// The window's columns, one after the other.
+pub fn window_balance(
+    file: &[u8],
+    z: Plan,
+    weights: &[u16],
+    w: Formula,
+    s: usize,
+    t: usize,
+    top: Level,
+) -> i64
+    requires { ⌜ Weighed (now file) z s t (now weights) w ⌝ }
+    ensures { λ r. ⌜ r ≡ balance (frameOf (now (file .entry))) s t (top .0) ⌝ }
+{
+    let x = low(s, z.radius);
+    let n = span_of(s, z.radius, z.width);
+    let mut sum: i64 = 0;
+    let mut k = 0;
+    while k < n {
+        let d = column_line(z, x + k, t);
+        sum = add(sum, line_balance(file, z, weights, w, s, t, d, top));
+        k += 1;
+    }
+    sum
+}
+
+// What a pixel of guide g weighs in a window of kind 1 whose centre has guide f.
+pub fn table_weight(file: &[u8], z: Plan, f: Guide, g: Guide) -> u16
+    requires { ⌜ (Planned (now file) z) × (f .0 < z .guides) × (g .0 < z .guides) ⌝ }
+    ensures { λ r. ⌜ r ≡ table (frameOf (now (file .entry))) (f .0) (g .0) ⌝ }
+{
+    if z.weights == 0 {
+        return weight::built_in(f, g);
+    }
+    let k = (f.0 as usize) * z.guides + (g.0 as usize);
+    read::be16(file, z.table + 2 * k)
+}
+
+pub fn table_row(file: &[u8], z: Plan, f: Guide) -> [u16; 256]
+    requires { ⌜ (Planned (now file) z) × (f .0 < z .guides) ⌝ }
+    ensures { λ r. ⌜ TableRow (frameOf (now (file .entry))) (z .guides) (f .0) r ⌝ }
+{
+    let m = z.guides;
+    let mut out = [0u16; 256];
+    let mut k = 0;
+    while k < m {
+        out[k] = table_weight(file, z, f, Guide(k as u16));
+        k += 1;
+    }
+    out
+}
+
+// Kind 1.
+pub fn table_balance(file: &[u8], z: Plan, s: usize, t: usize, top: Level) -> i64
+    requires { ⌜ (Planned (now file) z) × (z .kind ≡ 1) × (s < z .width) × (t < z .height) ⌝ }
+    ensures { λ r. ⌜ r ≡ balance (frameOf (now (file .entry))) s t (top .0) ⌝ }
+{
+    let centre = pixel::guide_at(file, z, t * z.width + s);
+    let row = table_row(file, z, centre);
+    let w = Formula {
+        row: 0,
+        slope: 1,
+        offset: 0,
+    };
+    window_balance(file, z, &row, w, s, t, top)
+}
+
+// Kind 2.
+pub fn guided_balance(file: &[u8], z: Plan, s: usize, t: usize, top: Level) -> i64
+    requires { ⌜ (Planned (now file) z) × (z .kind ≡ 2) × (s < z .width) × (t < z .height) ⌝ }
+    ensures { λ r. ⌜ r ≡ balance (frameOf (now (file .entry))) s t (top .0) ⌝ }
+{
+    let centre = pixel::guide_at(file, z, t * z.width + s);
+    let a = sums::start(file, z, s, t);
+    let k = coefficients::from_sums(z, a, centre);
+    let m = z.guides;
+    let mut row = [0u16; 256];
+    rows::ramp(&mut row, m);
+    let w = rows::guided_formula(file, z, &row, s, t, k);
+    window_balance(file, z, &row, w, s, t, top)
+}
+
+// The balance of the window at (s, t), at a level.
+pub fn balance_at(file: &[u8], z: Plan, s: usize, t: usize, top: Level) -> i64
+    requires { ⌜ (Planned (now file) z) × (s < z .width) × (t < z .height) ⌝ }
+    ensures { λ r. ⌜ r ≡ balance (frameOf (now (file .entry))) s t (top .0) ⌝ }
+{
+    if z.kind == 2 {
+        return guided_balance(file, z, s, t, top);
+    }
+    table_balance(file, z, s, t, top)
+}

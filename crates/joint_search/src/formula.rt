@@ -1,0 +1,58 @@
+// One form for the weights of both kinds: guide f weighs slope times its number in a row of 16-bit numbers, and offset. Kind 1: the table's row with
+// slope 1 and offset 0; kind 2: the numbers 0 1 2 .. with the window's two coefficients.
+use crate::box_sums;
+use crate::level;
+use spec::Level;
+ghost use mathlib.Core.Path.{_≡_};
+ghost use Prim.Native.Nat.{_≤_};
+ghost use lib.IntN.{pos, natAbs, _+ℤ_, _*ℤ_};
+ghost use Rattle.joint_search.specs.Scan.{Marked, Row, cellSum, cellDot};
+ghost use Rattle.joint_search.specs.Box.{BoxLow, boxAll, boxDot};
+ghost use Rattle.joint_search.specs.Formula.{Small};
+
+// The row begins at a place of the decoded weights.
+pub struct Formula {
+    pub row: usize,
+    pub slope: i64,
+    pub offset: i64,
+}
+
+pub fn combine(slope: i64, offset: i64, dot: i64, all: i64) -> i64
+    requires { ⌜ (natAbs slope ≤ 235497855) × (natAbs offset ≤ 180155859075) × (natAbs dot ≤ 62979135) × (natAbs all ≤ 961) ⌝ }
+    ensures { λ r. ⌜ r ≡ slope *ℤ dot +ℤ offset *ℤ all ⌝ }
+{
+    slope * dot + offset * all
+}
+
+// The weight of a level.
+pub fn level_weight(
+    weights: &[u16],
+    w: Formula,
+    level: Level,
+    m: usize,
+    counts: &[u16],
+    words: &[u64],
+) -> i64
+    requires { ⌜ (Marked m (level .0) (now counts) (now words)) × (Row m (w .row) (now weights)) × (Small w) ⌝ }
+    ensures { λ r. ⌜ r ≡ w .slope *ℤ pos (cellDot m (level .0) (w .row) (now (counts .entry)) (now (weights .entry)) m) +ℤ w .offset *ℤ pos (cellSum m (level .0) (now (counts .entry)) m) ⌝ }
+{
+    let e = level::level_sums(weights, w.row, level, m, counts, words);
+    combine(w.slope, w.offset, e.dot as i64, e.pixels as i64)
+}
+
+// The balance at the box's cut point.
+pub fn box_balance(cells: &[i16; 256], weights: &[u16], w: Formula, m: usize) -> i64
+    requires { ⌜ (m ≤ 256) × (Row m (w .row) (now weights)) × (BoxLow (now cells)) × (Small w) ⌝ }
+    ensures { λ r. ⌜ r ≡ w .slope *ℤ boxDot (now (cells .entry)) (now (weights .entry)) (w .row) m +ℤ w .offset *ℤ boxAll (now (cells .entry)) m ⌝ }
+{
+    let e = box_sums::box_sums(cells, weights, w.row, m);
+    combine(w.slope, w.offset, e.dot as i64, e.all as i64)
+}
+
+// A balance with a level's weight more or less on both sides: by is 2 or -2.
+pub fn step_balance(x: i64, by: i64, y: i64) -> i64
+    requires { ⌜ (natAbs x ≤ 173129780571075) × (natAbs by ≤ 2) × (natAbs y ≤ 173129780571075) ⌝ }
+    ensures { λ r. ⌜ r ≡ x +ℤ by *ℤ y ⌝ }
+{
+    x + by * y
+}

@@ -1,0 +1,253 @@
+// Each way's start and move, as what every visit leaves: its own stores in its own crate's words become the common record.
+use crate::Carry;
+use crate::Visit;
+use chain::FreeList;
+use columns::tally::Tally;
+use spec::Level;
+use spec::Plan;
+use spec::Way;
+ghost use mathlib.Core.Path.{_≡_};
+ghost use mathlib.Core.List.{[]};
+ghost use Prim.Native.Nat.{ℕ, _<_, _≤_};
+ghost use lib.ListN.{length};
+ghost use Rattle.spec.specs.Frame.{frameOf};
+ghost use Rattle.spec.specs.Checks.{Planned};
+ghost use Rattle.spec.specs.Walk.{arrive};
+ghost use Rattle.spec.specs.Calls.{roomOf, zeros};
+ghost use Rattle.window.specs.Line.{Adjacent};
+ghost use Rattle.ways.specs.Visit.{settingsIn, stores, Within, AtWindow, Visited};
+ghost use Rattle.joint_search.specs.Arrive.{WeightRows};
+ghost use Rattle.ways.specs.Each.{ofJoint, toJoint, ofColumns, toColumns, ofChain, toChain};
+
+fn of_joint(v: joint_search::visit::Visit, column: usize, row: usize) -> Visit
+    ensures { λ r. ⌜ r ≡ ofJoint v column row ⌝ }
+{
+    let sums = v.sums;
+    let below = Tally { count: 0, sum: 0 };
+    let free = FreeList { head: 0, count: 0 };
+    let carry = Carry { sums, below, free };
+    let cut = v.cut;
+    let answer = v.answer;
+    Visit {
+        column,
+        row,
+        cut,
+        shifts: v.shifts,
+        answer,
+        carry,
+    }
+}
+
+fn to_joint(v: Visit) -> joint_search::visit::Visit
+    ensures { λ r. ⌜ r ≡ toJoint v ⌝ }
+{
+    let carry = v.carry;
+    let sums = carry.sums;
+    let cut = v.cut;
+    let answer = v.answer;
+    joint_search::visit::Visit {
+        sums,
+        cut,
+        shifts: v.shifts,
+        answer,
+    }
+}
+
+fn of_columns(v: columns::visit::Visit, column: usize, row: usize) -> Visit
+    ensures { λ r. ⌜ r ≡ ofColumns v column row ⌝ }
+{
+    let sums = v.sums;
+    let below = v.below;
+    let free = FreeList { head: 0, count: 0 };
+    let carry = Carry { sums, below, free };
+    let cut = v.cut;
+    let answer = v.answer;
+    Visit {
+        column,
+        row,
+        cut,
+        shifts: v.shifts,
+        answer,
+        carry,
+    }
+}
+
+fn to_columns(v: Visit) -> columns::visit::Visit
+    ensures { λ r. ⌜ r ≡ toColumns v ⌝ }
+{
+    let carry = v.carry;
+    let sums = carry.sums;
+    let below = carry.below;
+    let cut = v.cut;
+    let answer = v.answer;
+    columns::visit::Visit {
+        sums,
+        below,
+        cut,
+        shifts: v.shifts,
+        answer,
+    }
+}
+
+fn of_chain(v: chain_search::visit::Visit, column: usize, row: usize) -> Visit
+    ensures { λ r. ⌜ r ≡ ofChain v column row ⌝ }
+{
+    let sums = v.sums;
+    let below = Tally { count: 0, sum: 0 };
+    let free = v.free;
+    let carry = Carry { sums, below, free };
+    let cut = v.cut;
+    let answer = v.answer;
+    Visit {
+        column,
+        row,
+        cut,
+        shifts: v.shifts,
+        answer,
+        carry,
+    }
+}
+
+fn to_chain(v: Visit) -> chain_search::visit::Visit
+    ensures { λ r. ⌜ r ≡ toChain v ⌝ }
+{
+    let carry = v.carry;
+    let sums = carry.sums;
+    let free = carry.free;
+    let cut = v.cut;
+    let answer = v.answer;
+    chain_search::visit::Visit {
+        sums,
+        free,
+        cut,
+        shifts: v.shifts,
+        answer,
+    }
+}
+
+// The joint way at the start window.
+pub fn joint_enter(
+    file: &[u8],
+    z: Plan,
+    weights: &[u16],
+    column: usize,
+    row: usize,
+    cells: &mut [i16; 256],
+    counts: &mut [u16],
+    words: &mut [u64],
+) -> Visit
+    requires { ⌜ (Planned (now file) z) × (WeightRows (now file) z (now weights)) ⌝ }
+    requires { ⌜ (column < z .width) × (row < z .height) ⌝ }
+    requires { ⌜ (roomOf Way.Joint (settingsIn z) .counts ≤ length (now counts)) × (roomOf Way.Joint (settingsIn z) .words ≤ length (now words)) ⌝ }
+    ensures { λ r. ⌜ Visited Way.Joint (now (file .entry)) (arrive (frameOf (now (file .entry))) column row 0 0) (stores (now (counts .entry)) (now (words .entry)) []) (stores (now (counts .exit)) (now (words .exit)) []) (now (cells .exit)) r ⌝ }
+{
+    let v = joint_search::visit::enter(
+        file,
+        z,
+        weights,
+        column,
+        row,
+        Level(0),
+        0,
+        cells,
+        counts,
+        words,
+    );
+    of_joint(v, column, row)
+}
+
+// The joint way at a neighbouring window.
+pub fn joint_slide(
+    file: &[u8],
+    z: Plan,
+    weights: &[u16],
+    from: Visit,
+    column: usize,
+    row: usize,
+    cells: &mut [i16; 256],
+    counts: &mut [u16],
+    words: &mut [u64],
+) -> Visit
+    requires { ⌜ (Planned (now file) z) × (WeightRows (now file) z (now weights)) ⌝ }
+    requires { ⌜ (Within z from) × (Adjacent z (from .column) (from .row) column row) ⌝ }
+    requires { ⌜ (roomOf Way.Joint (settingsIn z) .counts ≤ length (now counts)) × (roomOf Way.Joint (settingsIn z) .words ≤ length (now words)) ⌝ }
+    requires { ⌜ AtWindow Way.Joint (now file) (stores (now counts) (now words) []) (now cells) from ⌝ }
+    ensures { λ r. ⌜ Visited Way.Joint (now (file .entry)) (arrive (frameOf (now (file .entry))) column row (from .cut .0) (from .shifts)) (stores (now (counts .entry)) (now (words .entry)) []) (stores (now (counts .exit)) (now (words .exit)) []) (now (cells .exit)) r ⌝ }
+{
+    let known = to_joint(from);
+    let v = joint_search::visit::slide(
+        file,
+        z,
+        weights,
+        known,
+        from.column,
+        from.row,
+        column,
+        row,
+        cells,
+        counts,
+        words,
+    );
+    of_joint(v, column, row)
+}
+
+// Columns at the start window.
+pub fn columns_enter(file: &[u8], z: Plan, column: usize, row: usize, numbers: &mut [u32]) -> Visit
+    requires { ⌜ (Planned (now file) z) × (z .kind ≡ 2) ⌝ }
+    requires { ⌜ (column < z .width) × (row < z .height) ⌝ }
+    requires { ⌜ roomOf Way.Columns (settingsIn z) .numbers ≤ length (now numbers) ⌝ }
+    ensures { λ r. ⌜ Visited Way.Columns (now (file .entry)) (arrive (frameOf (now (file .entry))) column row 0 0) (stores [] [] (now (numbers .entry))) (stores [] [] (now (numbers .exit))) zeros r ⌝ }
+{
+    let v = columns::visit::enter(file, z, column, row, Level(0), 0, numbers);
+    of_columns(v, column, row)
+}
+
+// Columns at a neighbouring window.
+pub fn columns_slide(
+    file: &[u8],
+    z: Plan,
+    from: Visit,
+    column: usize,
+    row: usize,
+    numbers: &mut [u32],
+) -> Visit
+    requires { ⌜ (Planned (now file) z) × (z .kind ≡ 2) ⌝ }
+    requires { ⌜ (Within z from) × (Adjacent z (from .column) (from .row) column row) ⌝ }
+    requires { ⌜ roomOf Way.Columns (settingsIn z) .numbers ≤ length (now numbers) ⌝ }
+    requires { ⌜ AtWindow Way.Columns (now file) (stores [] [] (now numbers)) zeros from ⌝ }
+    ensures { λ r. ⌜ Visited Way.Columns (now (file .entry)) (arrive (frameOf (now (file .entry))) column row (from .cut .0) (from .shifts)) (stores [] [] (now (numbers .entry))) (stores [] [] (now (numbers .exit))) zeros r ⌝ }
+{
+    let known = to_columns(from);
+    let v = columns::visit::slide(file, z, known, from.column, from.row, column, row, numbers);
+    of_columns(v, column, row)
+}
+
+// The chain at the start window.
+pub fn chain_enter(file: &[u8], z: Plan, column: usize, row: usize, numbers: &mut [u32]) -> Visit
+    requires { ⌜ (Planned (now file) z) × (z .kind ≡ 2) ⌝ }
+    requires { ⌜ (column < z .width) × (row < z .height) ⌝ }
+    requires { ⌜ roomOf Way.Chain (settingsIn z) .numbers ≤ length (now numbers) ⌝ }
+    ensures { λ r. ⌜ Visited Way.Chain (now (file .entry)) (arrive (frameOf (now (file .entry))) column row 0 0) (stores [] [] (now (numbers .entry))) (stores [] [] (now (numbers .exit))) zeros r ⌝ }
+{
+    let v = chain_search::visit::enter(file, z, column, row, Level(0), 0, numbers);
+    of_chain(v, column, row)
+}
+
+// The chain at a neighbouring window.
+pub fn chain_slide(
+    file: &[u8],
+    z: Plan,
+    from: Visit,
+    column: usize,
+    row: usize,
+    numbers: &mut [u32],
+) -> Visit
+    requires { ⌜ (Planned (now file) z) × (z .kind ≡ 2) ⌝ }
+    requires { ⌜ (Within z from) × (Adjacent z (from .column) (from .row) column row) ⌝ }
+    requires { ⌜ AtWindow Way.Chain (now file) (stores [] [] (now numbers)) zeros from ⌝ }
+    ensures { λ r. ⌜ Visited Way.Chain (now (file .entry)) (arrive (frameOf (now (file .entry))) column row (from .cut .0) (from .shifts)) (stores [] [] (now (numbers .entry))) (stores [] [] (now (numbers .exit))) zeros r ⌝ }
+{
+    let known = to_chain(from);
+    let v = chain_search::visit::slide(file, z, known, from.column, from.row, column, row, numbers);
+    of_chain(v, column, row)
+}

@@ -1,0 +1,5 @@
+pub mod FormLaws
+pub mod LineLaws
+pub mod PixelLaws
+pub mod SumLaws
+pub mod CoefficientLaws

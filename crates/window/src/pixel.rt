@@ -1,0 +1,25 @@
+// The level and the guide of a pixel, by its number: row by row from the top left. The file is accepted, so the bytes are there.
+use frame::read;
+use spec::Guide;
+use spec::Level;
+use spec::Plan;
+ghost use mathlib.Core.Path.{_≡_};
+ghost use Prim.Native.Nat.{_*_, _<_};
+ghost use Rattle.spec.specs.Checks.{Planned};
+ghost use Rattle.spec.specs.Frame.{pixelLevel, pixelGuide};
+
+pub fn level_at(file: &[u8], z: Plan, q: usize) -> Level
+    requires { ⌜ Planned (now file) z ⌝ }
+    requires { ⌜ q < z .width * z .height ⌝ }
+    ensures { λ r. ⌜ r .0 ≡ pixelLevel (now (file .entry)) q ⌝ }
+{
+    read::level(file, z.value + 2 * q)
+}
+
+pub fn guide_at(file: &[u8], z: Plan, q: usize) -> Guide
+    requires { ⌜ Planned (now file) z ⌝ }
+    requires { ⌜ q < z .width * z .height ⌝ }
+    ensures { λ r. ⌜ r .0 ≡ pixelGuide (now (file .entry)) q ⌝ }
+{
+    read::guide(file, z.guide + 2 * q)
+}

@@ -1,0 +1,200 @@
+//! Weighted median filter for thermal frames of ice sheets, proved against document 01.
+//!
+//! A frame is a file: a plane of levels, a plane of guides, perhaps a table of weights, and a trailer.
+//! Every call is handed the file's bytes, checks them entirely, and refuses with the first of
+//! document 01's checks that fires.
+//!
+//! ```
+//! use icemedian::{filter, write, Settings, Way};
+//!
+//! let settings = Settings { width: 3, height: 1, levels: 8, guides: 4, radius: 1, smoothing: 1, ..Settings::default() };
+//! let file = write(&settings, &[5, 1, 3], &[0, 0, 2], &[])?;
+//! let filtered = filter(&file, Way::Columns)?;
+//! assert_eq!(filtered.levels, [1, 3, 3]);
+//! assert_eq!(filtered.shifts, 3);
+//! # Ok::<(), icemedian::Refusal>(())
+//! ```
+//!
+//! A refusal says its number and its reason:
+//!
+//! ```
+//! use icemedian::{check, Refusal};
+//!
+//! let refusal = check(b"not a frame").unwrap_err();
+//! assert_eq!(refusal, Refusal::Trailer);
+//! assert!(refusal.to_string().starts_with("refused 1: "));
+//! ```
+
+pub mod raw;
+mod refusal;
+mod settings;
+
+pub use refusal::Refusal;
+pub use settings::{Kind, Settings, Stores, Way};
+
+/// Move bytes.
+pub const RIGHT: u8 = 0;
+pub const LEFT: u8 = 1;
+pub const DOWN: u8 = 2;
+pub const UP: u8 = 3;
+/// The answer to a move that would leave the picture.
+pub const OFF_PICTURE: u16 = 65_534;
+/// The answer to a byte that is no move.
+pub const UNKNOWN_MOVE: u16 = 65_533;
+
+/// A filtered frame.
+#[derive(Clone, Debug, PartialEq, Eq)]
+pub struct Filtered {
+    pub settings: Settings,
+    /// A level for each pixel, row by row from the top left.
+    pub levels: Vec<u16>,
+    /// How far the cut point travelled, in levels.
+    pub shifts: u64,
+}
+
+/// What a walk says beside its answers.
+#[derive(Clone, Debug, PartialEq, Eq)]
+pub struct Walked {
+    /// How far the cut point travelled, in levels.
+    pub shifts: u64,
+    /// The cut point after the last window.
+    pub cut: u16,
+    /// Way 1's balance at the cut, a cell for each guide; zeros for the other ways.
+    pub balance_box: [i16; 256],
+}
+
+/// Checks 1 to 7: the settings of an accepted frame.
+///
+/// ```
+/// use icemedian::{check, write, Refusal, Settings};
+///
+/// let settings = Settings { width: 2, height: 1, levels: 4, guides: 4, ..Settings::default() };
+/// let mut file = write(&settings, &[3, 0], &[1, 2], &[])?;
+/// assert_eq!(check(&file), Ok(settings));
+/// file[3] = 4;
+/// assert_eq!(check(&file), Err(Refusal::Contents { offset: 2 }));
+/// # Ok::<(), Refusal>(())
+/// ```
+pub fn check(file: &[u8]) -> Result<Settings, Refusal> {
+    let mut offset = 0;
+    let status = raw::check(file, &mut offset);
+    Refusal::of_status(status, offset)?;
+    Ok(Settings::of_accepted(file))
+}
+
+/// Filters a frame, making the buffers that the call needs.
+pub fn filter(file: &[u8], way: Way) -> Result<Filtered, Refusal> {
+    let settings = check(file)?;
+    let mut stores = Stores::fitting(way, &settings);
+    let mut levels = vec![0; settings.pixels()];
+    let shifts = filter_into(file, way, &mut stores, &mut levels)?;
+    Ok(Filtered { settings, levels, shifts })
+}
+
+/// Filters a frame in lent buffers and returns the shift count. [`Stores::fit`] makes stores long
+/// enough; the output needs a number for each pixel.
+///
+/// ```
+/// use icemedian::{filter_into, write, Kind, Refusal, Settings, Stores, Way};
+///
+/// let settings = Settings { width: 2, height: 1, levels: 8, guides: 2, radius: 1, kind: Kind::Table, smoothing: 0 };
+/// let file = write(&settings, &[2, 6], &[0, 0], &[1, 1, 1, 1])?;
+/// let mut stores = Stores::fitting(Way::Joint, &settings);
+/// let mut output = [0; 2];
+/// assert_eq!(filter_into(&file, Way::Joint, &mut stores, &mut output), Ok(2));
+/// assert_eq!(output, [2, 2]);
+/// assert_eq!(filter_into(&file, Way::Chain, &mut stores, &mut output), Err(Refusal::Way));
+/// assert_eq!(filter_into(&file, Way::Joint, &mut stores, &mut output[1..]), Err(Refusal::Room));
+/// # Ok::<(), Refusal>(())
+/// ```
+pub fn filter_into(file: &[u8], way: Way, stores: &mut Stores, output: &mut [u16]) -> Result<u64, Refusal> {
+    let (mut shifts, mut offset) = (0, 0);
+    let status = raw::filter(file, way as u8, stores.lent(output), &mut shifts, &mut offset);
+    Refusal::of_status(status, offset)?;
+    Ok(shifts)
+}
+
+/// Walks from a pixel along a list of moves, making the buffers that the call needs. There is one
+/// answer for the start and one for each move byte.
+///
+/// ```
+/// use icemedian::{walk, write, Settings, Way, DOWN, LEFT, OFF_PICTURE, RIGHT};
+///
+/// let settings = Settings { width: 3, height: 1, levels: 8, guides: 4, radius: 1, smoothing: 1, ..Settings::default() };
+/// let file = write(&settings, &[5, 1, 3], &[0, 0, 2], &[])?;
+/// let (answers, walked) = walk(&file, Way::Chain, (0, 0), &[RIGHT, DOWN, RIGHT, LEFT])?;
+/// assert_eq!(answers, [1, 3, OFF_PICTURE, 3, 3]);
+/// assert_eq!((walked.shifts, walked.cut), (3, 3));
+/// # Ok::<(), icemedian::Refusal>(())
+/// ```
+pub fn walk(file: &[u8], way: Way, start: (usize, usize), moves: &[u8]) -> Result<(Vec<u16>, Walked), Refusal> {
+    let mut stores = Stores::fitting(way, &check(file)?);
+    let mut answers = vec![0; 1 + moves.len()];
+    let walked = walk_into(file, way, start, moves, &mut stores, &mut answers)?;
+    Ok((answers, walked))
+}
+
+/// Walks in lent buffers. The way's stores hold the last window afterwards.
+pub fn walk_into(
+    file: &[u8],
+    way: Way,
+    start: (usize, usize),
+    moves: &[u8],
+    stores: &mut Stores,
+    answers: &mut [u16],
+) -> Result<Walked, Refusal> {
+    let mut walked = Walked { shifts: 0, cut: 0, balance_box: [0; 256] };
+    let mut offset = 0;
+    let status = raw::walk(file, way as u8, start, moves, stores.lent(answers), &mut walked, &mut offset);
+    Refusal::of_status(status, offset)?;
+    Ok(walked)
+}
+
+/// The balance 2U(level) - T of the window at a pixel.
+///
+/// ```
+/// use icemedian::{balance, write, Refusal, Settings};
+///
+/// let settings = Settings { width: 5, height: 1, levels: 8, guides: 16, radius: 2, smoothing: 1, ..Settings::default() };
+/// let file = write(&settings, &[1, 2, 5, 3, 4], &[7, 7, 15, 7, 0], &[])?;
+/// assert_eq!(balance(&file, (2, 0), 4), Ok(-1275));
+/// assert_eq!(balance(&file, (2, 0), 8), Err(Refusal::Place));
+/// # Ok::<(), Refusal>(())
+/// ```
+pub fn balance(file: &[u8], pixel: (usize, usize), level: u16) -> Result<i64, Refusal> {
+    let (mut balance, mut offset) = (0, 0);
+    let status = raw::balance(file, pixel, level, &mut balance, &mut offset);
+    Refusal::of_status(status, offset)?;
+    Ok(balance)
+}
+
+/// The file of a frame. An empty table means, in kind 1, the built-in weights.
+pub fn write(settings: &Settings, values: &[u16], guide: &[u16], table: &[u16]) -> Result<Vec<u8>, Refusal> {
+    let mut file = vec![0; 2 * (values.len() + guide.len() + table.len()) + 28];
+    let length = write_into(settings, values, guide, table, &mut file)?;
+    file.truncate(length);
+    Ok(file)
+}
+
+/// Writes a frame to the output's first bytes and returns the file's length.
+///
+/// ```
+/// use icemedian::{write_into, Refusal, Settings};
+///
+/// let settings = Settings { width: 1, height: 1, levels: 4, guides: 4, ..Settings::default() };
+/// assert_eq!(write_into(&settings, &[3], &[0], &[], &mut [0; 40]), Ok(32));
+/// assert_eq!(write_into(&settings, &[3], &[0], &[], &mut [0; 31]), Err(Refusal::Room));
+/// assert_eq!(write_into(&settings, &[3], &[4], &[], &mut [0; 40]), Err(Refusal::Contents { offset: 2 }));
+/// ```
+pub fn write_into(
+    settings: &Settings,
+    values: &[u16],
+    guide: &[u16],
+    table: &[u16],
+    output: &mut [u8],
+) -> Result<usize, Refusal> {
+    let (mut length, mut offset) = (0, 0);
+    let status = raw::write(&settings.header(), values, guide, table, output, &mut length, &mut offset);
+    Refusal::of_status(status, offset)?;
+    Ok(length)
+}

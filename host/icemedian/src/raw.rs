@@ -1,0 +1,203 @@
+//! The C interface of `include/icemedian.h` over slices: numbers in, a status out. The crate's other
+//! calls give these numbers types; tests use them to hand over numbers that no type allows.
+
+use crate::Walked;
+
+mod c {
+    extern "C" {
+        pub fn icemedian_check(file: *const u8, file_length: usize, offset: *mut u64) -> u32;
+
+        pub fn icemedian_filter(
+            file: *const u8,
+            file_length: usize,
+            way: u8,
+            counts: *mut u16,
+            counts_length: usize,
+            words: *mut u64,
+            words_length: usize,
+            numbers: *mut u32,
+            numbers_length: usize,
+            output: *mut u16,
+            output_length: usize,
+            shifts: *mut u64,
+            offset: *mut u64,
+        ) -> u32;
+
+        pub fn icemedian_walk(
+            file: *const u8,
+            file_length: usize,
+            way: u8,
+            column: usize,
+            row: usize,
+            moves: *const u8,
+            moves_length: usize,
+            counts: *mut u16,
+            counts_length: usize,
+            words: *mut u64,
+            words_length: usize,
+            numbers: *mut u32,
+            numbers_length: usize,
+            answers: *mut u16,
+            answers_length: usize,
+            shifts: *mut u64,
+            cut: *mut u16,
+            balance_box: *mut [i16; 256],
+            offset: *mut u64,
+        ) -> u32;
+
+        pub fn icemedian_balance(
+            file: *const u8,
+            file_length: usize,
+            column: usize,
+            row: usize,
+            level: u16,
+            balance: *mut i64,
+            offset: *mut u64,
+        ) -> u32;
+
+        pub fn icemedian_write(
+            width: u16,
+            height: u16,
+            levels: u16,
+            guides: u16,
+            kind: u8,
+            radius: u8,
+            smoothing: u16,
+            values: *const u16,
+            values_length: usize,
+            guide: *const u16,
+            guide_length: usize,
+            table: *const u16,
+            table_length: usize,
+            output: *mut u8,
+            output_length: usize,
+            length: *mut usize,
+            offset: *mut u64,
+        ) -> u32;
+    }
+}
+
+/// The stores of a call and its answer buffer or output plane.
+#[derive(Debug)]
+pub struct Lent<'a> {
+    pub counts: &'a mut [u16],
+    pub words: &'a mut [u64],
+    pub numbers: &'a mut [u32],
+    pub answers: &'a mut [u16],
+}
+
+/// The settings of a frame to write, as the trailer has them.
+#[derive(Clone, Copy, Debug)]
+pub struct Header {
+    pub width: u16,
+    pub height: u16,
+    pub levels: u16,
+    pub guides: u16,
+    pub kind: u8,
+    pub radius: u8,
+    pub smoothing: u16,
+}
+
+/// `icemedian_check`.
+pub fn check(file: &[u8], offset: &mut u64) -> u32 {
+    // SAFETY: pointer and length are the slice's; `offset` is lent for the call.
+    unsafe { c::icemedian_check(file.as_ptr(), file.len(), offset) }
+}
+
+/// `icemedian_filter`.
+pub fn filter(file: &[u8], way: u8, lent: Lent, shifts: &mut u64, offset: &mut u64) -> u32 {
+    // SAFETY: each pointer and length belong to one slice; a mutable slice overlaps no other.
+    unsafe {
+        c::icemedian_filter(
+            file.as_ptr(),
+            file.len(),
+            way,
+            lent.counts.as_mut_ptr(),
+            lent.counts.len(),
+            lent.words.as_mut_ptr(),
+            lent.words.len(),
+            lent.numbers.as_mut_ptr(),
+            lent.numbers.len(),
+            lent.answers.as_mut_ptr(),
+            lent.answers.len(),
+            shifts,
+            offset,
+        )
+    }
+}
+
+/// `icemedian_walk`.
+pub fn walk(
+    file: &[u8],
+    way: u8,
+    (column, row): (usize, usize),
+    moves: &[u8],
+    lent: Lent,
+    walked: &mut Walked,
+    offset: &mut u64,
+) -> u32 {
+    // SAFETY: each pointer and length belong to one slice; a mutable slice overlaps no other.
+    unsafe {
+        c::icemedian_walk(
+            file.as_ptr(),
+            file.len(),
+            way,
+            column,
+            row,
+            moves.as_ptr(),
+            moves.len(),
+            lent.counts.as_mut_ptr(),
+            lent.counts.len(),
+            lent.words.as_mut_ptr(),
+            lent.words.len(),
+            lent.numbers.as_mut_ptr(),
+            lent.numbers.len(),
+            lent.answers.as_mut_ptr(),
+            lent.answers.len(),
+            &mut walked.shifts,
+            &mut walked.cut,
+            &mut walked.balance_box,
+            offset,
+        )
+    }
+}
+
+/// `icemedian_balance`.
+pub fn balance(file: &[u8], (column, row): (usize, usize), level: u16, balance: &mut i64, offset: &mut u64) -> u32 {
+    // SAFETY: pointer and length are the slice's; the results are lent for the call.
+    unsafe { c::icemedian_balance(file.as_ptr(), file.len(), column, row, level, balance, offset) }
+}
+
+/// `icemedian_write`.
+pub fn write(
+    header: &Header,
+    values: &[u16],
+    guide: &[u16],
+    table: &[u16],
+    output: &mut [u8],
+    length: &mut usize,
+    offset: &mut u64,
+) -> u32 {
+    // SAFETY: each pointer and length belong to one slice; the output overlaps no other.
+    unsafe {
+        c::icemedian_write(
+            header.width,
+            header.height,
+            header.levels,
+            header.guides,
+            header.kind,
+            header.radius,
+            header.smoothing,
+            values.as_ptr(),
+            values.len(),
+            guide.as_ptr(),
+            guide.len(),
+            table.as_ptr(),
+            table.len(),
+            output.as_mut_ptr(),
+            output.len(),
+            length,
+            offset,
+        )
+    }
+}

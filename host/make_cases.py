@@ -1,0 +1,144 @@
+#!/usr/bin/env python3
+"""Writes the list of small walks that test programs print: to cases.txt beside this script, or to the
+file named as its argument.
+
+A line is NAME HEX COLUMN ROW MOVES: the frame's bytes in hexadecimal, the start pixel, the moves as
+digits ("-" for none). The list is the same on every run; `expected` prints what each walk answers.
+"""
+import os
+import struct
+import sys
+
+MARK = b"\x49\x43\x45\x31"
+TABLE, GUIDED = 1, 2
+
+
+class Random:
+    """A small generator of our own, so that the list does not depend on Python's version."""
+
+    def __init__(self, seed):
+        self.state = seed
+
+    def below(self, bound):
+        self.state = (self.state * 6364136223846793005 + 1442695040888963407) % 2**64
+        return (self.state >> 33) % bound
+
+    def numbers(self, length, bound):
+        return [self.below(bound) for _ in range(length)]
+
+
+def numbers16(numbers):
+    return b"".join(struct.pack(">H", number) for number in numbers)
+
+
+def frame(width, height, levels, guides, kind, radius, smoothing, values, guide, table=(), gap=b""):
+    """The bytes of a frame; `gap` stands between its parts, where document 01 ignores it."""
+    parts = [numbers16(values), numbers16(guide), numbers16(table)]
+    body, starts = b"", []
+    for part in parts:
+        starts.append(len(body))
+        body += part + gap
+    distances = [len(body) - start for start in starts]
+    if not table:
+        distances[2] = 0
+    trailer = struct.pack(">4H2BH3I", width, height, levels, guides, kind, radius, smoothing, *distances)
+    return body + trailer + MARK
+
+
+def row(values, guide, levels, guides, kind, radius, smoothing, table=()):
+    return frame(len(values), 1, levels, guides, kind, radius, smoothing, values, guide, table)
+
+
+def bench_cases():
+    """Document 01's bench windows A to H, and walks over them from the other end."""
+    a = row([5, 1, 3], [0, 0, 2], 8, 4, GUIDED, 1, 1)
+    b = row([1, 2, 5, 3, 4], [7, 7, 15, 7, 0], 8, 16, GUIDED, 2, 1)
+    c = row([2, 6], [0, 0], 8, 2, TABLE, 1, 0, [1] * 4)
+    d = row([2, 6], [0, 0], 8, 2, TABLE, 1, 0, [0] * 4)
+    e = row([5, 1, 3], [0, 0, 2], 8, 4, GUIDED, 0, 1)
+    f = row([7, 4, 2, 0], [0, 1, 16, 255], 8, 256, TABLE, 3, 0)
+    g = row([2], [0], 8, 2, TABLE, 1, 0, [1] * 4)
+    rows = row([2, 6], [0, 1], 8, 2, TABLE, 1, 0, [1, 2, 0, 1])
+    return [
+        ("bench_a", a, 0, 0, "00"),
+        ("bench_a_back", a, 2, 0, "11"),
+        ("bench_b", b, 0, 0, "0000"),
+        ("bench_b_back", b, 4, 0, "1111"),
+        ("bench_b_pixel_2", b, 2, 0, "-"),
+        ("bench_c", c, 0, 0, "0"),
+        ("bench_d", d, 0, 0, "0"),
+        ("bench_e", e, 0, 0, "00"),
+        ("bench_f", f, 0, 0, "000"),
+        ("bench_g", g, 0, 0, "0123"),
+        ("bench_h", a, 0, 0, "0201"),
+        ("table_rows", rows, 0, 0, "01"),
+    ]
+
+
+def shaped_cases():
+    """Windows that random frames seldom show."""
+    around = "2220001111333022"
+    lonely = frame(4, 4, 16, 8, GUIDED, 1, 1, [15, 3, 9, 0, 8, 8, 1, 14, 2, 12, 7, 5, 6, 10, 11, 4],
+                   [0, 0, 0, 0, 0, 7, 0, 0, 0, 0, 0, 7, 7, 0, 0, 0])
+    # Guide 1 as a centre weighs nothing: its windows are hollow and keep the cut.
+    islands = frame(4, 3, 16, 3, TABLE, 1, 0, [9, 2, 15, 4, 1, 7, 12, 3, 8, 0, 5, 14],
+                    [0, 1, 2, 0, 1, 1, 0, 2, 2, 0, 1, 0], [256, 1, 9, 0, 0, 0, 3, 128, 0])
+    wide = [11, 4, 7, 0, 15, 2]
+    guided_wide = frame(3, 2, 16, 8, GUIDED, 15, 64, wide, [1, 7, 3, 0, 2, 5])
+    table_wide = frame(3, 2, 16, 8, TABLE, 15, 0, wide, [1, 7, 3, 0, 2, 5])
+    # One plane serves as values and guides.
+    overlapped = numbers16([3, 0, 5, 1, 4, 2]) + struct.pack(
+        ">4H2BH3I", 3, 2, 8, 6, GUIDED, 1, 9, 12, 12, 0) + MARK
+    gapped = frame(3, 2, 8, 3, TABLE, 1, 0, [3, 0, 5, 1, 4, 2], [2, 1, 0, 0, 1, 2],
+                   [5, 0, 200, 1, 1, 1, 0, 256, 7], gap=b"\xff\x00\xff")
+    return [
+        ("not_steady_around", lonely, 0, 0, around),
+        ("not_steady_up", lonely, 3, 3, "3331222"),
+        ("hollow_around", islands, 1, 1, "0211330002"),
+        ("hollow_start", islands, 0, 1, "3022"),
+        ("wide_guided", guided_wide, 1, 1, "0311220"),
+        ("wide_table", table_wide, 1, 1, "0311220"),
+        ("unknown_bytes", lonely, 1, 1, "4052617383909"),
+        ("unknown_bytes_table", islands, 3, 2, "9381716253"),
+        ("overlapped", overlapped, 0, 0, "00211"),
+        ("gapped", gapped, 0, 0, "00211"),
+        ("tall", frame(1, 6, 16, 8, GUIDED, 2, 3, [9, 1, 15, 4, 4, 0], [0, 7, 1, 6, 2, 5]), 0, 0, "2222230333"),
+    ]
+
+
+def every_start_cases():
+    """One 3 by 3 frame from each of its pixels, turning once through all four directions."""
+    nine = frame(3, 3, 16, 8, GUIDED, 1, 2, [4, 13, 2, 9, 0, 15, 7, 7, 11], [1, 0, 7, 0, 6, 0, 2, 0, 3])
+    return [(f"start_{s}_{t}", nine, s, t, "02130312") for t in range(3) for s in range(3)]
+
+
+def random_case(number):
+    """A random frame of at most 6 by 6 with a random walk; odd numbers are kind 1."""
+    random = Random(1000 + number)
+    width, height = 1 + random.below(6), 1 + random.below(6)
+    levels, guides = 2 + random.below(15), 2 + random.below(7)
+    kind = TABLE if number % 2 else GUIDED
+    radius = random.below(4)
+    smoothing = 0 if kind == TABLE else 1 + random.below(20)
+    values = random.numbers(width * height, levels)
+    guide = random.numbers(width * height, guides)
+    table = random.numbers(guides * guides, 257) if kind == TABLE and number % 4 == 1 else []
+    bound = 5 if number % 3 == 0 else 4
+    moves = "".join(str(digit) for digit in random.numbers(12 + random.below(9), bound))
+    data = frame(width, height, levels, guides, kind, radius, smoothing, values, guide, table)
+    return (f"random_{number}", data, random.below(width), random.below(height), moves)
+
+
+def main():
+    cases = bench_cases() + shaped_cases() + every_start_cases()
+    cases += [random_case(number) for number in range(1, 13)]
+    beside = os.path.join(os.path.dirname(os.path.abspath(__file__)), "cases.txt")
+    path = sys.argv[1] if len(sys.argv) > 1 else beside
+    with open(path, "w", encoding="ascii") as out:
+        out.write("# Written by make_cases.py: NAME HEX COLUMN ROW MOVES\n")
+        for name, data, column, line, moves in cases:
+            out.write(f"{name} {data.hex()} {column} {line} {moves}\n")
+
+
+if __name__ == "__main__":
+    main()

@@ -1,0 +1,259 @@
+//! Document 01's bench windows A to H, its edges and its 40-byte frame, and two rows more.
+
+use crate::calls;
+use crate::cases::bytes_of_hex;
+use crate::frame::{built_in_weight, open, Frame, Settings, KIND_GUIDED, KIND_TABLE};
+use crate::program::printed;
+use crate::random::{accepted_file, Random};
+use crate::refusal::Refusal;
+use crate::store::{stores, ChainEntry, Lengths, Stores, Way};
+use crate::walk::{filter, walk};
+use crate::window::Window;
+use crate::writer::write;
+
+/// The 40 bytes of document 01.
+const A: &str = "000500010003000000000002000300010008000402010001\
+                 0000000C000000060000000049434531";
+
+fn frame_a() -> Frame {
+    open(&bytes_of_hex(A).unwrap()).unwrap()
+}
+
+/// A frame of one row.
+fn row(kind: u8, levels: u16, guides: u16, radius: u8, values: &[u16], guide: &[u16], table: &[u16]) -> Frame {
+    let settings = Settings {
+        width: values.len() as u16,
+        height: 1,
+        levels,
+        guides,
+        kind,
+        radius,
+        smoothing: u16::from(kind == KIND_GUIDED),
+    };
+    open(&write(&settings, values, guide, table, usize::MAX).unwrap()).unwrap()
+}
+
+fn frame_b() -> Frame {
+    row(KIND_GUIDED, 8, 16, 2, &[1, 2, 5, 3, 4], &[7, 7, 15, 7, 0], &[])
+}
+
+fn frame_c(weight: u16) -> Frame {
+    row(KIND_TABLE, 8, 2, 1, &[2, 6], &[0, 0], &[weight; 4])
+}
+
+fn filtered(frame: &Frame) -> (Vec<u16>, u64) {
+    let (plane, walk) = filter(frame);
+    (plane, walk.shifts)
+}
+
+fn weights(window: &Window) -> Vec<i64> {
+    window.pixels.iter().map(|pixel| pixel.weight).collect()
+}
+
+#[test]
+fn a_weighs_and_filters() {
+    assert_eq!(weights(&Window::at(&frame_a(), 1, 0)), [21, 21, 9]);
+    assert_eq!(filtered(&frame_a()), (vec![1, 3, 3], 3));
+}
+
+#[test]
+fn b_has_a_negative_weight_and_two_crossings() {
+    let window = Window::at(&frame_b(), 2, 0);
+    assert_eq!(weights(&window), [550, 550, 2110, 550, -815]);
+    assert_eq!(window.total(), 2945);
+    assert_eq!(window.answer(), 3);
+    assert_eq!([3, 4, 5].map(|level| window.balance(level)), [355, -1275, 2945]);
+    assert!(!window.steady);
+    assert_eq!(filtered(&frame_b()), (vec![2, 2, 3, 3, 4], 9));
+}
+
+#[test]
+fn c_takes_at_least_half() {
+    assert_eq!(filtered(&frame_c(1)), (vec![2, 2], 2));
+}
+
+#[test]
+fn d_is_hollow() {
+    assert_eq!(filtered(&frame_c(0)), (vec![2, 6], 0));
+}
+
+#[test]
+fn e_is_the_input() {
+    let mut frame = frame_a();
+    frame.settings.radius = 0;
+    assert_eq!(filtered(&frame).0, [5, 1, 3]);
+}
+
+#[test]
+fn f_built_in_weights() {
+    assert_eq!([0, 1, 16, 255].map(built_in_weight), [256, 240, 128, 15]);
+}
+
+#[test]
+fn g_leaves_a_picture_of_one_pixel() {
+    let frame = row(KIND_TABLE, 8, 2, 1, &[2], &[0], &[1; 4]);
+    let walk = walk(&frame, 0, 0, &[0, 1, 2, 3]);
+    assert_eq!(walk.answers, [2, 65_534, 65_534, 65_534, 65_534]);
+    assert_eq!(walk.shifts, 2);
+}
+
+#[test]
+fn h_walks_into_the_border() {
+    let walk = walk(&frame_a(), 0, 0, &[0, 2, 0, 1]);
+    assert_eq!(walk.answers, [1, 3, 65_534, 3, 3]);
+    assert_eq!(walk.shifts, 3);
+    assert_eq!((walk.column, walk.row), (1, 0));
+}
+
+#[test]
+fn the_centre_chooses_the_tables_row() {
+    let frame = row(KIND_TABLE, 8, 2, 1, &[2, 6], &[0, 1], &[1, 2, 0, 1]);
+    assert_eq!(filtered(&frame), (vec![6, 6], 6));
+}
+
+#[test]
+fn an_unknown_byte_moves_nothing() {
+    let walk = walk(&frame_a(), 0, 0, &[7, 0, 255, 0]);
+    assert_eq!(walk.answers, [1, 65_533, 3, 65_533, 3]);
+    assert_eq!(walk.shifts, 3);
+}
+
+#[test]
+fn the_program_prints_document_01s_text() {
+    let file = bytes_of_hex(A).unwrap();
+    assert_eq!(printed(&file), "3 1\n1 3 3\njoint 3\ncolumns 3\nchain 3\n");
+    assert_eq!(printed(&[]), "refused 1\n");
+    assert_eq!(printed(&[0; 16_385]), "refused 12\n");
+    let bad_guide = [&file[..6], &[0, 9], &file[8..]].concat();
+    assert_eq!(printed(&bad_guide), "refused 7 6\n");
+    let frame = frame_a().settings;
+    let sides = [Settings { width: 65, ..frame }, Settings { levels: 65, ..frame }, Settings { guides: 65, ..frame }];
+    for settings in sides {
+        let plane = vec![0; settings.pixels()];
+        let file = write(&settings, &plane, &plane, &[], usize::MAX).unwrap();
+        assert_eq!(printed(&file), "refused 12\n");
+    }
+    let tall = Settings { height: 65, ..frame };
+    let plane = vec![0; tall.pixels()];
+    let file = write(&tall, &plane, &plane, &[], usize::MAX).unwrap();
+    assert!(printed(&file).starts_with("3 65\n0 0 0\n"));
+}
+
+/// A's settings with every pixel 0, written and opened again.
+fn accepted(change: impl Fn(&mut Settings)) -> Result<(), u8> {
+    let mut settings = frame_a().settings;
+    change(&mut settings);
+    let plane = vec![0; settings.pixels()];
+    let file = write(&settings, &plane, &plane, &[], usize::MAX).map_err(|refusal| refusal.number)?;
+    open(&file).map(drop).map_err(|refusal| refusal.number)
+}
+
+#[test]
+fn edges_of_the_settings() {
+    assert_eq!(accepted(|s| (s.width, s.height) = (1024, 256)), Ok(()));
+    assert_eq!(accepted(|s| (s.width, s.height) = (1024, 257)), Err(2));
+    assert_eq!(accepted(|s| s.radius = 15), Ok(()));
+    assert_eq!(accepted(|s| s.radius = 16), Err(5));
+    assert_eq!(accepted(|s| s.smoothing = 65_025), Ok(()));
+    assert_eq!(accepted(|s| s.smoothing = 65_026), Err(4));
+}
+
+#[test]
+fn edge_of_a_weight() {
+    let c = frame_c(1);
+    let with = |weight| write(&c.settings, &c.values, &c.guides, &[1, 1, weight, 1], usize::MAX);
+    assert!(with(256).is_ok());
+    assert_eq!(with(257), Err(Refusal::contents(12)));
+    let mut file = with(256).unwrap();
+    file[13] = 1;
+    assert_eq!(open(&file), Err(Refusal::contents(12)));
+}
+
+#[test]
+fn stores_of_a_after_its_walk() {
+    let frame = frame_a();
+    let walk = walk(&frame, 0, 0, &[0]);
+    let Stores::Joint { counts, words } = stores(&frame, Way::Joint, &walk) else { unreachable!() };
+    let occupied: Vec<usize> = (0..counts.len()).filter(|&cell| counts[cell] == 1).collect();
+    assert_eq!(occupied, [4, 3 * 4 + 2, 5 * 4]);
+    assert_eq!(words, [0, 1, 0, 4, 0, 1, 0, 0]);
+    let Stores::Columns { numbers } = stores(&frame, Way::Columns, &walk) else { unreachable!() };
+    assert_eq!(numbers.len(), Lengths::of_stores(Way::Columns, &frame.settings).numbers);
+    assert_eq!(numbers[5] + numbers[8 + 1] + numbers[16 + 3], 3);
+    assert_eq!(numbers[48..56], [0, 1, 0, 1, 0, 1, 0, 0]);
+    assert_eq!(numbers[56..], [0, 0, 0, 2, 0, 0, 0, 0]);
+    let Stores::Chain { entries } = stores(&frame, Way::Chain, &walk) else { unreachable!() };
+    let entry = |level, guide_sum| ChainEntry { level, count: 1, guide_sum };
+    assert_eq!(entries, [entry(1, 0), entry(3, 2), entry(5, 0)]);
+}
+
+#[test]
+fn calls_refuse_in_order() {
+    let file = bytes_of_hex(A).unwrap();
+    let lent = Lengths { counts: 32, words: 8, numbers: 64, answers: 3 };
+    let refused =
+        |way, start, moves: &[u8]| calls::walk(&file, way, start, moves, &lent).map(drop).map_err(|r| r.number);
+    let long = vec![0; calls::MOVES_MOST + 1];
+    assert_eq!(refused(1, (2, 0), &[0, 0]), Ok(()));
+    assert_eq!(refused(0, (3, 0), &long), Err(8));
+    assert_eq!(refused(4, (0, 0), &[]), Err(8));
+    assert_eq!(refused(1, (3, 0), &long), Err(9));
+    assert_eq!(refused(1, (0, 1), &[]), Err(9));
+    assert_eq!(refused(1, (0, 0), &long), Err(10));
+    assert_eq!(refused(1, (0, 0), &long[1..]), Err(11));
+    assert_eq!(refused(1, (0, 0), &[0, 0, 0]), Err(11));
+    assert_eq!(refused(2, (0, 0), &[]), Ok(()));
+    assert_eq!(calls::filter(&file, 3, &Lengths { numbers: 36, ..lent }), Err(Refusal::of(11)));
+    assert_eq!(
+        calls::filter(&file, 3, &Lengths { numbers: 37, answers: 3, ..Default::default() }).unwrap().answers,
+        [1, 3, 3]
+    );
+    assert_eq!(calls::balance(&file, (0, 0), 8), Err(Refusal::of(9)));
+    assert_eq!(calls::balance(&file, (1, 0), 3), Ok(21 + 9 - 21));
+}
+
+#[test]
+fn the_answer_has_the_least_weighted_absolute_difference() {
+    let mut random = Random::new(4);
+    let mut minimal = 0;
+    for _ in 0..300 {
+        let frame = open(&accepted_file(&mut random, 6)).unwrap();
+        let window = Window::at(&frame, 0, 0);
+        if window.has_negative_weight() || window.hollow() {
+            continue;
+        }
+        let answer = window.absolute_differences(window.answer());
+        let least = (0..frame.settings.levels).map(|level| window.absolute_differences(level)).min();
+        assert_eq!(Some(answer), least);
+        minimal += 1;
+    }
+    assert!(minimal > 100, "only {minimal} windows");
+}
+
+#[test]
+fn the_answer_is_the_first_level_at_half() {
+    let mut random = Random::new(5);
+    let (mut hollow, mut negative, mut unsteady) = (0, 0, 0);
+    for _ in 0..600 {
+        let frame = open(&accepted_file(&mut random, 6)).unwrap();
+        let window = Window::at(&frame, 0, 0);
+        hollow += u32::from(window.hollow());
+        negative += u32::from(window.has_negative_weight());
+        unsteady += u32::from(!window.steady);
+        if !window.hollow() {
+            let first = (0..frame.settings.levels).find(|&level| window.balance(level) >= 0);
+            assert_eq!(Some(window.answer()), first);
+        }
+    }
+    assert!(hollow > 10 && negative > 10 && unsteady > 10, "{hollow} {negative} {unsteady}");
+}
+
+#[test]
+fn a_written_frame_opens_as_it_was() {
+    let mut random = Random::new(6);
+    for _ in 0..300 {
+        let frame = open(&accepted_file(&mut random, 6)).unwrap();
+        let file = write(&frame.settings, &frame.values, &frame.guides, &frame.table, usize::MAX).unwrap();
+        assert_eq!(open(&file), Ok(frame));
+    }
+}

@@ -1,0 +1,33 @@
+//! Document 01's weighted median filter, written from that document and sharing no code with
+//! the proved library: every window is gathered anew, its pixels are sorted by level, and weights
+//! are added until they reach half of the whole.
+//!
+//! It is slow on purpose. Nothing is carried from one window to the next, so a mistake in carrying
+//! a histogram, an occupancy word, a balance box or a cut point cannot be made here.
+//!
+//! | Module | Document 01 |
+//! |---|---|
+//! | [`refusal`] | the numbers 1 to 12 |
+//! | [`frame`] | the frame's bytes and checks 1 to 7 |
+//! | [`window`] | window, weights, cumulative weight, median, balance |
+//! | [`walk`] | the walk, its marks, cut point and shift count; the serpentine |
+//! | [`store`] | what each way's stores hold, and how long they are |
+//! | [`calls`] | walk, filter and balance with their checks 8 to 11 |
+//! | [`writer`] | the writer |
+//! | [`program`] | the printed text and check 12 |
+//! | [`cases`] | the list of small walks that test programs print |
+//! | [`random`] | random and damaged frames |
+
+pub mod calls;
+pub mod cases;
+pub mod frame;
+pub mod program;
+pub mod random;
+pub mod refusal;
+pub mod store;
+pub mod walk;
+pub mod window;
+pub mod writer;
+
+#[cfg(test)]
+mod bench_windows;

@@ -1,0 +1,139 @@
+//! Damaged files: each change makes one check from 1 to 7 fire and touches no earlier one.
+
+use super::Random;
+use crate::frame::{locate, Places, Settings, KIND_GUIDED, TRAILER, WEIGHT_MOST};
+
+/// Makes check `number` fire on a file that no check from 1 to `number` refuses. To damage a file
+/// twice, damage it for the later check first.
+pub fn damage(random: &mut Random, file: &mut Vec<u8>, number: u8) {
+    match number {
+        1 => damage_mark(random, file),
+        2 => damage_size(random, file),
+        3 => damage_counts(random, file),
+        4 => damage_kind(random, file),
+        5 => put(file, 9, &[random.pick(&[16, 17, 255])]),
+        6 => damage_distances(random, file),
+        7 => damage_contents(random, file),
+        _ => panic!("no damage for check {number}"),
+    }
+}
+
+/// Writes bytes at a place of the trailer.
+fn put(file: &mut [u8], place: usize, bytes: &[u8]) {
+    let start = file.len() - TRAILER + place;
+    file[start..start + bytes.len()].copy_from_slice(bytes);
+}
+
+fn put16(file: &mut [u8], place: usize, number: u16) {
+    put(file, place, &number.to_be_bytes());
+}
+
+fn located(file: &[u8]) -> (Settings, Places) {
+    locate(file).expect("checks 1 to 6 accept the file")
+}
+
+fn damage_mark(random: &mut Random, file: &mut Vec<u8>) {
+    if random.once_in(3) {
+        let kept = random.below(TRAILER);
+        file.drain(..file.len() - kept);
+    } else {
+        let place = file.len() - 1 - random.below(4);
+        file[place] ^= 1 << random.below(8);
+    }
+}
+
+fn damage_size(random: &mut Random, file: &mut [u8]) {
+    match random.below(4) {
+        0 => put16(file, 0, random.pick(&[0, 1025, 65_535])),
+        1 => put16(file, 2, random.pick(&[0, 1025, 65_535])),
+        _ => {
+            let (width, height) = random.pick(&[(1024, 257), (257, 1024), (512, 513), (1024, 1024)]);
+            put16(file, 0, width);
+            put16(file, 2, height);
+        }
+    }
+}
+
+fn damage_counts(random: &mut Random, file: &mut [u8]) {
+    if random.once_in(2) {
+        put16(file, 4, random.pick(&[0, 1, 1025, 65_535]));
+    } else {
+        put16(file, 6, random.pick(&[0, 1, 257, 65_535]));
+    }
+}
+
+fn damage_kind(random: &mut Random, file: &mut [u8]) {
+    let kind = file[file.len() - TRAILER + 8];
+    if random.once_in(2) {
+        put(file, 8, &[random.pick(&[0, 3, 255])]);
+    } else if kind == KIND_GUIDED {
+        put16(file, 10, random.pick(&[0, 65_026, 65_535]));
+    } else {
+        put16(file, 10, random.pick(&[1, 64, 65_535]));
+    }
+}
+
+fn damage_distances(random: &mut Random, file: &mut [u8]) {
+    let (settings, _) = located(file);
+    let before_file = (file.len() - TRAILER + 1) as u32;
+    let part = random.below(3);
+    let short = match part {
+        2 if settings.kind == KIND_GUIDED => random.pick(&[1, 8, 131_072]),
+        2 => 2 * settings.table_weights() as u32 - 1,
+        _ => random.pick(&[0, 2 * settings.pixels() as u32 - 1]),
+    };
+    let distance = random.pick(&[short, before_file, u32::MAX]);
+    put(file, 12 + 4 * part, &distance.to_be_bytes());
+}
+
+fn damage_contents(random: &mut Random, file: &mut [u8]) {
+    let (settings, places) = located(file);
+    let table = places.table.map(|place| (place, settings.table_weights(), WEIGHT_MOST));
+    let (place, numbers, most) = match (random.below(3), table) {
+        (0, _) => (places.values, settings.pixels(), settings.levels - 1),
+        (1, Some(table)) => table,
+        _ => (places.guides, settings.pixels(), settings.guides - 1),
+    };
+    let offset = place + 2 * random.below(numbers);
+    let number = random.ranged(&[(most + 1, most + 1), (most + 1, 65_535), (65_535, 65_535)]);
+    file[offset..offset + 2].copy_from_slice(&number.to_be_bytes());
+}
+
+#[cfg(test)]
+mod tests {
+    use super::super::{accepted_file, Random};
+    use super::damage;
+    use crate::frame::open;
+
+    #[test]
+    fn random_files_are_accepted() {
+        let mut random = Random::new(1);
+        for _ in 0..2_000 {
+            open(&accepted_file(&mut random, 12)).expect("an accepted frame");
+        }
+    }
+
+    #[test]
+    fn each_damage_is_refused_by_its_own_number() {
+        let mut random = Random::new(2);
+        for round in 0..2_100 {
+            let number = 1 + (round % 7) as u8;
+            let mut file = accepted_file(&mut random, 8);
+            damage(&mut random, &mut file, number);
+            assert_eq!(open(&file).unwrap_err().number, number);
+        }
+    }
+
+    #[test]
+    fn of_two_damages_the_earlier_check_decides() {
+        let mut random = Random::new(3);
+        for round in 0..2_100 {
+            let earlier = 1 + (round % 6) as u8;
+            let later = earlier + 1 + random.below(usize::from(7 - earlier)) as u8;
+            let mut file = accepted_file(&mut random, 8);
+            damage(&mut random, &mut file, later);
+            damage(&mut random, &mut file, earlier);
+            assert_eq!(open(&file).unwrap_err().number, earlier, "with {later}");
+        }
+    }
+}

@@ -1,0 +1,118 @@
+//! Files of accepted frames, their parts laid out in every way that document 01 allows.
+
+use super::{random_guides, random_table, random_values, Random};
+use crate::frame::{bytes_of, trailer_bytes, Settings, KIND_GUIDED, KIND_TABLE};
+
+/// Width and height: a rectangle, a single row or column, or smaller than the window.
+fn size(random: &mut Random, side: u16, radius: u8) -> (u16, u16) {
+    let long = if random.once_in(40) { 1024 } else { 4 * side };
+    match random.below(8) {
+        0 => (1, random.within(1, long)),
+        1 => (random.within(1, long), 1),
+        2 => {
+            let small = u16::from(radius).clamp(1, side);
+            (random.within(1, small), random.within(1, small))
+        }
+        _ => (random.within(1, side), random.within(1, side)),
+    }
+}
+
+/// Settings within all limits; most pictures have sides of at most `side`.
+pub fn settings(random: &mut Random, side: u16) -> Settings {
+    let kind = random.pick(&[KIND_TABLE, KIND_GUIDED]);
+    let radius = random.ranged(&[(0, 2), (0, 4), (0, 4), (0, 7), (0, 15), (15, 15)]) as u8;
+    let (width, height) = size(random, side, radius);
+    let smoothing = random.ranged(&[(1, 1), (1, 64), (64, 64), (1, 65_025), (65_025, 65_025)]);
+    Settings {
+        width,
+        height,
+        levels: random.ranged(&[(2, 2), (2, 9), (2, 64), (2, 1024), (1024, 1024)]),
+        guides: random.ranged(&[(2, 2), (2, 9), (2, 64), (63, 65), (127, 129), (2, 256), (256, 256)]),
+        kind,
+        radius,
+        smoothing: if kind == KIND_GUIDED { smoothing } else { 0 },
+    }
+}
+
+/// The file of a random frame.
+pub fn accepted_file(random: &mut Random, side: u16) -> Vec<u8> {
+    let settings = settings(random, side);
+    accepted_file_of(random, &settings)
+}
+
+/// The file of a random frame with these settings, its parts laid out at random.
+pub fn accepted_file_of(random: &mut Random, settings: &Settings) -> Vec<u8> {
+    let table = if settings.kind == KIND_TABLE && !random.once_in(4) {
+        bytes_of(&random_table(random, settings))
+    } else {
+        Vec::new()
+    };
+    match random.below(5) {
+        0 => shared(random, settings, table.len()),
+        1 if settings.levels > 256 => interleaved(random, settings, table),
+        _ => {
+            let values = bytes_of(&random_values(random, settings));
+            let guides = bytes_of(&random_guides(random, settings));
+            scattered(random, settings, [values, guides, table])
+        }
+    }
+}
+
+/// The body and its trailer, for parts that begin at `starts`.
+fn closed(mut body: Vec<u8>, settings: &Settings, starts: [Option<usize>; 3]) -> Vec<u8> {
+    let distance = |start: Option<usize>| start.map_or(0, |start| body.len() - start);
+    let trailer = trailer_bytes(settings, starts.map(distance));
+    body.extend(trailer);
+    body
+}
+
+/// Up to five bytes that no part uses; often none.
+fn junk(random: &mut Random) -> Vec<u8> {
+    let length = random.below(6) * random.below(2);
+    random.bytes(length)
+}
+
+/// The parts in any order with junk around them, so that distances are odd as well as even.
+fn scattered(random: &mut Random, settings: &Settings, parts: [Vec<u8>; 3]) -> Vec<u8> {
+    let orders = [[0, 1, 2], [0, 2, 1], [1, 0, 2], [1, 2, 0], [2, 0, 1], [2, 1, 0]];
+    let mut body = Vec::new();
+    let mut starts = [None; 3];
+    for part in random.pick(&orders) {
+        body.extend(junk(random));
+        if !parts[part].is_empty() {
+            starts[part] = Some(body.len());
+            body.extend(&parts[part]);
+        }
+    }
+    body.extend(junk(random));
+    closed(body, settings, starts)
+}
+
+/// All parts within one stretch of numbers that are small enough for each, so that they overlap.
+fn shared(random: &mut Random, settings: &Settings, table: usize) -> Vec<u8> {
+    let plane = 2 * settings.pixels();
+    let length = plane.max(table) + 2 * random.below(settings.pixels() + 1);
+    let most = settings.levels.min(settings.guides) - 1;
+    let numbers: Vec<u16> = (0..length / 2).map(|_| random.within(0, most)).collect();
+    let mut body = junk(random);
+    let first = body.len();
+    body.extend(bytes_of(&numbers));
+    let mut place = |part: usize| first + 2 * random.below((length - part) / 2 + 1);
+    let starts = [Some(place(plane)), Some(place(plane)), (table > 0).then(|| place(table))];
+    closed(body, settings, starts)
+}
+
+/// The guide plane one byte after the value plane: each byte serves both, here as a value's high byte
+/// and then as a guide's low byte.
+fn interleaved(random: &mut Random, settings: &Settings, table: Vec<u8>) -> Vec<u8> {
+    let most = ((settings.levels - 1) / 256).min(settings.guides - 1);
+    let mut body = junk(random);
+    let first = body.len();
+    for _ in 0..settings.pixels() {
+        body.extend([random.within(0, most) as u8, 0]);
+    }
+    body.push(random.within(0, most) as u8);
+    let table_start = (!table.is_empty()).then_some(body.len());
+    body.extend(table);
+    closed(body, settings, [Some(first), Some(first + 1), table_start])
+}

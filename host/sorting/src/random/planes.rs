@@ -1,0 +1,56 @@
+//! Contents of the planes and the table: plain noise hides mistakes that flat, split and lonely
+//! contents show.
+
+use super::Random;
+use crate::frame::{Settings, WEIGHT_MOST};
+
+fn fill(length: usize, mut number: impl FnMut(usize) -> u16) -> Vec<u16> {
+    (0..length).map(&mut number).collect()
+}
+
+/// Levels: noise, a few levels only, a slope with outliers, or both ends.
+pub fn random_values(random: &mut Random, settings: &Settings) -> Vec<u16> {
+    let (pixels, most) = (settings.pixels(), settings.levels - 1);
+    match random.below(4) {
+        0 => fill(pixels, |_| random.within(0, most)),
+        1 => {
+            let few = [random.within(0, most), random.within(0, most), random.within(0, most)];
+            fill(pixels, |_| random.pick(&few))
+        }
+        2 => fill(pixels, |index| match random.below(6) {
+            0 => random.within(0, most),
+            _ => (index * usize::from(most) / pixels) as u16,
+        }),
+        _ => fill(pixels, |_| if random.once_in(2) { 0 } else { most }),
+    }
+}
+
+/// Guides: flat, split down the middle, noise, or a few lonely pixels at the other end, whose windows
+/// have negative weights in kind 2.
+pub fn random_guides(random: &mut Random, settings: &Settings) -> Vec<u16> {
+    let (pixels, most) = (settings.pixels(), settings.guides - 1);
+    let (one, other) = (random.within(0, most), random.within(0, most));
+    let width = usize::from(settings.width);
+    match random.below(6) {
+        0 => vec![one; pixels],
+        1 => fill(pixels, |index| if 2 * (index % width) < width { one } else { other }),
+        2 => fill(pixels, |_| if random.once_in(7) { most } else { 0 }),
+        3 => fill(pixels, |_| if random.once_in(7) { 0 } else { most }),
+        _ => fill(pixels, |_| random.within(0, most)),
+    }
+}
+
+/// Weights: all 0, mostly 0, all alike, both ends, noise, or heavy above the diagonal only, where a
+/// transposed table shows.
+pub fn random_table(random: &mut Random, settings: &Settings) -> Vec<u16> {
+    let (weights, guides) = (settings.table_weights(), usize::from(settings.guides));
+    let same = random.within(0, WEIGHT_MOST);
+    match random.below(7) {
+        0 => vec![0; weights],
+        1 => fill(weights, |_| if random.once_in(8) { random.within(0, WEIGHT_MOST) } else { 0 }),
+        2 => vec![same; weights],
+        3 => fill(weights, |_| if random.once_in(2) { 0 } else { WEIGHT_MOST }),
+        4 => fill(weights, |index| if index / guides < index % guides { WEIGHT_MOST } else { 1 }),
+        _ => fill(weights, |_| random.within(0, WEIGHT_MOST)),
+    }
+}

@@ -1,0 +1,114 @@
+//! The walk over moves, and the serpentine of the filter.
+
+use crate::frame::Frame;
+use crate::window::Window;
+
+/// The answer to a move that would leave the picture.
+pub const OFF_PICTURE: u16 = 65_534;
+/// The answer to a byte that is no move.
+pub const UNKNOWN_MOVE: u16 = 65_533;
+/// Move bytes.
+pub const RIGHT: u8 = 0;
+pub const LEFT: u8 = 1;
+pub const DOWN: u8 = 2;
+pub const UP: u8 = 3;
+
+/// A walk, reckoned from frame, start and list alone.
+#[derive(Clone, Debug, PartialEq, Eq)]
+pub struct Walk {
+    /// One answer for the start and one for each move byte.
+    pub answers: Vec<u16>,
+    /// Sum of the level distances over all windows.
+    pub shifts: u64,
+    /// The cut point after the last window.
+    pub cut: u16,
+    /// The last pixel.
+    pub column: usize,
+    pub row: usize,
+}
+
+impl Walk {
+    /// Stands at the start: cut and shift count are 0, and the start window adds first.
+    fn start(frame: &Frame, column: usize, row: usize) -> Walk {
+        let mut walk = Walk { answers: Vec::new(), shifts: 0, cut: 0, column, row };
+        walk.arrive(frame);
+        walk
+    }
+
+    /// Answers for the window at the present pixel and lets it add to the shift count.
+    fn arrive(&mut self, frame: &Frame) {
+        let window = Window::at(frame, self.column, self.row);
+        let answer = window.answer();
+        self.answers.push(answer);
+        if window.hollow() {
+            return;
+        }
+        let from = if window.steady { self.cut } else { 0 };
+        self.shifts += u64::from(answer.abs_diff(from));
+        self.cut = answer;
+    }
+
+    /// Takes one move byte.
+    fn step(&mut self, frame: &Frame, byte: u8) {
+        match target(self.column, self.row, byte) {
+            Target::Unknown => self.answers.push(UNKNOWN_MOVE),
+            Target::Pixel(Some(column), Some(row)) if frame.has(column, row) => {
+                self.column = column;
+                self.row = row;
+                self.arrive(frame);
+            }
+            Target::Pixel(..) => self.answers.push(OFF_PICTURE),
+        }
+    }
+}
+
+/// Where a byte leads; `None` is before the first column or row.
+enum Target {
+    Pixel(Option<usize>, Option<usize>),
+    Unknown,
+}
+
+fn target(column: usize, row: usize, byte: u8) -> Target {
+    match byte {
+        RIGHT => Target::Pixel(Some(column + 1), Some(row)),
+        LEFT => Target::Pixel(column.checked_sub(1), Some(row)),
+        DOWN => Target::Pixel(Some(column), Some(row + 1)),
+        UP => Target::Pixel(Some(column), row.checked_sub(1)),
+        _ => Target::Unknown,
+    }
+}
+
+/// Walks from a pixel of the picture along the whole list.
+pub fn walk(frame: &Frame, column: usize, row: usize, moves: &[u8]) -> Walk {
+    let mut walk = Walk::start(frame, column, row);
+    for &byte in moves {
+        walk.step(frame, byte);
+    }
+    walk
+}
+
+/// The filter's moves: row 0 rightward, down, row 1 leftward, and so on.
+pub fn serpentine(width: u16, height: u16) -> Vec<u8> {
+    let mut moves = Vec::new();
+    for row in 0..height {
+        if row > 0 {
+            moves.push(DOWN);
+        }
+        let sideways = if row % 2 == 0 { RIGHT } else { LEFT };
+        moves.extend((1..width).map(|_| sideways));
+    }
+    moves
+}
+
+/// The filtered plane, row by row, and the serpentine walk it came from.
+pub fn filter(frame: &Frame) -> (Vec<u16>, Walk) {
+    let (width, height) = (frame.settings.width, frame.settings.height);
+    let walk = walk(frame, 0, 0, &serpentine(width, height));
+    let mut plane = walk.answers.clone();
+    for (row, line) in plane.chunks_mut(usize::from(width)).enumerate() {
+        if row % 2 == 1 {
+            line.reverse();
+        }
+    }
+    (plane, walk)
+}

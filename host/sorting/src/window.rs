@@ -1,0 +1,151 @@
+//! One window: its pixels, their weights, the cumulative weight and the median.
+
+use crate::frame::{Frame, KIND_TABLE};
+use std::ops::RangeInclusive;
+
+/// A pixel of the window.
+#[derive(Clone, Copy, Debug, PartialEq, Eq)]
+pub struct Weighted {
+    pub level: u16,
+    pub guide: u16,
+    pub weight: i64,
+}
+
+/// The window at a centre, gathered anew.
+#[derive(Clone, Debug)]
+pub struct Window {
+    /// The window's pixels, row by row, each with its weight.
+    pub pixels: Vec<Weighted>,
+    /// Whether the weight formula is not negative at both guide ends; always so in kind 1.
+    pub steady: bool,
+    centre_level: u16,
+}
+
+/// The places from `centre - radius` to `centre + radius` that lie in the picture.
+pub fn reach(centre: usize, radius: u8, size: u16) -> RangeInclusive<usize> {
+    let radius = usize::from(radius);
+    centre.saturating_sub(radius)..=(centre + radius).min(usize::from(size) - 1)
+}
+
+/// Level and guide of each pixel in the window.
+fn gather(frame: &Frame, column: usize, row: usize) -> Vec<(u16, u16)> {
+    let settings = &frame.settings;
+    let mut pixels = Vec::new();
+    for t in reach(row, settings.radius, settings.height) {
+        for s in reach(column, settings.radius, settings.width) {
+            pixels.push((frame.level(s, t), frame.guide(s, t)));
+        }
+    }
+    pixels
+}
+
+/// The numbers of kind 2's weight formula for one window.
+struct Guided {
+    n: i64,
+    sum: i64,
+    /// V = nQ - S² + n²E.
+    variance: i64,
+    /// n·g(x) - S.
+    slope: i64,
+}
+
+impl Guided {
+    fn of(pixels: &[(u16, u16)], centre_guide: u16, smoothing: u16) -> Guided {
+        let n = pixels.len() as i64;
+        let sum: i64 = pixels.iter().map(|&(_, g)| i64::from(g)).sum();
+        let squares: i64 = pixels.iter().map(|&(_, g)| i64::from(g) * i64::from(g)).sum();
+        Guided {
+            n,
+            sum,
+            variance: n * squares - sum * sum + n * n * i64::from(smoothing),
+            slope: n * i64::from(centre_guide) - sum,
+        }
+    }
+
+    fn weight(&self, guide: u16) -> i64 {
+        self.variance + self.slope * (self.n * i64::from(guide) - self.sum)
+    }
+}
+
+impl Window {
+    /// The window at a pixel of the picture.
+    pub fn at(frame: &Frame, column: usize, row: usize) -> Window {
+        let pixels = gather(frame, column, row);
+        let centre_guide = frame.guide(column, row);
+        let settings = &frame.settings;
+        let centre_level = frame.level(column, row);
+        if settings.kind == KIND_TABLE {
+            let weight = |guide| i64::from(frame.table_weight(centre_guide, guide));
+            return Window { pixels: weigh(&pixels, weight), steady: true, centre_level };
+        }
+        let guided = Guided::of(&pixels, centre_guide, settings.smoothing);
+        let ends = [0, settings.guides - 1];
+        Window {
+            pixels: weigh(&pixels, |guide| guided.weight(guide)),
+            steady: ends.iter().all(|&end| guided.weight(end) >= 0),
+            centre_level,
+        }
+    }
+
+    /// T: the sum of all weights.
+    pub fn total(&self) -> i64 {
+        self.pixels.iter().map(|pixel| pixel.weight).sum()
+    }
+
+    /// U(i): the sum of the weights of level i and below.
+    pub fn cumulative(&self, level: u16) -> i64 {
+        self.pixels.iter().filter(|pixel| pixel.level <= level).map(|pixel| pixel.weight).sum()
+    }
+
+    /// 2U(i) - T.
+    pub fn balance(&self, level: u16) -> i64 {
+        2 * self.cumulative(level) - self.total()
+    }
+
+    /// Whether the weights sum to 0, so that there is no half to reach.
+    pub fn hollow(&self) -> bool {
+        self.total() == 0
+    }
+
+    /// Whether some pixel weighs less than 0.
+    pub fn has_negative_weight(&self) -> bool {
+        self.pixels.iter().any(|pixel| pixel.weight < 0)
+    }
+
+    /// The answer: the lowest level at which the cumulative weight reaches half, or the centre's own
+    /// level in a hollow window.
+    pub fn answer(&self) -> u16 {
+        if self.hollow() {
+            return self.centre_level;
+        }
+        let mut sorted = self.pixels.clone();
+        sorted.sort_by_key(|pixel| pixel.level);
+        let total = self.total();
+        let mut cumulative = 0;
+        let mut next = 0;
+        let mut level = 0;
+        loop {
+            while next < sorted.len() && sorted[next].level == level {
+                cumulative += sorted[next].weight;
+                next += 1;
+            }
+            if 2 * cumulative >= total {
+                return level;
+            }
+            // Between two levels that occur the cumulative weight stays. One is left, since the whole
+            // weight of a window that is not hollow is above 0 and more than its half.
+            level = sorted[next].level;
+        }
+    }
+
+    /// The weighted sum of absolute differences between the window's levels and `level`.
+    pub fn absolute_differences(&self, level: u16) -> i64 {
+        let distance = |pixel: &Weighted| i64::from(pixel.level.abs_diff(level));
+        self.pixels.iter().map(|pixel| pixel.weight * distance(pixel)).sum()
+    }
+}
+
+fn weigh(pixels: &[(u16, u16)], weight: impl Fn(u16) -> i64) -> Vec<Weighted> {
+    let weighted = |&(level, guide)| Weighted { level, guide, weight: weight(guide) };
+    pixels.iter().map(weighted).collect()
+}

@@ -1,0 +1,119 @@
+//! Accepted frames: walks, filters and balances in every serving way.
+
+use crate::buffers::{compare, Buffers};
+use crate::library::{self, Status, WalkResult};
+use crate::tally::Tally;
+use crate::{same, Check};
+use sorting_filter::calls;
+use sorting_filter::frame::{open, Frame, Settings, KIND_GUIDED, KIND_TABLE};
+use sorting_filter::random::{accepted_file, accepted_file_of, moves, start, Random};
+use sorting_filter::store::{Lengths, Way};
+use sorting_filter::walk::UNKNOWN_MOVE;
+use sorting_filter::window::Window;
+
+/// Sides of most pictures; sides of those that hold a whole window of the largest radius; the longest list.
+const SIDE: u16 = 12;
+const WIDE_SIDE: u16 = 40;
+const MOVES: usize = 120;
+
+/// Tests every call on a new accepted frame and hands the frame's bytes on.
+pub fn test_random(random: &mut Random, tally: &mut Tally) -> Result<Vec<u8>, String> {
+    let side = if random.once_in(50) { WIDE_SIDE } else { SIDE };
+    let file = accepted_file(random, side);
+    test_accepted(random, &file, tally)?;
+    Ok(file)
+}
+
+/// The limits of document 01 that random frames do not reach: the largest frames of both kinds, and the
+/// longest list on a picture of one pixel.
+pub fn test_largest(random: &mut Random, tally: &mut Tally) -> Check {
+    for (kind, smoothing) in [(KIND_TABLE, 0), (KIND_GUIDED, 64)] {
+        let settings = Settings { width: 1024, height: 256, levels: 1024, guides: 256, kind, radius: 1, smoothing };
+        let file = accepted_file_of(random, &settings);
+        test_accepted(random, &file, tally)?;
+        let file = accepted_file_of(random, &Settings { width: 1, height: 1, ..settings });
+        let moves = random.bytes(calls::MOVES_MOST);
+        test_walk(random, &file, Way::Joint, &moves, tally)?;
+    }
+    Ok(())
+}
+
+fn test_accepted(random: &mut Random, file: &[u8], tally: &mut Tally) -> Check {
+    let frame = open(file).map_err(|refusal| format!("the generator made a bad file: {refusal}"))?;
+    tally.frames[usize::from(frame.settings.kind == KIND_GUIDED)] += 1;
+    let untouched = file.to_vec();
+    same("check", &library::check(file), &Status { status: 0, offset: 0 })?;
+    for way in Way::ALL.into_iter().filter(|way| way.serves(frame.settings.kind)) {
+        let moves = moves(random, &frame.settings, MOVES);
+        test_walk(random, file, way, &moves, tally).map_err(|error| format!("walk, {way:?}: {error}"))?;
+        test_filter(random, file, &frame, way, tally).map_err(|error| format!("filter, {way:?}: {error}"))?;
+    }
+    test_balance(random, file, &frame, tally)?;
+    same("the file after the calls", &file, &untouched.as_slice())
+}
+
+fn test_walk(random: &mut Random, file: &[u8], way: Way, moves: &[u8], tally: &mut Tally) -> Check {
+    let frame = open(file).map_err(|refusal| refusal.to_string())?;
+    let start = start(random, &frame.settings);
+    count_window(&Window::at(&frame, start.0, start.1), tally);
+    let needed = Lengths { answers: 1 + moves.len(), ..Lengths::of_stores(way, &frame.settings) };
+    let before = Buffers::poisoned_beyond(random, &needed);
+    let mut after = before.clone();
+    let result = library::walk(file, way.number(), start, moves, &mut after);
+    let expected = calls::walk(file, way.number(), start, moves, &before.lengths());
+    same("result", &result, &WalkResult::of(&expected))?;
+    let walked = expected.map_err(|refusal| refusal.to_string())?;
+    tally.walks += 1;
+    tally.answers += walked.answers.len() as u64;
+    tally.marks += walked.answers.iter().filter(|&&answer| answer >= UNKNOWN_MOVE).count() as u64;
+    compare(&before, after, &walked, &needed)
+}
+
+fn count_window(window: &Window, tally: &mut Tally) {
+    tally.hollow += u64::from(window.hollow());
+    tally.negative += u64::from(window.has_negative_weight());
+    tally.unsteady += u64::from(!window.steady);
+}
+
+fn test_filter(random: &mut Random, file: &[u8], frame: &Frame, way: Way, tally: &mut Tally) -> Check {
+    let needed = Lengths { answers: frame.settings.pixels(), ..Lengths::of_stores(way, &frame.settings) };
+    let before = Buffers::poisoned_beyond(random, &needed);
+    let mut after = before.clone();
+    let result = library::filter(file, way.number(), &mut after);
+    let expected = calls::filter(file, way.number(), &before.lengths());
+    let walked = expected.map_err(|refusal| refusal.to_string())?;
+    same("result", &result, &(Status { status: 0, offset: 0 }, walked.shifts))?;
+    tally.filters += 1;
+    tally.answers += walked.answers.len() as u64;
+    if random.once_in(4) {
+        test_wrapper(file, way, &walked)?;
+    }
+    compare(&before, after, &walked, &needed)
+}
+
+/// The Rust wrapper computes buffer lengths of its own.
+fn test_wrapper(file: &[u8], way: Way, expected: &calls::Walked) -> Check {
+    let way = match way {
+        Way::Joint => icemedian::Way::Joint,
+        Way::Columns => icemedian::Way::Columns,
+        Way::Chain => icemedian::Way::Chain,
+    };
+    let filtered = icemedian::filter(file, way).map_err(|refusal| refusal.to_string())?;
+    same("wrapper's levels", &filtered.levels, &expected.answers)?;
+    same("wrapper's shifts", &filtered.shifts, &expected.shifts)
+}
+
+/// Balances: every level of small frames at every pixel, a few elsewhere.
+fn test_balance(random: &mut Random, file: &[u8], frame: &Frame, tally: &mut Tally) -> Check {
+    let k = &frame.settings;
+    let all = k.pixels() * usize::from(k.levels);
+    let tries: Vec<usize> = if all <= 200 { (0..all).collect() } else { (0..6).map(|_| random.below(all)).collect() };
+    for index in tries {
+        let (pixel, level) = (index / usize::from(k.levels), (index % usize::from(k.levels)) as u16);
+        let place = (pixel % usize::from(k.width), pixel / usize::from(k.width));
+        let expected = calls::balance(file, place, level);
+        library::compare_balance("balance", library::balance(file, place, level), &expected)?;
+        tally.balances += 1;
+    }
+    Ok(())
+}

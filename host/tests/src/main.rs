@@ -1,0 +1,101 @@
+//! Random frames through the library's C interface, held against the sorting filter.
+//!
+//! `library_tests [FRAMES] [--seed N] [--program PATH]` makes FRAMES frames (2,000 if not said), walks
+//! and filters each in every serving way, damages it, and writes it again. With `--program` it also
+//! feeds frames to the program's standard input. The same seed gives the same frames everywhere.
+
+mod buffers;
+mod frames;
+mod library;
+mod program;
+mod refusals;
+mod tally;
+mod writing;
+
+use sorting_filter::random::Random;
+use std::process::ExitCode;
+use tally::Tally;
+
+/// What a test says when the library differs from the sorting filter.
+pub type Check = Result<(), String>;
+
+const USAGE: &str = "usage: library_tests [FRAMES] [--seed N] [--program PATH]";
+/// After so many failures the rest would say nothing new.
+const FAILURES_MOST: usize = 10;
+
+struct Options {
+    frames: u64,
+    seed: u64,
+    program: Option<String>,
+}
+
+fn options() -> Result<Options, String> {
+    let mut options = Options { frames: 2_000, seed: 1, program: None };
+    let mut words = std::env::args().skip(1);
+    let number = |word: String| word.parse().map_err(|_| format!("not a number: {word}\n{USAGE}"));
+    while let Some(word) = words.next() {
+        match word.as_str() {
+            "--seed" => options.seed = number(words.next().unwrap_or_default())?,
+            "--program" => options.program = Some(words.next().ok_or(USAGE)?),
+            "--help" => return Err(USAGE.to_string()),
+            _ => options.frames = number(word)?,
+        }
+    }
+    Ok(options)
+}
+
+/// Compares two things and names them where they differ.
+pub fn same<T: PartialEq + std::fmt::Debug>(what: &str, library: &T, expected: &T) -> Check {
+    if library == expected {
+        return Ok(());
+    }
+    Err(format!("{what}: library {library:?}, expected {expected:?}"))
+}
+
+/// All tests on one random frame.
+fn test_frame(random: &mut Random, tally: &mut Tally) -> Check {
+    let file = frames::test_random(random, tally)?;
+    refusals::test_calls(random, &file, tally)?;
+    refusals::test_damaged(random, &file, tally)?;
+    writing::test_writer(random, &file, tally)
+}
+
+fn run(options: &Options) -> Result<Tally, String> {
+    let mut tally = Tally::default();
+    let mut failures = Vec::new();
+    for number in 0..options.frames {
+        let mut random = Random::new(options.seed.wrapping_mul(1 << 32).wrapping_add(number));
+        if let Err(message) = test_frame(&mut random, &mut tally) {
+            failures.push(format!("seed {} frame {number}: {message}", options.seed));
+        }
+        if failures.len() == FAILURES_MOST {
+            break;
+        }
+    }
+    let largest = frames::test_largest(&mut Random::new(options.seed), &mut tally);
+    failures.extend(largest.err().map(|message| format!("largest: {message}")));
+    if let Some(path) = &options.program {
+        failures.extend(program::test(path, options.frames / 10 + 50, options.seed, &mut tally).err());
+    }
+    if failures.is_empty() {
+        failures.extend(tally.uncovered());
+    }
+    if failures.is_empty() {
+        Ok(tally)
+    } else {
+        Err(failures.join("\n"))
+    }
+}
+
+fn main() -> ExitCode {
+    match options().and_then(|options| run(&options)) {
+        Ok(tally) => {
+            println!("{tally}");
+            ExitCode::SUCCESS
+        }
+        Err(message) => {
+            eprintln!("{message}");
+            ExitCode::FAILURE
+        }
+    }
+}

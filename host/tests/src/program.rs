@@ -1,0 +1,83 @@
+//! The program: what it prints for frames, damaged frames and endless input.
+
+use crate::tally::Tally;
+use crate::{same, Check};
+use sorting_filter::program::{printed, INPUT_MOST};
+use sorting_filter::random::{accepted_file_of, damage, settings, Random};
+use std::io::Write;
+use std::process::{ChildStdin, Command, Stdio};
+use std::thread;
+use std::time::{Duration, Instant};
+
+/// How long the program may take on one input.
+const TIME_MOST: Duration = Duration::from_secs(10);
+
+/// What the program prints when `feed` writes to its standard input.
+fn output_of(path: &str, feed: impl FnOnce(ChildStdin) + Send) -> Result<String, String> {
+    let spawned = Command::new(path).stdin(Stdio::piped()).stdout(Stdio::piped()).spawn();
+    let mut child = spawned.map_err(|error| format!("{path}: {error}"))?;
+    let stdin = child.stdin.take().ok_or("no standard input")?;
+    let ended = thread::scope(|scope| {
+        scope.spawn(|| feed(stdin));
+        let start = Instant::now();
+        while start.elapsed() < TIME_MOST {
+            if matches!(child.try_wait(), Ok(Some(_))) {
+                return true;
+            }
+            thread::sleep(Duration::from_micros(200));
+        }
+        // Ending the program also ends what feeds it.
+        let _ = child.kill();
+        false
+    });
+    let output = child.wait_with_output().map_err(|error| format!("{path}: {error}"))?;
+    if !ended || output.status.code().is_none() {
+        return Err(format!("{path} did not end by itself"));
+    }
+    String::from_utf8(output.stdout).map_err(|_| format!("{path} printed bytes that are no text"))
+}
+
+/// Writes once. A program that has read enough may close its input: that is no error.
+fn once(input: &[u8]) -> impl FnOnce(ChildStdin) + Send + '_ {
+    move |mut stdin| drop(stdin.write_all(input))
+}
+
+/// Writes for as long as the program reads or lives, slowly, so that one that keeps it all stays small.
+fn without_end(mut stdin: ChildStdin) {
+    while stdin.write_all(&[0; 4096]).is_ok() {
+        thread::sleep(Duration::from_millis(1));
+    }
+}
+
+/// An input near the program's limits, damaged now and then.
+fn random_input(random: &mut Random) -> Vec<u8> {
+    let mut settings = settings(random, 12);
+    let limit = random.pick(&[64, 64, 64, 65]);
+    settings.width = settings.width.min(limit);
+    settings.levels = settings.levels.min(limit);
+    settings.guides = settings.guides.min(limit);
+    let mut input = accepted_file_of(random, &settings);
+    if random.once_in(3) {
+        let number = 1 + random.below(7) as u8;
+        damage(random, &mut input, number);
+    }
+    if random.once_in(10) {
+        let size = random.pick(&[16_384, 16_385, 40_000]);
+        let padding = vec![0; usize::saturating_sub(size, input.len())];
+        input.splice(0..0, padding);
+    }
+    input
+}
+
+/// Runs the program on random inputs, on none, and on one that has no end.
+pub fn test(path: &str, runs: u64, seed: u64, tally: &mut Tally) -> Check {
+    let mut random = Random::new(seed ^ 0x5EED);
+    same("the program on no input", &output_of(path, once(&[]))?, &printed(&[]))?;
+    for run in 0..runs {
+        let input = random_input(&mut random);
+        let what = format!("the program, seed {seed} run {run}");
+        same(&what, &output_of(path, once(&input))?, &printed(&input))?;
+        tally.programs += 1;
+    }
+    same("the program on endless input", &output_of(path, without_end)?, &printed(&[0; INPUT_MOST + 1]))
+}

@@ -1,0 +1,82 @@
+//! The writer: round trips, every refusal, and the bytes beyond the file.
+
+use crate::library::{self, Status};
+use crate::refusals::count;
+use crate::tally::Tally;
+use crate::{same, Check};
+use sorting_filter::frame::{open, Frame, WEIGHT_MOST};
+use sorting_filter::random::Random;
+use sorting_filter::writer;
+
+pub fn test_writer(random: &mut Random, file: &[u8], tally: &mut Tally) -> Check {
+    let frame = open(file).map_err(|refusal| refusal.to_string())?;
+    let written = try_write(random, &frame, 0, tally)?.ok_or("the writer refused an accepted frame")?;
+    same("the frame read back", &open(&written), &Ok(frame.clone()))?;
+    same("check of a written frame", &library::check(&written), &Status { status: 0, offset: 0 })?;
+    let mut spoilt = frame;
+    spoil(random, &mut spoilt);
+    let missing = if random.once_in(4) { 1 + random.below(30) } else { 0 };
+    try_write(random, &spoilt, missing, tally).map(drop)
+}
+
+/// Writes with an output longer than needed, or `missing` bytes too short; the file if there is one.
+fn try_write(random: &mut Random, frame: &Frame, missing: usize, tally: &mut Tally) -> Result<Option<Vec<u8>>, String> {
+    let Frame { settings, values, guides, table } = frame;
+    let needed = 2 * (values.len() + guides.len() + table.len()) + 28;
+    let room = if missing > 0 { needed.saturating_sub(missing) } else { needed + 1 + random.below(9) };
+    let before = random.bytes(room);
+    let mut after = before.clone();
+    let result = library::write(settings, values, guides, table, &mut after);
+    let expected = writer::write(settings, values, guides, table, room);
+    let length = expected.as_ref().map_or(0, Vec::len);
+    same("writer", &result, &(Status::of(&expected), length))?;
+    let mut whole = before;
+    if let Ok(file) = &expected {
+        whole[..length].copy_from_slice(file);
+        tally.written += 1;
+    }
+    if after != whole {
+        return Err("written bytes differ".to_string());
+    }
+    count(&expected, tally);
+    Ok(expected.ok())
+}
+
+/// One or two mistakes in settings, lengths or contents.
+fn spoil(random: &mut Random, frame: &mut Frame) {
+    for _ in 0..1 + random.below(2) {
+        let k = &mut frame.settings;
+        match random.below(12) {
+            0 => k.width = random.pick(&[0, 1025, k.width + 1]),
+            1 => k.height = random.pick(&[0, 1025, k.height + 1]),
+            2 => (k.width, k.height) = (1024, 257),
+            3 => k.levels = random.pick(&[0, 1, 1025]),
+            4 => k.guides = random.pick(&[0, 1, 257]),
+            5 => k.kind = random.pick(&[0, 3, 255]),
+            6 => k.smoothing = random.pick(&[0, 1, 65_026]),
+            7 => k.radius = random.pick(&[16, 255]),
+            8 => lengthen_or_cut(random, &mut frame.values),
+            9 => lengthen_or_cut(random, &mut frame.guides),
+            10 => lengthen_or_cut(random, &mut frame.table),
+            _ => spoil_contents(random, frame),
+        }
+    }
+}
+
+fn lengthen_or_cut(random: &mut Random, part: &mut Vec<u16>) {
+    if random.once_in(2) || part.pop().is_none() {
+        part.push(0);
+    }
+}
+
+/// A number too large in one part, and sometimes another one in a later part.
+fn spoil_contents(random: &mut Random, frame: &mut Frame) {
+    let bounds = [frame.settings.levels, frame.settings.guides, WEIGHT_MOST + 1];
+    let parts = [&mut frame.values, &mut frame.guides, &mut frame.table];
+    for (part, bound) in parts.into_iter().zip(bounds) {
+        if !part.is_empty() && random.once_in(2) {
+            let place = random.below(part.len());
+            part[place] = random.pick(&[bound, 65_535]);
+        }
+    }
+}

@@ -1,0 +1,117 @@
+/* icemedian: weighted median filter for thermal frames of ice sheets, proved against document 01.
+ *
+ * Link with libicemedian_c.a. Every call works on the bytes of a whole frame, makes all checks itself
+ * and keeps nothing between calls, so calls on different buffers may run at the same time.
+ *
+ * Every call returns a status: 0, or the number of the first check that fires.
+ *
+ *   Number  Given exactly if
+ *   1       the file is under 28 bytes, or its mark is not 49 43 45 31 (hexadecimal)
+ *   2       width or height is not 1 to 1,024, or their product is above 262,144
+ *   3       the level count is not 2 to 1,024, or the guide count not 2 to 256
+ *   4       the kind is not 1 or 2, or the smoothing not 0 (kind 1) or 1 to 65,025 (kind 2)
+ *   5       the radius is above 15
+ *   6       a plane or table does not lie in the file, or kind 2 has a table;
+ *           in icemedian_write: a plane or table has the wrong length
+ *   7       a value >= level count, a guide >= guide count, or a weight > 256, searched in that
+ *           order; `offset` is the first such number's place in the file
+ *   8       the way is not 1 to 3, or does not serve the kind (ways 2 and 3 serve kind 2 only)
+ *   9       the pixel is outside the picture, or the level of a balance outside the levels
+ *   10      over 1,048,576 moves
+ *   11      a store, the answers or the output is too short
+ *
+ * On refusal every buffer keeps its content and every lent result is 0, except `offset` with 7.
+ * Without refusal `offset` is 0. Buffers may be longer than needed: what lies beyond the needed length
+ * is not touched, nor are the stores of the other ways.
+ *
+ * A pointer must never be NULL, must be aligned for its type, and must not reach into another buffer
+ * of the same call. A store that the way does not use may have the length 0.
+ */
+#ifndef ICEMEDIAN_H
+#define ICEMEDIAN_H
+
+#include <stddef.h>
+#include <stdint.h>
+
+#ifdef __cplusplus
+extern "C" {
+#endif
+
+/* Ways of counting: all give the same answers and the same shift count. */
+enum { ICEMEDIAN_JOINT = 1, ICEMEDIAN_COLUMNS = 2, ICEMEDIAN_CHAIN = 3 };
+
+/* Kinds of weights: from a table (or built in), or from the guide by equation 22 of source 000. */
+enum { ICEMEDIAN_TABLE = 1, ICEMEDIAN_GUIDED = 2 };
+
+/* Move bytes, and the answers to a byte that moves nothing. */
+enum { ICEMEDIAN_RIGHT = 0, ICEMEDIAN_LEFT = 1, ICEMEDIAN_DOWN = 2, ICEMEDIAN_UP = 3 };
+enum { ICEMEDIAN_UNKNOWN_MOVE = 65533, ICEMEDIAN_OFF_PICTURE = 65534 };
+
+/* A new frame's radius and smoothing, in kind 2, where nothing else is asked for. */
+enum { ICEMEDIAN_DEFAULT_RADIUS = 7, ICEMEDIAN_DEFAULT_SMOOTHING = 64 };
+
+/* Needed lengths, in elements. Way 1 needs counts and words, ways 2 and 3 need numbers. */
+#define ICEMEDIAN_COUNTS_LENGTH(levels, guides) ((size_t)(levels) * (size_t)(guides))
+#define ICEMEDIAN_WORDS_LENGTH(levels, guides) ((size_t)(levels) * (((size_t)(guides) + 63) / 64))
+#define ICEMEDIAN_COLUMNS_LENGTH(width, levels) (2 * ((size_t)(width) + 1) * (size_t)(levels))
+#define ICEMEDIAN_CHAIN_LENGTH(radius) (1 + 4 * (2 * (size_t)(radius) + 1) * (2 * (size_t)(radius) + 1))
+#define ICEMEDIAN_ANSWERS_LENGTH(moves) ((size_t)(moves) + 1)
+#define ICEMEDIAN_OUTPUT_LENGTH(width, height) ((size_t)(width) * (size_t)(height))
+#define ICEMEDIAN_FILE_LENGTH(width, height, table_weights) \
+    (4 * (size_t)(width) * (size_t)(height) + 2 * (size_t)(table_weights) + 28)
+#define ICEMEDIAN_BOX_LENGTH 256
+
+/* Settings of a file that icemedian_check accepts. */
+#define ICEMEDIAN_TRAILER16(file, length, place) \
+    ((unsigned)(file)[(length) - 28 + (place)] << 8 | (file)[(length) - 27 + (place)])
+#define ICEMEDIAN_WIDTH(file, length) ICEMEDIAN_TRAILER16(file, length, 0)
+#define ICEMEDIAN_HEIGHT(file, length) ICEMEDIAN_TRAILER16(file, length, 2)
+#define ICEMEDIAN_LEVELS(file, length) ICEMEDIAN_TRAILER16(file, length, 4)
+#define ICEMEDIAN_GUIDES(file, length) ICEMEDIAN_TRAILER16(file, length, 6)
+#define ICEMEDIAN_KIND(file, length) ((file)[(length) - 20])
+#define ICEMEDIAN_RADIUS(file, length) ((file)[(length) - 19])
+
+/* Checks 1 to 7. */
+uint32_t icemedian_check(const uint8_t *file, size_t file_length, uint64_t *offset);
+
+/* Filters a frame: checks 1 to 8 and 11. `output` gets a level for each pixel, row by row from the top
+ * left; `shifts` the sum of level distances that the cut point travelled along the serpentine. */
+uint32_t icemedian_filter(const uint8_t *file, size_t file_length, uint8_t way,
+                          uint16_t *counts, size_t counts_length,
+                          uint64_t *words, size_t words_length,
+                          uint32_t *numbers, size_t numbers_length,
+                          uint16_t *output, size_t output_length,
+                          uint64_t *shifts, uint64_t *offset);
+
+/* Walks from a pixel along a list of moves: checks 1 to 11. `answers` gets the start's answer and then
+ * one for each move byte. The way's stores hold the last window; `cut` is the cut point there and
+ * `balance_box`, of 256 cells, way 1's balance at it (zeros for the other ways). */
+uint32_t icemedian_walk(const uint8_t *file, size_t file_length, uint8_t way,
+                        size_t column, size_t row,
+                        const uint8_t *moves, size_t moves_length,
+                        uint16_t *counts, size_t counts_length,
+                        uint64_t *words, size_t words_length,
+                        uint32_t *numbers, size_t numbers_length,
+                        uint16_t *answers, size_t answers_length,
+                        uint64_t *shifts, uint16_t *cut, int16_t *balance_box, uint64_t *offset);
+
+/* The balance 2U(level) - T of the window at a pixel: checks 1 to 7 and 9. */
+uint32_t icemedian_balance(const uint8_t *file, size_t file_length,
+                           size_t column, size_t row, uint16_t level,
+                           int64_t *balance, uint64_t *offset);
+
+/* Writes a frame without gaps: checks 2 to 7 and 11. A table of length 0 means, in kind 1, the built-in
+ * weights; `length` is the file's length in bytes. */
+uint32_t icemedian_write(uint16_t width, uint16_t height, uint16_t levels, uint16_t guides,
+                         uint8_t kind, uint8_t radius, uint16_t smoothing,
+                         const uint16_t *values, size_t values_length,
+                         const uint16_t *guide, size_t guide_length,
+                         const uint16_t *table, size_t table_length,
+                         uint8_t *output, size_t output_length,
+                         size_t *length, uint64_t *offset);
+
+#ifdef __cplusplus
+}
+#endif
+
+#endif
