@@ -1,0 +1,113 @@
+-- The text of an accepted frame: its parts in their order, and that it fits the buffer.
+-- Assumes nothing.
+use Prim.Native.Nat.{ℕ, _*_, _≤_, _<_}
+use mathlib.Core.Path.{_≡_, refl, sym, ap}
+use mathlib.Core.Bool.{Bool, true, false, true≢false}
+use mathlib.Core.List.{List, [], _∷_, _++_, append-assoc}
+use native.Mathlib.Nat.{mul-comm}
+use native.Mathlib.Omega.{arith}
+use lib.Dec.{eqb}
+use lib.ListN.{length, length-append}
+use borrow.Author.Tests.{eq-eqb, ne-eqb, eqb-true, eqb-false}
+use Rattle.spec.specs.declared.Settings.{Settings}
+use Rattle.spec.specs.declared.Plan.{Plan}
+use Rattle.spec.specs.Base.{if_then_else_}
+use Rattle.spec.specs.declared.Verdict.{Verdict}
+use Rattle.spec.specs.declared.Verdict.the-variants.{Accepted, Refused}
+use Rattle.spec.specs.Refusal.{Outcome, accepted, refused, fires, number, offsetOf, numbered}
+use Rattle.spec.specs.Frame.{Frame, frameOf, pixels}
+use Rattle.spec.specs.Checks.{Planned}
+use Rattle.spec.specs.Median.{answer}
+use Rattle.spec.specs.Walk.{State}
+use Rattle.spec.specs.Filter.{filtered, filterEnd}
+use Rattle.spec.specs.Program.{rows, ways, jointWord, columnsWord, chainWord, programOutcome, outputText, printed}
+use Rattle.spec.proofs.Limits.{SettingsLimits, FrameLimits}
+use Rattle.spec.proofs.Totals.{answer-low}
+use Rattle.spec.proofs.Plans.{Facts, facts}
+use Rattle.text.specs.Text.{planeText, sizeText, wayText, refusalText}
+use Rattle.text.proofs.Rows.{plane-rows}
+use Rattle.text.proofs.Lengths.{rows-short, size-short, way-short, refusal-short}
+use Rattle.program.specs.Admitted.{longest, Admitted, guidedText}
+use Rattle.program.proofs.Admission.{pixels-few}
+
+-- ---- refusals
+pub refused-text : (b : List ℕ) (n offset : ℕ) → refusalText n offset ≡ outputText b (refused n (if eqb n 7 then offset ∷ [] else []))
+unfolding refusalText outputText
+refused-text b n offset = refl
+
+-- ---- the ways of kind 2
+pub guided-none : (kind n : ℕ) → (kind ≡ 2 → ⊥) → guidedText kind n ≡ []
+unfolding guidedText
+guided-none kind n h = rw (ne-eqb kind 2 h)
+
+pub guided-both : (kind n : ℕ) → kind ≡ 2 → guidedText kind n ≡ wayText columnsWord n ++ wayText chainWord n
+unfolding guidedText
+guided-both kind n h = rw (eq-eqb kind 2 h)
+
+guided-short : (kind n : ℕ) → length (guidedText kind n) ≤ 56
+guided-short kind n = by (eqb kind 2) refl
+  where
+    by : (b : Bool) → eqb kind 2 ≡ b → length (guidedText kind n) ≤ 56
+    by true e =
+        let z = ap length (guided-both kind n (eqb-true kind 2 e)) in
+        let a = length-append (wayText columnsWord n) (wayText chainWord n) in
+        omega (arith, z, a, way-short columnsWord n, way-short chainWord n)
+    by false e = let z = ap length (guided-none kind n (eqb-false kind 2 e)) in omega (arith, z)
+
+-- ---- the whole text
+abbrev pub shiftCount : List ℕ → ℕ
+shiftCount b = filterEnd (frameOf b) .shifts
+
+abbrev pub parts : List ℕ → ℕ → ℕ → ℕ → List ℕ
+parts b width height kind = sizeText width height ++ rows (frameOf b) height ++ wayText jointWord (shiftCount b) ++ guidedText kind (shiftCount b)
+
+whole-of : (b : List ℕ) → outputText b accepted ≡ parts b (frameOf b .set .width) (frameOf b .set .height) (frameOf b .set .kind)
+unfolding outputText ways sizeText wayText guidedText
+whole-of b =
+    let p = frameOf b in
+    sym (append-assoc (sizeText (p .set .width) (p .set .height) ++ rows p (p .set .height)) (wayText jointWord (shiftCount b)) (guidedText (p .set .kind) (shiftCount b)))
+
+module _ {b : List ℕ} {z : Plan} (a : Planned b z) where
+  pub whole : outputText b accepted ≡ parts b (z .width) (z .height) (z .kind)
+  whole = let f = facts a in rw (f .width, f .height, f .kind) (whole-of b)
+
+  -- the rows of a plane that begins with the filtered one
+  pub plane-text : {plane : List ℕ} (rest : List ℕ) → plane ≡ filtered (frameOf b) ++ rest → planeText plane (z .width) (z .height) ≡ rows (frameOf b) (z .height)
+  plane-text rest e =
+      let f = facts a in
+      let p = frameOf b in
+      rw (e, f .width, f .height) (plane-rows p rest (p .set .height) (f .limits .sound .width-low) (omega arith))
+
+-- ---- its length
+pub text-short : {b : List ℕ} {z : Plan} → Admitted b z → length (outputText b accepted) ≤ longest
+text-short {b} {z} a =
+    let p = frameOf b in
+    let k = p .set in
+    let f = facts (a .planned) in
+    let n = shiftCount b in
+    let low : (s t : ℕ) → s < k .width → t < k .height → answer p s t < 100 =
+    λ s t hs ht. let h = answer-low (record { good = f .limits; in-column = hs; in-row = ht }) in omega (arith, h, f .levels, a .levels) in
+    let r : length (rows p (k .height)) ≤ 3 * (k .height * k .width) = rows-short p (k .height) (f .limits .sound .width-low) low in
+    let c : k .height * k .width ≡ pixels k = mul-comm (k .height) (k .width) in
+    let x = ap length (whole-of b) in
+    let s1 = sizeText (k .width) (k .height) in
+    let s2 = rows p (k .height) in
+    let s3 = wayText jointWord n in
+    let s4 = guidedText (k .kind) n in
+    let l1 = length-append (s1 ++ s2 ++ s3) s4 in
+    let l2 = length-append (s1 ++ s2) s3 in
+    let l3 = length-append s1 s2 in
+    omega (arith, x, l1, l2, l3, r, c, pixels-few a, size-short (k .width) (k .height), way-short jointWord n, guided-short (k .kind) n)
+
+-- ---- what is printed fits too, refused or not
+verdict-short : (b : List ℕ) (v : Verdict) → fires (numbered v) ≡ true → length (outputText b (numbered v)) ≤ longest
+verdict-short b Accepted e = absurd (true≢false (sym e))
+verdict-short b (Refused r) e = let h = ap length (refused-text b (number r) (offsetOf r)) in omega (arith, h, refusal-short (number r) (offsetOf r))
+
+pub refusal-fits : (b : List ℕ) (v : Verdict) → numbered v ≡ programOutcome b → fires (numbered v) ≡ true → length (printed b) ≤ longest
+unfolding printed
+refusal-fits b v e f = rw (sym e) (verdict-short b v f)
+
+pub printed-as : (b : List ℕ) {u : Outcome} → u ≡ programOutcome b → outputText b u ≡ printed b
+unfolding printed
+printed-as b e = ap (outputText b) e

@@ -1,0 +1,4 @@
+-- Assumes nothing.
+pub mod Admission
+pub mod Answering
+pub mod Serving
