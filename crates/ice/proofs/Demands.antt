@@ -33,9 +33,10 @@ use Rattle.spec.proofs.Walks.{Held, Marks, marks, walk-first, walk-next, walk-h
 use Rattle.spec.proofs.First.{length-tabulate}
 use Rattle.spec.proofs.Serpentine.{filtered-at}
 use Rattle.ice.specs.declared.Walked.{Walked}
+use Rattle.frame_write.proofs.Reopening.{wrote-returned}
 use Rattle.ways.specs.Visit.{Stores, lent}
 use Rattle.ice.specs.Contract.{Untouched, Ended, Walks, Filters}
-use Rattle.ice.specs.Demands.{WalkedOrRefused, FilteredOrRefused, FirstThatFires, Demand1, LowestLevel, Demand2, Answered, Agreed, AllWaysAgree, AnswerMinimises, Demand3}
+use Rattle.ice.specs.Demands.{WalkedOrRefused, FilteredOrRefused, FirstThatFires, Demand1, LowestLevel, EveryPixel, Demand2, Answered, Agreed, AllWaysAgree, AnswerMinimises, Demand3}
 
 -- ---- a verdict and its outcome
 accepted-verdict : (v : Verdict) → numbered v ≡ accepted → v ≡ Accepted
@@ -117,10 +118,13 @@ module _ (b : List ℕ) (way : ℕ) (a z : Stores) (before after : List ℕ) (r 
       ∙ List·getD-append (filtered p) (drop (pixels (p .set)) before) 0 (t * p .set .width + s) (omega (arith, l, length-tabulate (pixels (p .set)) (λ q. answer p (q % p .set .width) (q / p .set .width))))
       ∙ filtered-at p (t * p .set .width + s) l ∙ ap₂ (answer p) (digits-mod t hs) (digits-div t hs)
 
-pub demand-2 : Demand2
-demand-2 b way a z before after r h ok s t hs ht =
+every-pixel : EveryPixel
+every-pixel b way a z before after r h ok s t hs ht =
     subst (LowestLevel (frameOf b) s t) (sym (plane-at b way a z before after r h ok s t hs ht))
     (lowest-answer (record { good = filter-limits b way a z before after r h ok; in-column = hs; in-row = ht }))
+
+pub demand-2 : Demand2
+demand-2 = record { filter = every-pixel; writer = λ k v g a old n new w. wrote-returned k v g a old n new w }
 
 -- ---- demand 3
 module _ (b : List ℕ) (s t : ℕ) (moves : List ℕ) (way : ℕ) (a z : Stores) (before after : List ℕ) (r : Walked) (h : Walks b way s t moves a z before after r)

@@ -26,6 +26,8 @@ use Rattle.spec.specs.Calls.{wayOf, walkOutcome, filterOutcome, balanceOutcome}
 use Rattle.spec.proofs.Sums.{InWindow}
 use Rattle.ice.specs.declared.Walked.{Walked}
 use Rattle.ice.specs.declared.Balanced.{Balanced}
+use Rattle.frame_write.specs.declared.Written.the-variants.{Length}
+use Rattle.frame_write.specs.Write.{Writes, Returned}
 use Rattle.ways.specs.Visit.{Stores, lent}
 use Rattle.ice.specs.Contract.{Untouched, Ended, Walks, Filters, Balances}
 
@@ -68,10 +70,18 @@ pub record LowestLevel (p : Frame) (s t m : ℕ) : Type 0 where
   pub lowest : (totalWeight p s t ≡ pos 0 → ⊥) → (i : ℕ) → i < m → (pos 2 *ℤ cumulative p s t i) <ℤ totalWeight p s t
 
 -- every pixel of a filtered frame
-abbrev pub Demand2 : Type 0
-Demand2 =
+abbrev pub EveryPixel : Type 0
+EveryPixel =
     (b : List ℕ) (way : ℕ) (a z : Stores) (before after : List ℕ) (r : Walked) → Filters b way a z before after r → r .verdict ≡ Accepted
     → (s t : ℕ) → s < frameOf b .set .width → t < frameOf b .set .height → LowestLevel (frameOf b) s t (getD after (t * frameOf b .set .width + s) 0)
+
+-- the first n bytes of the output of a writer that answers n: accepted, and the settings, planes and table as given
+abbrev pub ReadsBack : Type 0
+ReadsBack = (k : Settings) (v g a old : List ℕ) (n : ℕ) (new : List ℕ) → Writes k v g a old (Length n) new → Returned k v g a (take n new)
+
+pub record Demand2 : Type 0 where
+  pub filter : EveryPixel
+  pub writer : ReadsBack
 
 -- ---- demand 3
 
