@@ -5,6 +5,7 @@ use crate::library::{self, Status, WalkResult};
 use crate::tally::Tally;
 use crate::{same, Check};
 use sorting_filter::calls;
+use sorting_filter::cases;
 use sorting_filter::frame::{open, Frame, Settings, KIND_GUIDED, KIND_TABLE};
 use sorting_filter::random::{accepted_file, accepted_file_of, moves, start, Random};
 use sorting_filter::store::{Lengths, Way};
@@ -52,9 +53,35 @@ fn test_accepted(random: &mut Random, file: &[u8], tally: &mut Tally) -> Check {
     same("the file after the calls", &file, &untouched.as_slice())
 }
 
+/// The list of small walks, each in every serving way: the bench windows A to H, chosen shapes, and every
+/// start of small frames with moves into the border and unknown bytes.
+pub fn test_listed(random: &mut Random, tally: &mut Tally) -> Check {
+    for case in cases::read(include_str!("../../cases.txt"))? {
+        let frame = open(&case.file).map_err(|refusal| format!("{}: {refusal}", case.name))?;
+        for way in Way::ALL.into_iter().filter(|way| way.serves(frame.settings.kind)) {
+            test_walk_from(random, &case.file, way, (case.column, case.row), &case.moves, tally)
+                .map_err(|error| format!("{}, {way:?}: {error}", case.name))?;
+            tally.listed += 1;
+        }
+    }
+    Ok(())
+}
+
 fn test_walk(random: &mut Random, file: &[u8], way: Way, moves: &[u8], tally: &mut Tally) -> Check {
     let frame = open(file).map_err(|refusal| refusal.to_string())?;
     let start = start(random, &frame.settings);
+    test_walk_from(random, file, way, start, moves, tally)
+}
+
+fn test_walk_from(
+    random: &mut Random,
+    file: &[u8],
+    way: Way,
+    start: (usize, usize),
+    moves: &[u8],
+    tally: &mut Tally,
+) -> Check {
+    let frame = open(file).map_err(|refusal| refusal.to_string())?;
     count_window(&Window::at(&frame, start.0, start.1), tally);
     let needed = Lengths { answers: 1 + moves.len(), ..Lengths::of_stores(way, &frame.settings) };
     let before = Buffers::poisoned_beyond(random, &needed);

@@ -72,6 +72,8 @@ fn run(options: &Options) -> Result<Tally, String> {
             break;
         }
     }
+    let listed = frames::test_listed(&mut Random::new(options.seed), &mut tally);
+    failures.extend(listed.err().map(|message| format!("listed: {message}")));
     let largest = frames::test_largest(&mut Random::new(options.seed), &mut tally);
     failures.extend(largest.err().map(|message| format!("largest: {message}")));
     if let Some(path) = &options.program {

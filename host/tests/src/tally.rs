@@ -6,6 +6,8 @@ use std::fmt;
 pub struct Tally {
     pub frames: [u64; 2],
     pub walks: u64,
+    /// Walks of the list of small ones, among the walks.
+    pub listed: u64,
     pub filters: u64,
     pub answers: u64,
     pub marks: u64,
@@ -25,7 +27,7 @@ impl Tally {
         if self.frames.iter().sum::<u64>() < 1_000 {
             return None;
         }
-        let met = [self.marks, self.hollow, self.negative, self.unsteady, self.frames[0], self.frames[1]];
+        let met = [self.listed, self.marks, self.hollow, self.negative, self.unsteady, self.frames[0], self.frames[1]];
         if self.refusals[1..].contains(&0) || met.contains(&0) {
             return Some(format!("the run left something untried:\n{self}"));
         }
@@ -43,8 +45,8 @@ impl fmt::Display for Tally {
         )?;
         writeln!(
             f,
-            "walks: {}, filters: {}, answers: {} ({} marks)",
-            self.walks, self.filters, self.answers, self.marks
+            "walks: {} ({} of the list), filters: {}, answers: {} ({} marks)",
+            self.walks, self.listed, self.filters, self.answers, self.marks
         )?;
         writeln!(f, "balances: {}, frames written: {}", self.balances, self.written)?;
         write!(f, "refused calls by number:")?;
