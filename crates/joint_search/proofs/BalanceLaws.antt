@@ -80,7 +80,7 @@ module _ {b : List ℕ} {z : Plan} {s t : ℕ} {row : List ℕ} {w : Formula} (w
       pub place-in : (w .row + g < length row) × (w .row + g ≤ 65792) × (getD row (w .row + g) 0 ≤ 65535)
       place-in =
           let r = wd .weighs .in-row in
-          (omega (arith, r .inside, row-in), omega (arith, r .start, guide-in, guides-high (wd .planned)), r .low g row-in)
+          (omega (arith, r .inside, row-in), omega (arith, r .start, guide-in, guides-high (wd .planned)), le-trans (r .low g row-in) (omega arith))
 
       -- the pixel's weight, and the sum with it
       natural : (n : ℕ) → n ≤ 65535 → toZ w64 n ≡ pos n

@@ -269,7 +269,7 @@ module _ {m i : ℕ} {cs ws : List ℕ} (ok : Marked m i cs ws) where
     term-zero f e = rw e (zero-mul _)
 
     term-low : (f : ℕ) → f < m → term f ≤ getD cs (cellAt m i f) 0 * 65535
-    term-low f h = mul-le-mul {n₂ = getD cs (cellAt m i f) 0} (le-refl _) (rw′ .low f h)
+    term-low f h = mul-le-mul {n₂ = getD cs (cellAt m i f) 0} (le-refl _) (le-trans (rw′ .low f h) (omega arith))
 
     dot-low : (n : ℕ) → n ≤ m → sum term 0 n ≤ sum (λ f. getD cs (cellAt m i f) 0) 0 n * 65535
     dot-low zero h = omega (arith, sum-none term)
@@ -282,7 +282,7 @@ module _ {m i : ℕ} {cs ws : List ℕ} (ok : Marked m i cs ws) where
     -- a turn
     pub turn : (g : ℕ) → g < m
         → (i * m + g < length cs) × (i * m + g ≤ 262144) × (at + g < length row) × (at + g ≤ 65792) × (getD cs (i * m + g) 0 ≤ 961) × (getD row (at + g) 0 ≤ 65535) × (getD cs (i * m + g) 0 * getD row (at + g) 0 ≤ 62979135)
-    turn g h = (omega (arith, ok .cells), omega (arith, base-low, ok .guides), omega (arith, rw′ .inside), omega (arith, rw′ .start, ok .guides), cell-low g h, rw′ .low g h, omega (arith, term-low g h, cell-low g h))
+    turn g h = (omega (arith, ok .cells), omega (arith, base-low, ok .guides), omega (arith, rw′ .inside), omega (arith, rw′ .start, ok .guides), cell-low g h, le-trans (rw′ .low g h) (omega arith), omega (arith, term-low g h, cell-low g h))
 
   pub scan-asks : (i * wordsPer m + wordsPer m ≤ length ws) × (wordsPer m ≤ 4) × (0 ≤ 4) × (i * wordsPer m < 4096)
   scan-asks = (ok .words, omega (arith, ok .guides), omega arith, omega (arith, first-low))

@@ -43,11 +43,14 @@ all-size : (bx : List ℤ) (n : ℕ) → natAbs (boxAll bx n) ≤ boxSize bx n
 all-size bx zero = rw (all-none bx) (omega arith)
 all-size bx (suc n) = rw (all-next bx n, size-next bx n) (abs-add-le (boxAll bx n) (getD bx n (pos 0)) (all-size bx n) (le-refl _))
 
+heavy : {n : ℕ} → n ≤ 32767 → n ≤ 65535
+heavy h = omega arith
+
 dot-size : (m at : ℕ) (row : List ℕ) (bx : List ℤ) → Row m at row → (n : ℕ) → n ≤ m → natAbs (boxDot bx row at n) ≤ boxSize bx n * 65535
 dot-size m at row bx r zero h = rw (dot-none bx row at) (omega arith)
 dot-size m at row bx r (suc n) h =
     rw (dot-next bx row at n, size-next bx n)
-    (le-trans (abs-add-le (boxDot bx row at n) (getD bx n (pos 0) *ℤ pos (getD row (at + n) 0)) (dot-size m at row bx r n (omega arith)) (abs-mul-le (getD bx n (pos 0)) (pos (getD row (at + n) 0)) (le-refl _) (r .low n (omega arith)))) (omega arith))
+    (le-trans (abs-add-le (boxDot bx row at n) (getD bx n (pos 0) *ℤ pos (getD row (at + n) 0)) (dot-size m at row bx r n (omega arith)) (abs-mul-le (getD bx n (pos 0)) (pos (getD row (at + n) 0)) (le-refl _) (heavy (r .low n (omega arith))))) (omega arith))
 
 module _ {m at : ℕ} {row : List ℕ} {bx : List ℤ} (hm : m ≤ 256) (r : Row m at row) (lo : BoxLow bx) where
   pub all-low : (n : ℕ) → n ≤ m → natAbs (boxAll bx n) ≤ 961
@@ -60,8 +63,8 @@ module _ {m at : ℕ} {row : List ℕ} {bx : List ℤ} (hm : m ≤ 256) (r : Row
   pub cell-asks : (k a : ℕ) → k < m → toZ w32 a ≡ boxAll bx k → (natAbs (toZ w32 a) ≤ 961) × (natAbs (toZ w16 (ofZ w16 (getD bx k (pos 0)))) ≤ 961)
   cell-asks k a h e = (rw e (all-low k (omega arith)), rw (read-bounded w16 {z = getD bx k (pos 0)} 961 (lo .low k) tt) (lo .low k))
 
-  pub product-asks : (k d : ℕ) → k < m → toZ w32 d ≡ boxDot bx row at k → (natAbs (toZ w32 d) ≤ 62979135) × (natAbs (toZ w16 (ofZ w16 (getD bx k (pos 0)))) ≤ 961)
-  product-asks k d h e = (rw e (dot-low k (omega arith)), rw (read-bounded w16 {z = getD bx k (pos 0)} 961 (lo .low k) tt) (lo .low k))
+  pub product-asks : (k d : ℕ) → k < m → toZ w32 d ≡ boxDot bx row at k → (natAbs (toZ w32 d) ≤ 62979135) × (natAbs (toZ w16 (ofZ w16 (getD bx k (pos 0)))) ≤ 961) × (getD row (at + k) 0 ≤ 32767)
+  product-asks k d h e = (rw e (dot-low k (omega arith)), rw (read-bounded w16 {z = getD bx k (pos 0)} 961 (lo .low k) tt) (lo .low k), r .low k h)
 
   pub all-again : (k a : ℕ) (v : ℤ) → toZ w32 a ≡ boxAll bx k → mag v < 2 ^ hbits w32 → v ≡ toZ w32 a +ℤ toZ w16 (ofZ w16 (getD bx k (pos 0))) → toZ w32 (ofZ w32 v) ≡ boxAll bx (k + 1)
   all-again k a v e s ev =

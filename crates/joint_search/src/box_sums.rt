@@ -1,4 +1,4 @@
-// Sums over the balance box, in 32 bits: the cells' sizes add up to at most a window's 961 pixels, and a weight has 16 bits.
+// Sums over the balance box, in 32 bits: the cells' sizes add up to at most a window's 961 pixels, and a weight has 15 bits.
 ghost use mathlib.Core.Path.{_≡_};
 ghost use Prim.Native.Nat.{_≤_};
 ghost use lib.IntN.{pos, natAbs, _+ℤ_, _*ℤ_};
@@ -18,11 +18,13 @@ pub fn add_cell(sum: i32, x: i16) -> i32
     sum + (x as i32)
 }
 
+// The weight is taken as a signed number, because processors multiply and add pairs of those at once.
 pub fn add_product(sum: i32, x: i16, n: u16) -> i32
-    requires { ⌜ (natAbs sum ≤ 62979135) × (natAbs x ≤ 961) ⌝ }
+    requires { ⌜ (natAbs sum ≤ 62979135) × (natAbs x ≤ 961) × (n ≤ 32767) ⌝ }
     ensures { λ r. ⌜ r ≡ sum +ℤ x *ℤ pos n ⌝ }
 {
-    sum + (x as i32) * (n as i32)
+    let y = n as i16;
+    sum + (x as i32) * (y as i32)
 }
 
 pub fn box_sums(cells: &[i16; 256], weights: &[u16], at: usize, m: usize) -> BoxSums
