@@ -3,6 +3,4 @@ pub mod ContentLaws
 pub mod StoreLaws
 pub mod SideLaws
 pub mod MoveLaws
-pub mod SearchLaws
-pub mod TallyLaws
 pub mod VisitLaws

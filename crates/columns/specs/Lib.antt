@@ -1,4 +1,2 @@
 pub mod Blocks
-pub mod Tally
-pub mod Search
 pub mod Visit

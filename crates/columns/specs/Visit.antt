@@ -11,7 +11,7 @@ use Rattle.spec.specs.Frame.{Frame}
 use Rattle.spec.specs.Walk.{arrive}
 use Rattle.window.specs.Sums.{SumsAt}
 use Rattle.columns.specs.declared.visit.Visit.{Visit}
-use Rattle.columns.specs.Tally.{BelowAt}
+use Rattle.levels.specs.Tally.{BelowAt}
 
 -- the numbers xs with the store of the window at (s, t) in front
 abbrev pub storeAt : Frame → ℕ → ℕ → List ℕ → List ℕ

@@ -1,5 +1,3 @@
 // Way 2: column counts, for kind 2 (source 000's constant-time method).
-pub mod search;
 pub mod store;
-pub mod tally;
 pub mod visit;

@@ -1,13 +1,11 @@
 // Way 2 at a pixel: entered from nothing, or come to from a neighbour. The state goes in and out by value; the store is the caller's.
-use crate::search;
 use crate::store;
-use crate::tally;
-use crate::tally::Tally;
+use levels::answer;
+use levels::tally;
+use levels::tally::Tally;
 use spec::Level;
 use spec::Plan;
-use window::coefficients;
 use window::line;
-use window::pixel;
 use window::sums;
 use window::sums::Sums;
 ghost use mathlib.Core.Path.{_≡_};
@@ -19,7 +17,7 @@ ghost use Rattle.spec.specs.Checks.{Planned};
 ghost use Rattle.spec.specs.Frame.{frameOf};
 ghost use Rattle.window.specs.Line.{Adjacent};
 ghost use Rattle.window.specs.Sums.{SumsAt};
-ghost use Rattle.columns.specs.Tally.{BelowAt};
+ghost use Rattle.levels.specs.Tally.{BelowAt};
 ghost use Rattle.columns.specs.Visit.{storeAt, Standing, Visited, Arrived};
 
 // The window's sums, its tally of the levels up to the cut point, the cut point, the shift count, and the answer.
@@ -42,7 +40,15 @@ pub fn tally_below(file: &[u8], z: Plan, numbers: &[u32], s: usize, t: usize, en
     let at = 2 * z.width * l;
     let middle = at + l;
     let last = middle + l;
-    search::gather(&numbers[at..middle], &numbers[middle..last], end)
+    answer::below(
+        file,
+        z,
+        &numbers[at..middle],
+        &numbers[middle..last],
+        s,
+        t,
+        end,
+    )
 }
 
 // The window's answer, its store, its sums and its tally being made.
@@ -67,25 +73,25 @@ pub fn answer_at(
     let at = 2 * z.width * l;
     let middle = at + l;
     let last = middle + l;
-    let centre = pixel::guide_at(file, z, t * z.width + s);
-    let k = coefficients::from_sums(z, a, centre);
-    let monotone = coefficients::monotone(z, k);
-    let f = search::find(
+    let r = answer::answer(
+        file,
+        z,
         &numbers[at..middle],
         &numbers[middle..last],
-        k,
-        monotone,
-        cut,
+        s,
+        t,
+        a,
         below,
+        cut,
         shifts,
     );
-    let level = f.level;
-    let tally = f.tally;
+    let level = r.level;
+    let tally = r.below;
     Visit {
         sums: a,
         below: tally,
         cut: level,
-        shifts: f.shifts,
+        shifts: r.shifts,
         answer: level,
     }
 }

@@ -2,7 +2,7 @@
 -- Assumes nothing.
 use Prim.Native.Nat.{ℕ}
 use Rattle.chain.specs.declared.FreeList.{FreeList}
-use Rattle.columns.specs.declared.tally.Tally.{Tally}
+use Rattle.levels.specs.declared.tally.Tally.{Tally}
 use Rattle.joint_search.specs.declared.visit.Visit as joint
 use Rattle.columns.specs.declared.visit.Visit as columns
 use Rattle.chain_search.specs.declared.visit.Visit as chain

@@ -15,7 +15,7 @@ use Rattle.spec.specs.declared.Way.the-variants.{Joint, Columns, Chain}
 use Rattle.spec.specs.Frame.{Frame, planOf, frameOf}
 use Rattle.window.specs.Sums.{SumsAt}
 use Rattle.joint_search.specs.Arrive as joint
-use Rattle.columns.specs.Tally.{BelowAt}
+use Rattle.levels.specs.Tally.{BelowAt}
 use Rattle.chain.specs.Moves.{Listed}
 use Rattle.spec.specs.Walk.{State}
 use Rattle.spec.specs.Calls.{roomOf, countsOf, wordsOf, NumbersOf, boxOf}

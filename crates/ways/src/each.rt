@@ -2,7 +2,7 @@
 use crate::Carry;
 use crate::Visit;
 use chain::FreeList;
-use columns::tally::Tally;
+use levels::tally::Tally;
 use spec::Level;
 use spec::Plan;
 use spec::Way;

@@ -3,7 +3,7 @@ pub mod dispatch;
 pub mod each;
 
 use chain::FreeList;
-use columns::tally::Tally;
+use levels::tally::Tally;
 use spec::Level;
 use window::sums::Sums;
 

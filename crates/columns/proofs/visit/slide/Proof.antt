@@ -8,7 +8,7 @@ use Rattle.window.proofs.FormLaws.{both-in}
 use Rattle.window.proofs.LineLaws.{lines-in}
 use Rattle.window.proofs.SumLaws.{movable, moved-at}
 use Rattle.window.specs.Line.{StepInPlanes}
-use Rattle.columns.proofs.TallyLaws.{tally-movable, tally-moved}
+use Rattle.levels.proofs.TallyLaws.{tally-movable, tally-moved}
 use Rattle.columns.proofs.VisitLaws.{made, made-self, as-made}
 use borrow.Author.Needs.{needs}
 use Rattle.columns.proofs.visit.slide.Statement.{statement}

@@ -4,9 +4,9 @@ use mathlib.Core.Path.{refl}
 use native.Mathlib.Omega.{arith}
 use lib.ListN.{length, take, drop}
 use Rattle.spec.specs.Frame.{frameOf}
-use Rattle.spec.proofs.Plans.{facts, pixel-of}
 use Rattle.window.proofs.PixelLaws.{plan-limits, levels-high}
-use Rattle.columns.proofs.VisitLaws.{Cells, places-small, part-end, window-cells, level-cells, tally-below}
+use Rattle.levels.specs.Answer.{Profiled}
+use Rattle.columns.proofs.VisitLaws.{places-small, part-end, window-cells}
 use borrow.Author.Needs.{needs}
 use Rattle.columns.proofs.visit.tally_below.Statement.{statement}
 use Rattle.columns.proofs.visit.tally_below.Tie as tie
@@ -18,7 +18,7 @@ in-store : (c : tie.Start) → at c + c .args .z .levels + c .args .z .levels �
 in-store c = part-end (c .pre .0) (c .args .s) (c .args .t) (c .args .numbers .now) (c .pre .1 .1) (at c) _ _ refl refl refl
 
 cells : (c : tie.Start)
-    → Cells (frameOf (c .args .file .now)) (c .args .s) (c .args .t)
+    → Profiled (frameOf (c .args .file .now)) (c .args .s) (c .args .t)
     (take (at c + c .args .z .levels - at c) (drop (at c) (c .args .numbers .now)))
     (take (at c + c .args .z .levels + c .args .z .levels - (at c + c .args .z .levels)) (drop (at c + c .args .z .levels) (c .args .numbers .now)))
 cells c = window-cells (c .pre .0) (c .args .s) (c .args .t) (c .args .numbers .now) (c .pre .1 .1) (at c) _ _ refl refl refl
@@ -35,35 +35,35 @@ add-middle c = omega (arith, places-small (c .before .before .before .pre .0), l
 add-last : tie.Need-add-last
 add-last c = omega (arith, places-small (c .before .before .before .pre .0), levels-high (c .before .before .before .pre .0))
 
-mul-gather : tie.Need-mul-gather
-mul-gather c = omega (arith, places-small (c .before .before .before .pre .0), levels-high (c .before .before .before .pre .0))
+mul-below : tie.Need-mul-below
+mul-below c = omega (arith, places-small (c .before .before .before .pre .0), levels-high (c .before .before .before .pre .0))
 
-sub-gather : tie.Need-sub-gather
-sub-gather c = search needs
+sub-below : tie.Need-sub-below
+sub-below c = search needs
 
-part-gather-start : tie.Need-part-gather-start
-part-gather-start c = search needs
+part-below-start : tie.Need-part-below-start
+part-below-start c = search needs
 
-part-gather-end : tie.Need-part-gather-end
-part-gather-end c = omega (arith, in-store (c .before .before .before))
+part-below-end : tie.Need-part-below-end
+part-below-end c = omega (arith, in-store (c .before .before .before))
 
-mul-gather-2 : tie.Need-mul-gather-2
-mul-gather-2 c = omega (arith, places-small (c .before .before .before .before .pre .0), levels-high (c .before .before .before .before .pre .0))
+mul-below-2 : tie.Need-mul-below-2
+mul-below-2 c = omega (arith, places-small (c .before .before .before .before .pre .0), levels-high (c .before .before .before .before .pre .0))
 
-sub-gather-2 : tie.Need-sub-gather-2
-sub-gather-2 c = search needs
+sub-below-2 : tie.Need-sub-below-2
+sub-below-2 c = search needs
 
-part-gather-start-2 : tie.Need-part-gather-start-2
-part-gather-start-2 c = search needs
+part-below-start-2 : tie.Need-part-below-start-2
+part-below-start-2 c = search needs
 
-part-gather-end-2 : tie.Need-part-gather-end-2
-part-gather-end-2 c = in-store (c .before .before .before .before)
+part-below-end-2 : tie.Need-part-below-end-2
+part-below-end-2 c = in-store (c .before .before .before .before)
 
-gather-requires : tie.Need-gather-requires
-gather-requires c κs = let st = c .before .before .before .before .before in (level-cells (pixel-of (st .pre .0) (st .pre .1 .0 .0) (st .pre .1 .0 .1)) (cells st), omega (arith, cells st .count-long, facts (st .pre .0) .levels, st .pre .1 .0 .2))
+below-requires : tie.Need-below-requires
+below-requires c κs = let st = c .before .before .before .before .before in (st .pre .0, (st .pre .1 .0, cells st))
 
 returns : tie.Need-returns
-returns c = let st = c .before .before .before .before .before .before in tally-below (pixel-of (st .pre .0) (st .pre .1 .0 .0) (st .pre .1 .0 .1)) (cells st) (omega (arith, facts (st .pre .0) .levels, st .pre .1 .0 .2)) (c .gather .ensures)
+returns c = c .below .ensures
 
 pub tally-below-spec : {M : Type 1} → statement M
 tally-below-spec =
@@ -73,13 +73,13 @@ tally-below-spec =
     mul-at-2
     add-middle
     add-last
-    mul-gather
-    sub-gather
-    part-gather-start
-    part-gather-end
-    mul-gather-2
-    sub-gather-2
-    part-gather-start-2
-    part-gather-end-2
-    gather-requires
+    mul-below
+    sub-below
+    part-below-start
+    part-below-end
+    mul-below-2
+    sub-below-2
+    part-below-start-2
+    part-below-end-2
+    below-requires
     returns)
