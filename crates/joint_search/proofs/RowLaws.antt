@@ -106,16 +106,4 @@ module _ {b : List ℕ} {z : Plan} (pl : Planned b z) where
   unfolding tableList
   rows-table xs one e = record {
     table = λ q. e ∙ ap (λ (r : List ℕ). tableList b ++ r) (sym (ap (drop (weightCount b)) e ∙ drop-at (tableList b) (drop (weightCount b) xs) (weightCount b) (length-tabulate (weightCount b) _)));
-    ramp = λ two. absurd (omega (arith, one, two));
   }
-
-  pub rows-ramp : {ys : List ℕ} → (z .kind ≡ 1 → ⊥) → Ramp (z .guides) ys → WeightRows b z ys
-  rows-ramp n r = record { table = λ one. absurd (n one); ramp = λ two. r }
-
-  pub ramp-asks : (xs : List ℕ) → weightCount b ≤ length xs → (z .guides ≤ length xs) × (z .guides ≤ 256)
-  ramp-asks xs h =
-      let f = facts pl in
-      let m : 1 ≤ z .guides = omega (arith, f .guides, f .limits .sound .guides-low) in
-      let l : 1 * z .guides ≤ z .guides * z .guides = mul-le-mul {n₂ = z .guides} m (le-refl (z .guides)) in
-      let e : z .guides * z .guides ≡ weightCount b = ap₂ (λ (u v : ℕ). u * v) (f .guides) (f .guides) in
-      (omega (arith, l, e, h), guides-high pl)

@@ -1,14 +1,12 @@
-// A window's part in a walk: its answer, the cut point after it, and the shifts that it adds. A window without weight answers its centre's own level
-// and keeps both.
+// Kind 1: a window's part in a walk: its answer, the cut point after it, and the shifts that it adds. A window without weight answers its centre's own
+// level and keeps both.
 use crate::answer;
 use crate::formula;
 use crate::formula::Formula;
 use crate::rows;
 use spec::Level;
 use spec::Plan;
-use window::coefficients;
 use window::pixel;
-use window::sums::Sums;
 ghost use mathlib.Core.Path.{_≡_};
 ghost use mathlib.Core.Bool.{true};
 ghost use Prim.Native.Nat.{_<_};
@@ -17,7 +15,7 @@ ghost use Rattle.spec.specs.Weight.{monotone};
 ghost use Rattle.spec.specs.Median.{balance, weightless};
 ghost use Rattle.spec.specs.Joint.{balanceBox};
 ghost use Rattle.joint_search.specs.Search.{Counted, Ready};
-ghost use Rattle.joint_search.specs.Arrive.{WeightRows, Carried, Arrives};
+ghost use Rattle.joint_search.specs.Arrive.{WeightRows, Arrives};
 
 pub struct Arrival {
     pub answer: Level,
@@ -79,7 +77,7 @@ pub fn is_weightless(
     none_weighs(file, z, weights, w, s, t, counts, words)
 }
 
-// Kind 1.
+// The arrival.
 pub fn arrive_table(
     file: &[u8],
     z: Plan,
@@ -127,95 +125,4 @@ pub fn arrive_table(
         cut: level,
         shifts: found.shifts,
     }
-}
-
-// Kind 2, by the window's sums: every window weighs something.
-pub fn arrive_guided(
-    file: &[u8],
-    z: Plan,
-    weights: &[u16],
-    a: Sums,
-    s: usize,
-    t: usize,
-    cut: Level,
-    shifts: u64,
-    cells: &mut [i16; 256],
-    counts: &[u16],
-    words: &[u64],
-) -> Arrival
-    requires { ⌜ (Counted (now file) z s t (now counts) (now words)) × (WeightRows (now file) z (now weights)) × (z .kind ≡ 2) × (Carried (frameOf (now file)) s t a) ⌝ }
-    requires { ⌜ (cut .0 < frameOf (now file) .set .levels) × (shifts < 1099511627776) × (now cells ≡ balanceBox (frameOf (now file)) s t (cut .0)) ⌝ }
-    ensures { λ r. ⌜ Arrives (frameOf (now (file .entry))) s t (cut .0) shifts r (now (cells .exit)) ⌝ }
-{
-    let m = z.guides;
-    let centre = pixel::guide_at(file, z, t * z.width + s);
-    let k = coefficients::from_sums(z, a, centre);
-    let w = rows::guided_formula(file, z, weights, s, t, k);
-    if coefficients::monotone(z, k) {
-        let bal = formula::box_balance(cells, weights, w, m);
-        let near = answer::from_cut(
-            file,
-            z,
-            weights,
-            w,
-            s,
-            t,
-            cut,
-            bal,
-            shifts,
-            cells,
-            counts,
-            words,
-        );
-        let level = near.level;
-        return Arrival {
-            answer: level,
-            cut: level,
-            shifts: near.shifts,
-        };
-    }
-    let far = answer::from_zero(
-        file,
-        z,
-        weights,
-        w,
-        s,
-        t,
-        cut,
-        k.total,
-        shifts,
-        cells,
-        counts,
-        words,
-    );
-    let level = far.level;
-    Arrival {
-        answer: level,
-        cut: level,
-        shifts: far.shifts,
-    }
-}
-
-// Either kind.
-pub fn arrive(
-    file: &[u8],
-    z: Plan,
-    weights: &[u16],
-    a: Sums,
-    s: usize,
-    t: usize,
-    cut: Level,
-    shifts: u64,
-    cells: &mut [i16; 256],
-    counts: &[u16],
-    words: &[u64],
-) -> Arrival
-    requires { ⌜ (Counted (now file) z s t (now counts) (now words)) × (WeightRows (now file) z (now weights)) × (Carried (frameOf (now file)) s t a) ⌝ }
-    requires { ⌜ (cut .0 < frameOf (now file) .set .levels) × (shifts < 1099511627776) × (now cells ≡ balanceBox (frameOf (now file)) s t (cut .0)) ⌝ }
-    ensures { λ r. ⌜ Arrives (frameOf (now (file .entry))) s t (cut .0) shifts r (now (cells .exit)) ⌝ }
-{
-    if z.kind == 2 {
-        return arrive_guided(file, z, weights, a, s, t, cut, shifts, cells, counts, words);
-    }
-    arrive_table(file, z, weights, s, t, cut, shifts, cells, counts, words)
 }

@@ -150,3 +150,26 @@ pub fn lower_to(
         i -= 1;
     }
 }
+
+// The box's cut point moved, whichever way the answer lies.
+pub fn move_to(
+    file: &[u8],
+    z: Plan,
+    s: usize,
+    t: usize,
+    from: Level,
+    to: Level,
+    cells: &mut [i16; 256],
+    counts: &[u16],
+    words: &[u64],
+)
+    requires { ⌜ Counted (now file) z s t (now counts) (now words) ⌝ }
+    requires { ⌜ (from .0 < frameOf (now file) .set .levels) × (to .0 < frameOf (now file) .set .levels) × (now cells ≡ balanceBox (frameOf (now file)) s t (from .0)) ⌝ }
+    ensures { λ _. ⌜ now (cells .exit) ≡ balanceBox (frameOf (now (file .entry))) s t (to .0) ⌝ }
+{
+    if from.0 <= to.0 {
+        raise_to(file, z, s, t, from, to, cells, counts, words);
+        return;
+    }
+    lower_to(file, z, s, t, from, to, cells, counts, words);
+}

@@ -5,6 +5,7 @@ pub mod balance;
 pub mod box_sums;
 pub mod find;
 pub mod formula;
+pub mod guided;
 pub mod level;
 pub mod rows;
 pub mod scan;

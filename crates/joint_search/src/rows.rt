@@ -27,16 +27,14 @@ pub fn ramp(row: &mut [u16], m: usize)
     }
 }
 
-// The rows of the file's kind, in M·M numbers.
+// The rows of kind 1's table, in M·M numbers; kind 2 needs none.
 pub fn decode_rows(file: &[u8], z: Plan, out: &mut [u16])
     requires { ⌜ (Planned (now file) z) × (weightCount (now file) ≤ length (now out)) ⌝ }
     ensures { λ _. ⌜ WeightRows (now (file .entry)) z (now (out .exit)) ⌝ }
 {
     if z.kind == 1 {
         weight::decode(file, z, out);
-        return;
     }
-    ramp(out, z.guides);
 }
 
 // Kind 1: the row of the centre's guide.

@@ -1,0 +1,156 @@
+// Kind 2: a window's part in a walk. Its weights can be negative, so that most windows are searched from level 0: the search goes by the window's histogram
+// of levels, two numbers a level, and the box is moved to the answer once that is known.
+use crate::find;
+use crate::visit::Visit;
+use levels::answer;
+use levels::tally;
+use levels::tally::Tally;
+use spec::Level;
+use spec::Plan;
+use window::line::Step;
+use window::sums;
+use window::sums::Sums;
+ghost use mathlib.Core.Path.{_≡_};
+ghost use Prim.Native.Nat.{_+_, _<_, _≤_};
+ghost use Rattle.spec.specs.Frame.{frameOf};
+ghost use Rattle.spec.specs.Checks.{Planned};
+ghost use Rattle.spec.specs.Joint.{balanceBox};
+ghost use Rattle.window.specs.Line.{Adjacent, stepOf};
+ghost use Rattle.levels.specs.Tally.{BelowAt};
+ghost use Rattle.histogram.specs.Histogram.{Blank, Histogram};
+ghost use Rattle.joint_search.specs.Search.{Counted};
+ghost use Rattle.joint_search.specs.Arrive.{Guided, Answers};
+
+// The tally of the levels below the end; file, s and t say which window's histogram it is.
+pub fn tally_below(file: &[u8], z: Plan, numbers: &[u32], s: usize, t: usize, end: usize) -> Tally
+    requires { ⌜ (Planned (now file) z) × (s < z .width) × (t < z .height) × (end ≤ z .levels) ⌝ }
+    requires { ⌜ Histogram (frameOf (now file)) s t (now numbers) ⌝ }
+    ensures { λ a. ⌜ BelowAt (frameOf (now (file .entry))) s t end a ⌝ }
+{
+    let l = z.levels;
+    let last = l + l;
+    answer::below(file, z, &numbers[0..l], &numbers[l..last], s, t, end)
+}
+
+// The window's answer, and the box moved to it.
+pub fn arrive(
+    file: &[u8],
+    z: Plan,
+    a: Sums,
+    below: Tally,
+    s: usize,
+    t: usize,
+    cut: Level,
+    shifts: u64,
+    cells: &mut [i16; 256],
+    counts: &[u16],
+    words: &[u64],
+    numbers: &[u32],
+) -> Visit
+    requires { ⌜ (Counted (now file) z s t (now counts) (now words)) × (z .kind ≡ 2) × (Guided (frameOf (now file)) s t (cut .0) a below (now numbers)) ⌝ }
+    requires { ⌜ (cut .0 < z .levels) × (shifts ≤ 4294967296) × (now cells ≡ balanceBox (frameOf (now file)) s t (cut .0)) ⌝ }
+    ensures { λ r. ⌜ Answers (frameOf (now (file .entry))) s t (cut .0) shifts r (now (cells .exit)) (now (numbers .entry)) ⌝ }
+{
+    let l = z.levels;
+    let last = l + l;
+    let r = answer::answer(
+        file,
+        z,
+        &numbers[0..l],
+        &numbers[l..last],
+        s,
+        t,
+        a,
+        below,
+        cut,
+        shifts,
+    );
+    let level = r.level;
+    let tally = r.below;
+    find::move_to(file, z, s, t, cut, level, cells, counts, words);
+    Visit {
+        sums: a,
+        below: tally,
+        cut: level,
+        shifts: r.shifts,
+        answer: level,
+    }
+}
+
+// The window at (s, t), its stores and its box being made.
+pub fn enter(
+    file: &[u8],
+    z: Plan,
+    s: usize,
+    t: usize,
+    cut: Level,
+    shifts: u64,
+    cells: &mut [i16; 256],
+    counts: &[u16],
+    words: &[u64],
+    numbers: &mut [u32],
+) -> Visit
+    requires { ⌜ (Counted (now file) z s t (now counts) (now words)) × (z .kind ≡ 2) × (Blank (z .levels) (now numbers)) ⌝ }
+    requires { ⌜ (cut .0 < z .levels) × (shifts ≤ 4294967296) × (now cells ≡ balanceBox (frameOf (now file)) s t (cut .0)) ⌝ }
+    ensures { λ r. ⌜ Answers (frameOf (now (file .entry))) s t (cut .0) shifts r (now (cells .exit)) (now (numbers .exit)) ⌝ }
+{
+    histogram::start(file, z, s, t, numbers);
+    let a = sums::start(file, z, s, t);
+    let below = tally_below(file, z, numbers, s, t, cut.0 as usize + 1);
+    arrive(
+        file,
+        z,
+        a,
+        below,
+        s,
+        t,
+        cut,
+        shifts,
+        cells,
+        counts,
+        words,
+        numbers,
+    )
+}
+
+// From the visit v at (s, t) to the neighbour (s2, t2) by the lines d, the stores and the box being moved.
+pub fn slide(
+    file: &[u8],
+    z: Plan,
+    v: Visit,
+    d: Step,
+    s: usize,
+    t: usize,
+    s2: usize,
+    t2: usize,
+    cells: &mut [i16; 256],
+    counts: &[u16],
+    words: &[u64],
+    numbers: &mut [u32],
+) -> Visit
+    requires { ⌜ (Counted (now file) z s2 t2 (now counts) (now words)) × (z .kind ≡ 2) × (Adjacent z s t s2 t2) × (d ≡ stepOf z s t s2 t2) ⌝ }
+    requires { ⌜ Guided (frameOf (now file)) s t (v .cut .0) (v .sums) (v .below) (now numbers) ⌝ }
+    requires { ⌜ (v .cut .0 < z .levels) × (v .shifts ≤ 4294967296) × (now cells ≡ balanceBox (frameOf (now file)) s2 t2 (v .cut .0)) ⌝ }
+    ensures { λ r. ⌜ Answers (frameOf (now (file .entry))) s2 t2 (v .cut .0) (v .shifts) r (now (cells .exit)) (now (numbers .exit)) ⌝ }
+{
+    let cut = v.cut;
+    let before = v.sums;
+    let low = v.below;
+    let a = sums::moved(file, z, before, d);
+    let below = tally::moved(file, z, low, d, cut.0 as usize + 1);
+    histogram::slide(file, z, d, s, t, s2, t2, numbers);
+    arrive(
+        file,
+        z,
+        a,
+        below,
+        s2,
+        t2,
+        cut,
+        v.shifts,
+        cells,
+        counts,
+        words,
+        numbers,
+    )
+}
