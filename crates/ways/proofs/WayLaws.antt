@@ -12,9 +12,9 @@ use Rattle.spec.specs.declared.Way.{Way}
 use Rattle.spec.specs.declared.Way.the-variants.{Joint, Columns, Chain}
 use Rattle.spec.specs.Walk.{State}
 use Rattle.spec.specs.Frame.{frameOf}
-use Rattle.spec.specs.Calls.{roomOf, countsOf, wordsOf, NumbersOf, boxOf, zeros}
+use Rattle.spec.specs.Calls.{roomOf, countsOf, wordsOf, boxOf, zeros}
 use Rattle.ways.specs.declared.Visit.{Visit}
-use Rattle.ways.specs.Visit.{settingsIn, Stores, stores, Fit, Left, Carried, Serves, AtWindow, Visited}
+use Rattle.ways.specs.Visit.{settingsIn, Stores, stores, Fit, Left, usedOf, Serves, AtWindow, Visited}
 use Rattle.ways.proofs.EachLaws.{left-same}
 
 -- ---- a way that is not joint serves kind 2
@@ -46,11 +46,8 @@ module _ (way : Way) (k : Settings) (s : Stores) (f : Fit way k s) where
 
 -- ---- the way's own stores
 module _ (way : Way) (b cs ws ns : List ℕ) (d : List ℤ) (v : Visit) (h : AtWindow way b (stores cs ws ns) d v) where
-  pub at-joint : way ≡ Joint → AtWindow Joint b (stores cs ws []) d v
-  unfolding NumbersOf Carried
-  at-joint e =
-      let g : AtWindow Joint b (stores cs ws ns) d v = rw e at h in
-      record { holds = record { counts = g .holds .counts; words = g .holds .words; numbers = tt; cells = g .holds .cells }; carried = g .carried }
+  pub at-joint : way ≡ Joint → AtWindow Joint b (stores cs ws ns) d v
+  at-joint e = rw e at h
 
   pub at-columns : way ≡ Columns → AtWindow Columns b (stores [] [] ns) zeros v × (d ≡ zeros)
   unfolding roomOf countsOf wordsOf boxOf
@@ -66,21 +63,11 @@ module _ (way : Way) (b cs ws ns : List ℕ) (d : List ℤ) (v : Visit) (h : AtW
 
 -- ---- all stores again
 module _ (way : Way) (b : List ℕ) (x : State) (cs ws ns cs′ ws′ ns′ : List ℕ) (d : List ℤ) (v : Visit) where
-  pub lift-joint : way ≡ Joint → Visited Joint b x (stores cs ws []) (stores cs′ ws′ []) d v → Visited way b x (stores cs ws ns) (stores cs′ ws′ ns) d v
-  unfolding roomOf NumbersOf Carried
-  lift-joint e h =
-      rw e
-      (record {
-        state = h .state;
-        here = record {
-          holds = record { counts = h .here .holds .counts; words = h .here .holds .words; numbers = tt; cells = h .here .holds .cells };
-          carried = h .here .carried;
-        };
-        kept = record { counts = h .kept .counts; words = h .kept .words; numbers = left-same 0 ns };
-      })
+  pub lift-joint : way ≡ Joint → Visited Joint b x (stores cs ws ns) (stores cs′ ws′ ns′) d v → Visited way b x (stores cs ws ns) (stores cs′ ws′ ns′) d v
+  lift-joint e h = rw e h
 
   pub lift-columns : way ≡ Columns → Visited Columns b x (stores [] [] ns) (stores [] [] ns′) zeros v → d ≡ zeros → Visited way b x (stores cs ws ns) (stores cs ws ns′) d v
-  unfolding roomOf countsOf wordsOf boxOf
+  unfolding roomOf usedOf countsOf wordsOf boxOf
   lift-columns e h q =
       rw e
       (record {
@@ -90,7 +77,7 @@ module _ (way : Way) (b : List ℕ) (x : State) (cs ws ns cs′ ws′ ns′ : Li
       })
 
   pub lift-chain : way ≡ Chain → Visited Chain b x (stores [] [] ns) (stores [] [] ns′) zeros v → d ≡ zeros → Visited way b x (stores cs ws ns) (stores cs ws ns′) d v
-  unfolding roomOf countsOf wordsOf boxOf
+  unfolding roomOf usedOf countsOf wordsOf boxOf
   lift-chain e h q =
       rw e
       (record {

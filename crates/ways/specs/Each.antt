@@ -17,11 +17,11 @@ ofJoint v s t =
       cut = v .cut;
       shifts = v .shifts;
       answer = v .answer;
-      carry = record { sums = v .sums; below = record { count = 0; sum = 0 }; free = record { head = 0; count = 0 } };
+      carry = record { sums = v .sums; below = v .below; free = record { head = 0; count = 0 } };
     }
 
 abbrev pub toJoint : Visit → joint.Visit
-toJoint v = record { sums = v .carry .sums; cut = v .cut; shifts = v .shifts; answer = v .answer }
+toJoint v = record { sums = v .carry .sums; below = v .carry .below; cut = v .cut; shifts = v .shifts; answer = v .answer }
 
 abbrev pub ofColumns : columns.Visit → ℕ → ℕ → Visit
 ofColumns v s t =

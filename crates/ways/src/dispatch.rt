@@ -11,7 +11,7 @@ ghost use Rattle.spec.specs.Walk.{arrive};
 ghost use Rattle.spec.specs.Calls.{zeros};
 ghost use Rattle.window.specs.Line.{Adjacent};
 ghost use Rattle.joint_search.specs.Arrive.{WeightRows};
-ghost use Rattle.ways.specs.Visit.{settingsIn, stores, Fit, Serves, Within, AtWindow, Visited};
+ghost use Rattle.ways.specs.Visit.{settingsIn, stores, Fit, Cleared, Serves, Within, AtWindow, Visited};
 
 // An empty box.
 pub fn blank() -> [i16; 256]
@@ -36,11 +36,11 @@ pub fn enter(
     requires { ⌜ (Planned (now file) z) × (WeightRows (now file) z (now weights)) × (Serves way z) ⌝ }
     requires { ⌜ (column < z .width) × (row < z .height) ⌝ }
     requires { ⌜ Fit way (settingsIn z) (stores (now counts) (now words) (now numbers)) ⌝ }
-    requires { ⌜ now cells ≡ zeros ⌝ }
+    requires { ⌜ (now cells ≡ zeros) × (Cleared way z (now numbers)) ⌝ }
     ensures { λ r. ⌜ Visited way (now (file .entry)) (arrive (frameOf (now (file .entry))) column row 0 0) (stores (now (counts .entry)) (now (words .entry)) (now (numbers .entry))) (stores (now (counts .exit)) (now (words .exit)) (now (numbers .exit))) (now (cells .exit)) r ⌝ }
 {
     match way {
-        Way::Joint => each::joint_enter(file, z, weights, column, row, cells, counts, words),
+        Way::Joint => each::joint_enter(file, z, weights, column, row, cells, counts, words, numbers),
         Way::Columns => each::columns_enter(file, z, column, row, numbers),
         Way::Chain => each::chain_enter(file, z, column, row, numbers),
     }
@@ -68,7 +68,7 @@ pub fn slide(
     ensures { λ r. ⌜ Visited way (now (file .entry)) (arrive (frameOf (now (file .entry))) column row (from .cut .0) (from .shifts)) (stores (now (counts .entry)) (now (words .entry)) (now (numbers .entry))) (stores (now (counts .exit)) (now (words .exit)) (now (numbers .exit))) (now (cells .exit)) r ⌝ }
 {
     match way {
-        Way::Joint => each::joint_slide(file, z, weights, from, column, row, cells, counts, words),
+        Way::Joint => each::joint_slide(file, z, weights, from, column, row, cells, counts, words, numbers),
         Way::Columns => each::columns_slide(file, z, from, column, row, numbers),
         Way::Chain => each::chain_slide(file, z, from, column, row, numbers),
     }

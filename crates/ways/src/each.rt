@@ -16,6 +16,7 @@ ghost use Rattle.spec.specs.Walk.{arrive};
 ghost use Rattle.spec.specs.Calls.{roomOf, zeros};
 ghost use Rattle.window.specs.Line.{Adjacent};
 ghost use Rattle.ways.specs.Visit.{settingsIn, stores, Within, AtWindow, Visited};
+ghost use Rattle.histogram.specs.Histogram.{Blank};
 ghost use Rattle.joint_search.specs.Arrive.{WeightRows};
 ghost use Rattle.ways.specs.Each.{ofJoint, toJoint, ofColumns, toColumns, ofChain, toChain};
 
@@ -23,7 +24,7 @@ fn of_joint(v: joint_search::visit::Visit, column: usize, row: usize) -> Visit
     ensures { λ r. ⌜ r ≡ ofJoint v column row ⌝ }
 {
     let sums = v.sums;
-    let below = Tally { count: 0, sum: 0 };
+    let below = v.below;
     let free = FreeList { head: 0, count: 0 };
     let carry = Carry { sums, below, free };
     let cut = v.cut;
@@ -43,10 +44,12 @@ fn to_joint(v: Visit) -> joint_search::visit::Visit
 {
     let carry = v.carry;
     let sums = carry.sums;
+    let below = carry.below;
     let cut = v.cut;
     let answer = v.answer;
     joint_search::visit::Visit {
         sums,
+        below,
         cut,
         shifts: v.shifts,
         answer,
@@ -125,7 +128,7 @@ fn to_chain(v: Visit) -> chain_search::visit::Visit
     }
 }
 
-// The joint way at the start window.
+// The joint way at the start window; its histogram of levels is made in the numbers, which are 0.
 pub fn joint_enter(
     file: &[u8],
     z: Plan,
@@ -135,11 +138,13 @@ pub fn joint_enter(
     cells: &mut [i16; 256],
     counts: &mut [u16],
     words: &mut [u64],
+    numbers: &mut [u32],
 ) -> Visit
     requires { ⌜ (Planned (now file) z) × (WeightRows (now file) z (now weights)) ⌝ }
     requires { ⌜ (column < z .width) × (row < z .height) ⌝ }
     requires { ⌜ (roomOf Way.Joint (settingsIn z) .counts ≤ length (now counts)) × (roomOf Way.Joint (settingsIn z) .words ≤ length (now words)) ⌝ }
-    ensures { λ r. ⌜ Visited Way.Joint (now (file .entry)) (arrive (frameOf (now (file .entry))) column row 0 0) (stores (now (counts .entry)) (now (words .entry)) []) (stores (now (counts .exit)) (now (words .exit)) []) (now (cells .exit)) r ⌝ }
+    requires { ⌜ Blank (z .levels) (now numbers) ⌝ }
+    ensures { λ r. ⌜ Visited Way.Joint (now (file .entry)) (arrive (frameOf (now (file .entry))) column row 0 0) (stores (now (counts .entry)) (now (words .entry)) (now (numbers .entry))) (stores (now (counts .exit)) (now (words .exit)) (now (numbers .exit))) (now (cells .exit)) r ⌝ }
 {
     let v = joint_search::visit::enter(
         file,
@@ -152,6 +157,7 @@ pub fn joint_enter(
         cells,
         counts,
         words,
+        numbers,
     );
     of_joint(v, column, row)
 }
@@ -167,12 +173,13 @@ pub fn joint_slide(
     cells: &mut [i16; 256],
     counts: &mut [u16],
     words: &mut [u64],
+    numbers: &mut [u32],
 ) -> Visit
     requires { ⌜ (Planned (now file) z) × (WeightRows (now file) z (now weights)) ⌝ }
     requires { ⌜ (Within z from) × (Adjacent z (from .column) (from .row) column row) ⌝ }
     requires { ⌜ (roomOf Way.Joint (settingsIn z) .counts ≤ length (now counts)) × (roomOf Way.Joint (settingsIn z) .words ≤ length (now words)) ⌝ }
-    requires { ⌜ AtWindow Way.Joint (now file) (stores (now counts) (now words) []) (now cells) from ⌝ }
-    ensures { λ r. ⌜ Visited Way.Joint (now (file .entry)) (arrive (frameOf (now (file .entry))) column row (from .cut .0) (from .shifts)) (stores (now (counts .entry)) (now (words .entry)) []) (stores (now (counts .exit)) (now (words .exit)) []) (now (cells .exit)) r ⌝ }
+    requires { ⌜ AtWindow Way.Joint (now file) (stores (now counts) (now words) (now numbers)) (now cells) from ⌝ }
+    ensures { λ r. ⌜ Visited Way.Joint (now (file .entry)) (arrive (frameOf (now (file .entry))) column row (from .cut .0) (from .shifts)) (stores (now (counts .entry)) (now (words .entry)) (now (numbers .entry))) (stores (now (counts .exit)) (now (words .exit)) (now (numbers .exit))) (now (cells .exit)) r ⌝ }
 {
     let known = to_joint(from);
     let v = joint_search::visit::slide(
@@ -187,6 +194,7 @@ pub fn joint_slide(
         cells,
         counts,
         words,
+        numbers,
     );
     of_joint(v, column, row)
 }

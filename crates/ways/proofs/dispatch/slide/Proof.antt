@@ -15,7 +15,7 @@ enum-told c = search needs
 
 -- src/dispatch.rt:71:23
 joint-slide-requires : tie.Need-joint-slide-requires
-joint-slide-requires c κs = let at = c .before .before .before .before .before .before .before .before .before .before in let e = c .before .before .before .enum-told .given .1 in ((at .pre .0 .0, at .pre .0 .1), ((at .pre .1 .0, at .pre .1 .1 .0), (fit-joint _ _ _ (at .pre .1 .1 .1 .0) e, at-joint _ _ _ _ _ _ _ (at .pre .1 .1 .1 .1) e)))
+joint-slide-requires c κs = let at = c .before .before .before .before .before .before .before .before .before .before .before in let e = c .before .before .before .before .enum-told .given .1 in ((at .pre .0 .0, at .pre .0 .1), ((at .pre .1 .0, at .pre .1 .1 .0), (fit-joint _ _ _ (at .pre .1 .1 .1 .0) e, at-joint _ _ _ _ _ _ _ (at .pre .1 .1 .1 .1) e)))
 
 -- src/dispatch.rt:72:73
 enum-told-2 : tie.Need-enum-told-2
@@ -41,21 +41,24 @@ same-length c = search needs
 same-length-2 : tie.Need-same-length-2
 same-length-2 c = search needs
 
--- src/dispatch.rt:50:1
-returns : tie.Need-returns
-returns c = lift-joint _ _ _ _ _ _ _ _ [] _ _ (c .before .before .before .before .before .before .before .before .enum-told .given .1) (c .before .before .before .before .joint-slide .ensures)
-
--- src/dispatch.rt:50:1
 same-length-3 : tie.Need-same-length-3
 same-length-3 c = search needs
+
+-- src/dispatch.rt:50:1
+returns : tie.Need-returns
+returns c = lift-joint _ _ _ _ _ _ _ _ _ _ _ (c .before .before .before .before .before .before .before .before .before .before .before .enum-told .given .1) (c .before .before .before .before .before .before .joint-slide .ensures)
+
+-- src/dispatch.rt:50:1
+same-length-4 : tie.Need-same-length-4
+same-length-4 c = search needs
 
 -- src/dispatch.rt:50:1
 returns-2 : tie.Need-returns-2
 returns-2 c = let e = c .before .before .before .before .enum-told2 .given .1 in lift-columns _ _ _ _ _ _ [] [] _ _ _ e (c .before .before .columns-slide .ensures) (at-columns _ _ _ _ _ _ _ (c .before .before .before .before .before .before .before .before .before .before .before .pre .1 .1 .1 .1) e .1)
 
 -- src/dispatch.rt:50:1
-same-length-4 : tie.Need-same-length-4
-same-length-4 c = search needs
+same-length-5 : tie.Need-same-length-5
+same-length-5 c = search needs
 
 -- src/dispatch.rt:50:1
 returns-3 : tie.Need-returns-3
@@ -73,8 +76,9 @@ slide-spec =
     chain-slide-requires
     same-length
     same-length-2
-    returns
     same-length-3
-    returns-2
+    returns
     same-length-4
+    returns-2
+    same-length-5
     returns-3)

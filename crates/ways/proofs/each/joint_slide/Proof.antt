@@ -15,9 +15,9 @@ to-joint-requires c κs = search needs
 -- src/each.rt:178:9
 slide-requires : tie.Need-slide-requires
 slide-requires c κs =
-    let at = c .before .before .before .before .before .before .before .before in
-    let e = c .before .before .before .to-joint .ensures in
-    let h = joint-ready (at .pre .0 .0) (at .args .from) _ e _ _ _ (at .pre .1 .0 .0) (at .pre .1 .1 .1) in
+    let at = c .before .before .before .before .before .before .before .before .before .before in
+    let e = c .before .before .before .before .to-joint .ensures in
+    let h = joint-ready (at .pre .0 .0) (at .args .from) _ e _ _ _ _ (at .pre .1 .0 .0) (at .pre .1 .1 .1) in
     let n = joint-small (at .pre .0 .0) (at .args .from) _ e (at .pre .1 .0 .0) in
     ((h .0, at .pre .1 .0 .1, h .1), (at .pre .0 .1, n .0, n .1))
 
@@ -33,11 +33,17 @@ same-length c = search needs
 same-length-2 : tie.Need-same-length-2
 same-length-2 c = search needs
 
--- src/each.rt:160:1
+same-length-3 : tie.Need-same-length-3
+same-length-3 c = search needs
+
 returns : tie.Need-returns
-returns c = let at = c .before .before .before .before .before .before .before .before .before .before .before .before .before .before in joint-slid (at .pre .0 .0) (at .args .from) _ (c .before .before .before .before .before .before .before .before .before .to-joint .ensures) _ _ _ _ _ _ _ _ _ (c .of-joint .ensures) (at .pre .1 .1 .0) (c .before .before .before .before .before .slide .ensures)
+returns c =
+    let r = c .before .before .before .before .before .before .before in
+    let k = r .before .before .before .before .before in
+    let at = k .before .before .before .before .before .before in
+    joint-slid (at .pre .0 .0) (at .args .from) _ (k .to-joint .ensures) _ _ _ _ _ _ _ _ _ _ _ (c .of-joint .ensures) (at .pre .1 .1 .0) (same-length-3 c) (r .slide .ensures)
 
 pub joint-slide-spec : {M : Type 1} → statement M
 joint-slide-spec =
     tie.close
-    (tie.spec to-joint-requires slide-requires of-joint-requires same-length same-length-2 returns)
+    (tie.spec to-joint-requires slide-requires of-joint-requires same-length same-length-2 same-length-3 returns)
