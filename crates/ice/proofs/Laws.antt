@@ -28,7 +28,7 @@ use Rattle.spec.proofs.Steps.{after-one, length-answers}
 use Rattle.spec.proofs.Walks.{Held, held-step, step-to, step-nowhere}
 use Rattle.window.specs.Line.{Adjacent, right, left, down, up}
 use Rattle.ways.specs.declared.Visit.{Visit}
-use Rattle.ways.specs.Visit.{settingsIn, Stores, Fit, Left, Kept, stateOf, Within, AtWindow, Visited, Carried}
+use Rattle.ways.specs.Visit.{settingsIn, Stores, Fit, Left, usedOf, Kept, stateOf, Within, AtWindow, Visited, Carried}
 use Rattle.ways.proofs.EachLaws.{settings-same}
 
 -- ---- stores over several calls
@@ -49,7 +49,7 @@ kept-trans way k a b c x y =
     record {
       counts = left-trans _ _ _ _ (x .counts) (y .counts);
       words = left-trans _ _ _ _ (x .words) (y .words);
-      numbers = left-trans _ _ _ _ (x .numbers) (y .numbers);
+      numbers = left-trans _ _ _ _ (x .numbers) (subst (λ (n : ℕ). Left (usedOf way k n) (b .numbers) (c .numbers)) (x .numbers .long) (y .numbers));
     }
 
 pub fit-kept : (way : Way) (k : Settings) (a z : Stores) → Fit way k a → Kept way k a z → Fit way k z

@@ -24,7 +24,7 @@ ghost use Rattle.spec.specs.Checks.{Planned};
 ghost use Rattle.spec.specs.Walk as definitions;
 ghost use Rattle.spec.specs.Filter.{filtered, filterEnd};
 ghost use Rattle.ways.specs.Visit.{settingsIn, stores, Fit, Serves};
-ghost use Rattle.ice.specs.Result.{Finished, Zeroed};
+ghost use Rattle.ice.specs.Result.{Finished, Zeroed, isJoint};
 ghost use Rattle.ice.specs.Contract.{Walks, Filters, Balances};
 
 // The result of a refused call.
@@ -40,7 +40,18 @@ pub fn refused(verdict: Verdict) -> Walked
     }
 }
 
-// Walks through an accepted frame, with the weights decoded once.
+// Whether the way keeps a histogram of levels beside its stores.
+fn keeps_histogram(way: Way) -> bool
+    ensures { λ r. ⌜ r ≡ isJoint way ⌝ }
+{
+    match way {
+        Way::Joint => true,
+        Way::Columns => false,
+        Way::Chain => false,
+    }
+}
+
+// Walks through an accepted frame, with the weights decoded once. The joint way's histogram is not the caller's: it lives as long as the walk.
 fn walk_on(
     file: &[u8],
     z: Plan,
@@ -60,10 +71,28 @@ fn walk_on(
     requires { ⌜ length (now moves) + 1 ≤ length (now answers) ⌝ }
     ensures { λ r. ⌜ Finished way (frameOf (now (file .entry))) (definitions.walkEnd (frameOf (now (file .entry))) column row (now (moves .entry))) (stores (now (counts .entry)) (now (words .entry)) (now (numbers .entry))) (stores (now (counts .exit)) (now (words .exit)) (now (numbers .exit))) r ⌝ }
     ensures { λ _. ⌜ now (answers .exit) ≡ definitions.walkAnswers (frameOf (now (file .entry))) column row (now (moves .entry)) ++ drop (length (now (moves .entry)) + 1) (now (answers .entry)) ⌝ }
+    ensures { λ _. ⌜ (way ≡ Way.Joint → now (numbers .exit) ≡ now (numbers .entry)) ⌝ }
 {
     let mut weights = [0u16; 65536];
     rows::decode_rows(file, z, &mut weights);
     let cells = dispatch::blank();
+    if keeps_histogram(way) {
+        let mut histogram = [0u32; 2048];
+        return travel(
+            file,
+            z,
+            way,
+            &weights,
+            column,
+            row,
+            moves,
+            cells,
+            counts,
+            words,
+            &mut histogram,
+            answers,
+        );
+    }
     travel(
         file,
         z,
@@ -124,7 +153,7 @@ pub fn walk(
     )
 }
 
-// Filters an accepted frame, with the weights decoded once.
+// Filters an accepted frame, as walk_on walks.
 fn filter_on(
     file: &[u8],
     z: Plan,
@@ -139,10 +168,25 @@ fn filter_on(
     requires { ⌜ z .width * z .height ≤ length (now output) ⌝ }
     ensures { λ r. ⌜ Finished way (frameOf (now (file .entry))) (filterEnd (frameOf (now (file .entry)))) (stores (now (counts .entry)) (now (words .entry)) (now (numbers .entry))) (stores (now (counts .exit)) (now (words .exit)) (now (numbers .exit))) r ⌝ }
     ensures { λ _. ⌜ now (output .exit) ≡ filtered (frameOf (now (file .entry))) ++ drop (pixels (frameOf (now (file .entry)) .set)) (now (output .entry)) ⌝ }
+    ensures { λ _. ⌜ (way ≡ Way.Joint → now (numbers .exit) ≡ now (numbers .entry)) ⌝ }
 {
     let mut weights = [0u16; 65536];
     rows::decode_rows(file, z, &mut weights);
     let cells = dispatch::blank();
+    if keeps_histogram(way) {
+        let mut histogram = [0u32; 2048];
+        return sweep(
+            file,
+            z,
+            way,
+            &weights,
+            cells,
+            counts,
+            words,
+            &mut histogram,
+            output,
+        );
+    }
     sweep(
         file,
         z,

@@ -14,7 +14,7 @@ ghost use Rattle.spec.specs.Checks.{Planned};
 ghost use Rattle.spec.specs.Filter.{turn, filtered, filterEnd};
 ghost use Rattle.spec.specs.Calls.{zeros};
 ghost use Rattle.joint_search.specs.Arrive.{WeightRows};
-ghost use Rattle.ways.specs.Visit.{settingsIn, stores, Fit, Serves};
+ghost use Rattle.ways.specs.Visit.{settingsIn, stores, Fit, Cleared, Serves};
 ghost use Rattle.ice.specs.Result.{Finished};
 
 // Byte i of the filter's list, in pictures w wide.
@@ -46,7 +46,7 @@ pub fn sweep(
     requires { ⌜ (Planned (now file) z) × (WeightRows (now file) z (now weights)) × (Serves way z) ⌝ }
     requires { ⌜ Fit way (settingsIn z) (stores (now counts) (now words) (now numbers)) ⌝ }
     requires { ⌜ z .width * z .height ≤ length (now output) ⌝ }
-    requires { ⌜ cells ≡ zeros ⌝ }
+    requires { ⌜ (cells ≡ zeros) × (Cleared way z (now numbers)) ⌝ }
     ensures { λ r. ⌜ Finished way (frameOf (now (file .entry))) (filterEnd (frameOf (now (file .entry)))) (stores (now (counts .entry)) (now (words .entry)) (now (numbers .entry))) (stores (now (counts .exit)) (now (words .exit)) (now (numbers .exit))) r ⌝ }
     ensures { λ _. ⌜ now (output .exit) ≡ filtered (frameOf (now (file .entry))) ++ drop (pixels (frameOf (now (file .entry)) .set)) (now (output .entry)) ⌝ }
 {

@@ -17,7 +17,7 @@ ghost use Rattle.spec.specs.Walk as definitions;
 ghost use Rattle.spec.specs.Calls.{zeros};
 ghost use Rattle.spec.proofs.Limits.{SettingsLimits};
 ghost use Rattle.joint_search.specs.Arrive.{WeightRows};
-ghost use Rattle.ways.specs.Visit.{settingsIn, stateOf, stores, Fit, Serves, Within, AtWindow, Visited};
+ghost use Rattle.ways.specs.Visit.{settingsIn, stateOf, stores, Fit, Cleared, Serves, Within, AtWindow, Visited};
 ghost use Rattle.ice.specs.Result.{Finished};
 
 // Where a byte leads.
@@ -122,7 +122,7 @@ pub fn travel(
     requires { ⌜ length (now moves) ≤ 1048576 ⌝ }
     requires { ⌜ Fit way (settingsIn z) (stores (now counts) (now words) (now numbers)) ⌝ }
     requires { ⌜ length (now moves) + 1 ≤ length (now answers) ⌝ }
-    requires { ⌜ cells ≡ zeros ⌝ }
+    requires { ⌜ (cells ≡ zeros) × (Cleared way z (now numbers)) ⌝ }
     ensures { λ r. ⌜ Finished way (frameOf (now (file .entry))) (definitions.walkEnd (frameOf (now (file .entry))) column row (now (moves .entry))) (stores (now (counts .entry)) (now (words .entry)) (now (numbers .entry))) (stores (now (counts .exit)) (now (words .exit)) (now (numbers .exit))) r ⌝ }
     ensures { λ _. ⌜ now (answers .exit) ≡ definitions.walkAnswers (frameOf (now (file .entry))) column row (now (moves .entry)) ++ drop (length (now (moves .entry)) + 1) (now (answers .entry)) ⌝ }
 {

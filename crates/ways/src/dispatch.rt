@@ -40,7 +40,17 @@ pub fn enter(
     ensures { λ r. ⌜ Visited way (now (file .entry)) (arrive (frameOf (now (file .entry))) column row 0 0) (stores (now (counts .entry)) (now (words .entry)) (now (numbers .entry))) (stores (now (counts .exit)) (now (words .exit)) (now (numbers .exit))) (now (cells .exit)) r ⌝ }
 {
     match way {
-        Way::Joint => each::joint_enter(file, z, weights, column, row, cells, counts, words, numbers),
+        Way::Joint => each::joint_enter(
+            file,
+            z,
+            weights,
+            column,
+            row,
+            cells,
+            counts,
+            words,
+            numbers,
+        ),
         Way::Columns => each::columns_enter(file, z, column, row, numbers),
         Way::Chain => each::chain_enter(file, z, column, row, numbers),
     }
@@ -68,7 +78,18 @@ pub fn slide(
     ensures { λ r. ⌜ Visited way (now (file .entry)) (arrive (frameOf (now (file .entry))) column row (from .cut .0) (from .shifts)) (stores (now (counts .entry)) (now (words .entry)) (now (numbers .entry))) (stores (now (counts .exit)) (now (words .exit)) (now (numbers .exit))) (now (cells .exit)) r ⌝ }
 {
     match way {
-        Way::Joint => each::joint_slide(file, z, weights, from, column, row, cells, counts, words, numbers),
+        Way::Joint => each::joint_slide(
+            file,
+            z,
+            weights,
+            from,
+            column,
+            row,
+            cells,
+            counts,
+            words,
+            numbers,
+        ),
         Way::Columns => each::columns_slide(file, z, from, column, row, numbers),
         Way::Chain => each::chain_slide(file, z, from, column, row, numbers),
     }

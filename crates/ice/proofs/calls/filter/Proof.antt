@@ -96,7 +96,7 @@ returns-3 c =
     let d = c .before .before .before .before .before .before .before .before .before in
     let at = c .before .before .before .before .before .before .before .before .before .before .before .before .before .before .before .before .before .before .before .before .before .before .before .before .before .before in
     let h = c .before .before .before .before .before .before .before .before .filter-on .ensures in
-    filters-done _ _ _ (d .before .before .before .before .way-of .ensures) (held at) _ (at .args .output .now) _ _ (outcome-at d) (h .0) (h .1)
+    filters-done _ _ _ (d .before .before .before .before .way-of .ensures) (held at) _ (at .args .output .now) _ _ (outcome-at d) (h .0) (h .1 .0) (h .1 .1)
 
 pub filter-spec : {M : Type 1} → statement M
 filter-spec =

@@ -1,52 +1,89 @@
+-- `filter_on` meets its contract: by the way, with a histogram or with the caller's numbers. Assumes nothing.
+use mathlib.Core.Path.{_≡_, refl, sym, _∙_}
+use mathlib.Core.Bool.{true, false}
 use borrow.Author.Needs.{needs}
-use Rattle.ice.proofs.CallLaws.{weights-fit}
+use Rattle.spec.specs.declared.Way.the-variants.{Joint}
+use Rattle.ice.proofs.CallLaws.{weights-fit, joint-is, joint-not, histogram-fit, histogram-blank, numbers-back}
 use Rattle.ice.proofs.calls.filter_on.Statement.{statement}
 use Rattle.ice.proofs.calls.filter_on.Tie as tie
-use Rattle.ice.proofs.calls.filter_on.Reads as reads
-use Rattle.ice.proofs.calls.filter_on.Lts as lts
-use Rattle.ice.proofs.filter.sweep.Reads as sweep-reads
-use Rattle.joint_search.proofs.rows.decode_rows.Reads as decode-rows-reads
-use Rattle.ways.proofs.dispatch.blank.Reads as blank-reads
 
--- src/calls.rt:144:32
+abbrev begin : tie.After-keeps-histogram → tie.Start
+begin k = k .before .before .before .before .before .before .before .before .before .before
+
 slice-aggregate-decode-rows : tie.Need-slice-aggregate-decode-rows
 slice-aggregate-decode-rows c = search needs
 
--- src/calls.rt:144:5
 decode-rows-requires : tie.Need-decode-rows-requires
 decode-rows-requires c κs = let at = c .before .before .before .before .before .before in (at .pre .0 .0, weights-fit (at .pre .0 .0))
 
--- src/calls.rt:145:9
 blank-requires : tie.Need-blank-requires
 blank-requires c κs = search needs
 
--- src/calls.rt:150:9
+keeps-histogram-requires : tie.Need-keeps-histogram-requires
+keeps-histogram-requires c κs = search needs
+
 slice-aggregate-sweep : tie.Need-slice-aggregate-sweep
 slice-aggregate-sweep c = search needs
 
--- src/calls.rt:146:5
-sweep-requires : tie.Need-sweep-requires
-sweep-requires c κs = let h = c .before .before .before .before .before .before .before .before .before .before .before .before .before .before .pre in ((h .0 .0, c .before .before .before .before .before .before .before .decode-rows .ensures, h .0 .1), (h .1 .0, (h .1 .1, c .before .before .before .before .before .blank .ensures)))
+slice-aggregate-sweep-2 : tie.Need-slice-aggregate-sweep-2
+slice-aggregate-sweep-2 c = search needs
 
--- src/calls.rt:128:1
+-- the joint way, with a histogram of its own
+joint : (i : tie.Then1) → (begin (i .before)) .args .way ≡ Joint
+joint i = joint-is ((begin (i .before)) .args .way) (sym (i .if1 .taken) ∙ i .before .keeps-histogram .ensures)
+
+sweep-requires : tie.Need-sweep-requires
+sweep-requires c κs =
+    let i = c .before .before .before .before .before in
+    let k = i .before in
+    let h = (begin k) .pre in
+    ((h .0 .0, k .before .before .before .decode-rows .ensures, h .0 .1), (histogram-fit _ _ _ _ _ _ (joint i) (h .1 .0), (h .1 .1, (k .before .blank .ensures, λ _. histogram-blank (h .0 .0)))))
+
 same-length : tie.Need-same-length
 same-length c = search needs
 
--- src/calls.rt:128:1
 same-length-2 : tie.Need-same-length-2
 same-length-2 c = search needs
 
--- src/calls.rt:128:1
 same-length-3 : tie.Need-same-length-3
 same-length-3 c = search needs
 
--- src/calls.rt:128:1
+returns : tie.Need-returns
+returns c =
+    let t = c .before .before .before .before .before .before .before in
+    let e = joint (t .before .before .before .before .before .before) in
+    (numbers-back _ e (t .sweep .ensures .0), (t .sweep .ensures .1, λ _. refl))
+
+slice-aggregate-sweep-3 : tie.Need-slice-aggregate-sweep-3
+slice-aggregate-sweep-3 c = search needs
+
+-- another way, with the caller's numbers
+other : (i : tie.Else1) → (begin (i .before)) .args .way ≡ Joint → ⊥
+other i = joint-not ((begin (i .before)) .args .way) (sym (i .if1 .left) ∙ i .before .keeps-histogram .ensures)
+
+sweep-requires-2 : tie.Need-sweep-requires-2
+sweep-requires-2 c κs =
+    let i = c .before .before .before .before .before in
+    let k = i .before in
+    let h = (begin k) .pre in
+    ((h .0 .0, k .before .before .before .decode-rows .ensures, h .0 .1), (h .1 .0, (h .1 .1, (k .before .blank .ensures, λ e. absurd (other i e)))))
+
 same-length-4 : tie.Need-same-length-4
 same-length-4 c = search needs
 
--- src/calls.rt:128:1
-returns : tie.Need-returns
-returns c = c .before .before .before .before .before .before .before .before .sweep .ensures
+same-length-5 : tie.Need-same-length-5
+same-length-5 c = search needs
+
+same-length-6 : tie.Need-same-length-6
+same-length-6 c = search needs
+
+same-length-7 : tie.Need-same-length-7
+same-length-7 c = search needs
+
+returns-2 : tie.Need-returns-2
+returns-2 c =
+    let t = c .before .before .before .before .before .before .before .before in
+    (t .sweep2 .ensures .0, (t .sweep2 .ensures .1, λ e. absurd (other (t .before .before .before .before .before .before) e)))
 
 pub filter-on-spec : {M : Type 1} → statement M
 filter-on-spec =
@@ -55,10 +92,18 @@ filter-on-spec =
     slice-aggregate-decode-rows
     decode-rows-requires
     blank-requires
+    keeps-histogram-requires
     slice-aggregate-sweep
+    slice-aggregate-sweep-2
     sweep-requires
     same-length
     same-length-2
     same-length-3
+    returns
+    slice-aggregate-sweep-3
+    sweep-requires-2
     same-length-4
-    returns)
+    same-length-5
+    same-length-6
+    same-length-7
+    returns-2)

@@ -96,7 +96,7 @@ returns-3 c =
     let d = c .before .before .before .before .before .before .before .before .before in
     let at = c .before .before .before .before .before .before .before .before .before .before .before .before .before .before .before .before .before .before .before .before .before .before .before .before .before .before .before in
     let h = c .before .before .before .before .before .before .before .before .walk-on .ensures in
-    walks-done _ _ _ (d .before .before .before .before .way-of .ensures) (held at) _ (at .args .answers .now) _ _ _ _ (at .args .moves .now) (outcome-at d) (h .0) (h .1)
+    walks-done _ _ _ (d .before .before .before .before .way-of .ensures) (held at) _ (at .args .answers .now) _ _ _ _ (at .args .moves .now) (outcome-at d) (h .0) (h .1 .0) (h .1 .1)
 
 pub walk-spec : {M : Type 1} → statement M
 walk-spec =

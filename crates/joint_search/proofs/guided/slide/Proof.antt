@@ -38,8 +38,7 @@ arrive-requires c κs =
     let w = h .before .before in
     let m = w .before .before in
     let at = begin (m .before) in
-    let pl = at .pre .0 .0 .planned in
-    (
+    let pl = at .pre .0 .0 .planned in (
       (
         at .pre .0 .0,
         at .pre .0 .1,

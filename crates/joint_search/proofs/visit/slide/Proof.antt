@@ -33,8 +33,7 @@ slide-requires-2 c κs =
     let d = step k in
     let at = begin d in
     let pl = at .pre .0 .0 .planned in
-    let q = both-in (at .pre .0 .1) in
-    (
+    let q = both-in (at .pre .0 .1) in (
       (counted-of pl (q .2) (q .3) (k .slide .ensures), i .if1 .taken, at .pre .0 .1, d .step-to .ensures),
       (at .pre .0 .2 .guided (kind-is pl (i .if1 .taken)), (at .pre .1 .1, at .pre .1 .2, k .slide .ensures .box)),
     )

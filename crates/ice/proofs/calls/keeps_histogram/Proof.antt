@@ -1,0 +1,31 @@
+-- `keeps_histogram` meets its contract. Assumes nothing.
+use mathlib.Core.Path.{refl}
+use borrow.Author.Needs.{needs}
+use Rattle.ice.specs.Result.{isJoint}
+use Rattle.ice.proofs.calls.keeps_histogram.Statement.{statement}
+use Rattle.ice.proofs.calls.keeps_histogram.Tie as tie
+
+enum-told : tie.Need-enum-told
+enum-told c = search needs
+
+enum-told-2 : tie.Need-enum-told-2
+enum-told-2 c = search needs
+
+enum-told-3 : tie.Need-enum-told-3
+enum-told-3 c = search needs
+
+returns : tie.Need-returns
+unfolding isJoint
+returns c = rw (c .enum-told .given .1) refl
+
+returns-2 : tie.Need-returns-2
+unfolding isJoint
+returns-2 c = rw (c .enum-told2 .given .1) refl
+
+returns-3 : tie.Need-returns-3
+unfolding isJoint
+returns-3 c = rw (c .enum-told3 .given .1) refl
+
+pub keeps-histogram-spec : {M : Type 1} → statement M
+keeps-histogram-spec =
+    tie.close (tie.spec enum-told enum-told-2 enum-told-3 returns returns-2 returns-3)
