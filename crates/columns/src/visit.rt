@@ -1,8 +1,8 @@
 // Way 2 at a pixel: entered from nothing, or come to from a neighbour. The state goes in and out by value; the store is the caller's.
 use crate::store;
 use levels::answer;
-use levels::tally;
 use levels::tally::Tally;
+use levels::totals;
 use spec::Level;
 use spec::Plan;
 use window::line;
@@ -137,8 +137,9 @@ pub fn slide(
     let a = v.sums;
     let b = v.below;
     let cut = v.cut;
-    let sums2 = sums::moved(file, z, a, step);
-    let below = tally::moved(file, z, b, step, cut.0 as usize + 1);
+    let r = totals::moved(file, z, a, b, step, cut.0 as usize + 1);
+    let sums2 = r.sums;
+    let below = r.below;
     store::slide(file, z, numbers, s, t, s2, t2);
     answer_at(file, z, numbers, s2, t2, sums2, below, cut, v.shifts)
 }

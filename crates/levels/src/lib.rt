@@ -2,3 +2,4 @@
 pub mod answer;
 pub mod search;
 pub mod tally;
+pub mod totals;
