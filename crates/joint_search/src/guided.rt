@@ -3,8 +3,8 @@
 use crate::find;
 use crate::visit::Visit;
 use levels::answer;
-use levels::tally;
 use levels::tally::Tally;
+use levels::totals;
 use spec::Level;
 use spec::Plan;
 use window::line::Step;
@@ -136,8 +136,9 @@ pub fn slide(
     let cut = v.cut;
     let before = v.sums;
     let low = v.below;
-    let a = sums::moved(file, z, before, d);
-    let below = tally::moved(file, z, low, d, cut.0 as usize + 1);
+    let r = totals::moved(file, z, before, low, d, cut.0 as usize + 1);
+    let a = r.sums;
+    let below = r.below;
     histogram::slide(file, z, d, s, t, s2, t2, numbers);
     arrive(
         file,

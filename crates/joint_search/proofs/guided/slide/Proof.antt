@@ -9,44 +9,39 @@ use Rattle.joint_search.proofs.guided.slide.Tie as tie
 abbrev begin : tie.After-low → tie.Start
 begin l = l .before .before .before .before .before .before .before
 
-moved-requires : tie.Need-moved-requires
-moved-requires c κs =
-    let at = begin c in
-    let pl = at .pre .0 .0 .planned in
-    (pl, (step-in pl (at .pre .0 .2) (at .pre .0 .3), movable pl (at .pre .0 .2) (at .pre .1 .0 .sums) (at .pre .0 .3)))
-
 cast-moved : tie.Need-cast-moved
 cast-moved c = search needs
 
 add-moved : tie.Need-add-moved
 add-moved c = search needs
 
-moved-requires-2 : tie.Need-moved-requires-2
-moved-requires-2 c κs =
-    let at = begin (c .before .before) in
+moved-requires : tie.Need-moved-requires
+moved-requires c κs =
+    let at = begin (c .before) in
     let pl = at .pre .0 .0 .planned in
-    (pl, (step-in pl (at .pre .0 .2) (at .pre .0 .3), tally-movable pl (at .pre .0 .2) (at .pre .1 .0 .below) (at .pre .0 .3)))
+    let adj = at .pre .0 .2 in
+    let e = at .pre .0 .3 in
+    (pl, (step-in pl adj e, (movable pl adj (at .pre .1 .0 .sums) e, tally-movable pl adj (at .pre .1 .0 .below) e)))
 
 slide-requires : tie.Need-slide-requires
 slide-requires c κs =
-    let at = begin (c .before .before .before .before) in
+    let at = begin (c .before .before .before .before .before) in
     ((at .pre .0 .0 .planned, at .pre .0 .2, at .pre .0 .3), at .pre .1 .0 .histogram)
 
 arrive-requires : tie.Need-arrive-requires
 arrive-requires c κs =
     let h = c .before .before .before .before in
-    let w = h .before .before in
-    let m = w .before .before in
-    let at = begin (m .before) in
-    let pl = at .pre .0 .0 .planned in (
+    let m = h .before .before .before .before in
+    let at = begin (m .before .before) in
+    let pl = at .pre .0 .0 .planned in
+    let adj = at .pre .0 .2 in
+    let e = at .pre .0 .3 in
+    let was = at .pre .1 .0 in
+    (
       (
         at .pre .0 .0,
         at .pre .0 .1,
-        record {
-          sums = moved-at pl (at .pre .0 .2) (at .pre .1 .0 .sums) (at .pre .0 .3) (m .moved .ensures);
-          below = tally-moved pl (at .pre .0 .2) (at .pre .1 .0 .below) (at .pre .0 .3) (w .moved2 .ensures);
-          histogram = h .slide .ensures;
-        },
+        record { sums = moved-at pl adj (was .sums) e (m .moved .ensures .0); below = tally-moved pl adj (was .below) e (m .moved .ensures .1); histogram = h .slide .ensures },
       ),
       at .pre .1 .1,
     )
@@ -60,12 +55,4 @@ returns c = c .arrive .ensures
 pub slide-spec : {M : Type 1} → statement M
 slide-spec =
     tie.close
-    (tie.spec
-    moved-requires
-    cast-moved
-    add-moved
-    moved-requires-2
-    slide-requires
-    arrive-requires
-    same-length
-    returns)
+    (tie.spec cast-moved add-moved moved-requires slide-requires arrive-requires same-length returns)
