@@ -2,22 +2,12 @@
 //
 // All contestants take turns in one run and the best of several rounds counts, so that what else the
 // machine does falls on all alike. Only ratios within a line mean something on another machine.
+#include "contest.hpp"
 #include "opencv.hpp"
-#include "yardstick.hpp"
-#include <cstdio>
-#include <ctime>
-#include <functional>
-#include <string>
-#ifdef WITH_LIBRARY
-#include "../include/icemedian.h"
-#endif
+#include "sideways.hpp"
+#include "text.hpp"
 
 using namespace bench;
-
-// What is timed: a way and a kind. The library and the yardstick both have all four.
-enum Contest { JOINT_TABLE, JOINT_GUIDED, COLUMNS, CHAIN, CONTESTS };
-static const char *const NAMES[CONTESTS] = {"joint, kind 1", "joint, kind 2", "columns", "chain"};
-static constexpr double NOT_TIMED = 0;
 
 // One frame's times in nanoseconds a pixel.
 struct Row {
@@ -26,68 +16,10 @@ struct Row {
     double opencv, library[CONTESTS], yardstick[CONTESTS];
 };
 
-// Processor time of this thread: all contestants run on it alone, and what the machine does for others
-// between is not theirs.
-static double now() {
-    timespec time;
-    clock_gettime(CLOCK_THREAD_CPUTIME_ID, &time);
-    return double(time.tv_sec) + 1e-9 * double(time.tv_nsec);
-}
-
-static double seconds_of(const std::function<void()> &run) {
-    double start = now();
-    run();
-    return now() - start;
-}
-
-static Walk by_yardstick(Contest contest, const Frame &frame, const std::vector<uint8_t> &moves) {
-    auto with = [&](auto way) { return walk(way, frame, 0, 0, moves); };
-    if (contest == COLUMNS) return with(Columns(frame));
-    if (contest == CHAIN) return with(Chain(frame));
-    return with(Joint(frame));
-}
-
-// The library's filter with its buffers, which a caller makes once and uses for many frames.
-class Library {
-  public:
-#ifdef WITH_LIBRARY
-    static constexpr bool LINKED = true;
-#else
-    static constexpr bool LINKED = false;
-#endif
-    uint64_t shifts = 0;
-
-    Library(Contest contest, const Frame &frame)
-        : file(file_of(frame)), way(uint8_t(contest == COLUMNS ? 2 : contest == CHAIN ? 3 : 1)), output(frame.pixels()) {
-#ifdef WITH_LIBRARY
-        if (way == ICEMEDIAN_JOINT) counts.resize(ICEMEDIAN_COUNTS_LENGTH(frame.levels, frame.guides));
-        if (way == ICEMEDIAN_JOINT) words.resize(ICEMEDIAN_WORDS_LENGTH(frame.levels, frame.guides));
-        if (way == ICEMEDIAN_COLUMNS) numbers.resize(ICEMEDIAN_COLUMNS_LENGTH(frame.width, frame.levels));
-        if (way == ICEMEDIAN_CHAIN) numbers.resize(ICEMEDIAN_CHAIN_LENGTH(frame.radius));
-        counts.reserve(1), words.reserve(1), numbers.reserve(1);  // no pointer may be null
-#endif
-    }
-    void filter() {
-#ifdef WITH_LIBRARY
-        uint64_t offset;
-        uint32_t status = icemedian_filter(file.data(), file.size(), way, counts.data(), counts.size(), words.data(), words.size(),
-                                           numbers.data(), numbers.size(), output.data(), output.size(), &shifts, &offset);
-        if (status != 0) std::printf("the library refused a frame: %u\n", unsigned(status)), std::exit(1);
-#endif
-    }
-
-  private:
-    std::vector<uint8_t> file;
-    uint8_t way;
-    std::vector<uint16_t> counts, output;
-    std::vector<uint64_t> words;
-    std::vector<uint32_t> numbers;
-};
-
 static Frame frame_of(bool noisy, const Settings &k) { return noisy ? noise(k) : ice(k); }
 
 // Times every contestant on one frame, in turns.
-static Row measure(bool noisy, Settings k, int rounds) {
+static Row measure(bool noisy, Settings k) {
     k.kind = TABLE;
     Frame table = frame_of(noisy, k);
     k.kind = GUIDED;
@@ -98,30 +30,20 @@ static Row measure(bool noisy, Settings k, int rounds) {
     for (int c = 0; c < CONTESTS; c++) libraries.emplace_back(Contest(c), c == JOINT_TABLE ? table : guided);
 
     Row row{noisy, k, NOT_TIMED, {}, {}};
-    auto keep = [&](double &best, const std::function<void()> &run) {
-        double time = seconds_of(run) * 1e9 / double(table.pixels());
-        if (best == NOT_TIMED || time < best) best = time;
-    };
-    for (int round = 0; round < rounds; round++) {
-        if (k.levels == 256) keep(row.opencv, [&] { opencv.filter(); });
+    for (int round = 0; round < ROUNDS; round++) {
+        if (k.levels == 256) keep_best(row.opencv, table.pixels(), [&] { opencv.filter(); });
         for (int c = 0; c < CONTESTS; c++) {
             Walk walk;
             const Frame &frame = c == JOINT_TABLE ? table : guided;
-            keep(row.yardstick[c], [&] { walk = by_yardstick(Contest(c), frame, moves); });
+            keep_best(row.yardstick[c], table.pixels(), [&] { walk = by_yardstick(Contest(c), frame, moves); });
             if (!Library::LINKED) continue;
-            keep(row.library[c], [&] { libraries[size_t(c)].filter(); });
-            if (libraries[size_t(c)].shifts != walk.shifts) std::printf("shift counts differ: %s\n", NAMES[c]), std::exit(1);
+            Library &library = libraries[size_t(c)];
+            keep_best(row.library[c], table.pixels(), [&] { library.filter(); });
+            library.compare(walk, NAMES[c]);
         }
     }
     return row;
 }
-
-static std::string number(const char *format, double value) {
-    char text[32];
-    std::snprintf(text, sizeof text, format, value);
-    return value == NOT_TIMED || !std::isfinite(value) ? "-" : text;
-}
-static std::string ratio(double a, double b) { return a == NOT_TIMED || b == NOT_TIMED ? "-" : number("%.2f", a / b); }
 
 static void print_row(const Row &row) {
     std::printf("| %s | %dx%d | %d | %d | %s |", row.noisy ? "noise" : "ice", row.k.width, row.k.height, row.k.radius, row.k.levels,
@@ -246,9 +168,8 @@ static void print_memory() {
 
 int main(int count, char **words) {
     bool quick = count > 1 && std::string(words[1]) == "--quick";
-    int rounds = 4;
     std::vector<Row> rows;
-    std::printf("OpenCV %s; best of %d rounds in turns, one thread, 256 guides, smoothing 64 in kind 2.\n", CV_VERSION, rounds);
+    std::printf("OpenCV %s; best of %d rounds in turns, one thread, 256 guides, smoothing 64 in kind 2.\n", CV_VERSION, ROUNDS);
     if (!Library::LINKED) std::printf("The proved library is not linked: its columns stay empty.\n");
     print_head();
     for (bool noisy : {false, true})
@@ -256,11 +177,12 @@ int main(int count, char **words) {
             for (int levels : {256, 1024})
                 for (int radius : {3, 7, 15}) {
                     if (quick && (width == 640 || levels == 1024)) continue;
-                    rows.push_back(measure(noisy, {width, height, levels, 256, GUIDED, radius, 64}, rounds));
+                    rows.push_back(measure(noisy, {width, height, levels, 256, GUIDED, radius, 64}));
                     print_row(rows.back());
                 }
     print_ratios(rows);
     print_growth(rows);
+    print_all_sideways();
     print_full_frames(rows);
     print_memory();
     return 0;
