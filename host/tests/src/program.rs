@@ -82,9 +82,11 @@ pub fn test(path: &str, runs: u64, seed: u64, tally: &mut Tally) -> Check {
     }
     for (number, input) in overlap::inputs(&mut random).iter().enumerate() {
         let what = format!("the program, planes that overlap, input {number}");
-        same(&what, &output_of(path, once(input))?, &printed(input))?;
+        let expected = printed(input);
+        same(&what, &output_of(path, once(input))?, &expected)?;
         tally.programs += 1;
         tally.overlapping_inputs += 1;
+        tally.longest_text = tally.longest_text.max(expected.len());
     }
     same("the program on endless input", &output_of(path, without_end)?, &printed(&[0; INPUT_MOST + 1]))
 }

@@ -32,6 +32,8 @@ pub struct Tally {
     pub programs: u64,
     /// Inputs with planes that overlap on purpose, among the program's.
     pub overlapping_inputs: u64,
+    /// Bytes of the longest text that the program printed for them.
+    pub longest_text: usize,
 }
 
 impl Tally {
@@ -83,8 +85,8 @@ impl fmt::Display for Tally {
         }
         write!(
             f,
-            "\nprogram runs: {} ({} chosen with planes that overlap)\nno difference",
-            self.programs, self.overlapping_inputs
+            "\nprogram runs: {} ({} chosen with planes that overlap, the longest text {} bytes)\nno difference",
+            self.programs, self.overlapping_inputs, self.longest_text
         )
     }
 }
