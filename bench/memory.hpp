@@ -27,11 +27,17 @@ inline size_t stack_touched(std::function<void()> run) {
     return size_t(std::end(stack) - deepest);
 }
 
-// What a filter takes of the stack, less what a thread takes that does nothing.
-inline double filter_stack(Contest contest) {
+// What a call takes of the stack, less what a thread takes that does nothing.
+inline double call_stack(Contest contest, void (*call)(Library &)) {
     Frame frame = noise({64, 32, 1024, 256, contest == JOINT_TABLE ? TABLE : GUIDED, 15, 64});
     Library library(contest, frame);
-    return Library::LINKED ? double(stack_touched([&] { library.filter(); }) - stack_touched([] {})) : NOT_TIMED;
+    return Library::LINKED ? double(stack_touched([&] { call(library); }) - stack_touched([] {})) : NOT_TIMED;
+}
+
+inline void print_stack(const char *what, void (*call)(Library &)) {
+    std::printf("| stack of a %s |", what);
+    for (int c = 0; c < CONTESTS; c++) std::printf(" %s |", number("%.1f", call_stack(Contest(c), call) / 1024).c_str());
+    std::printf("\n");
 }
 
 inline void print_stores(int levels, int radius) {
@@ -50,9 +56,8 @@ inline void print_memory() {
     std::printf("\n|---|---|---|---|---|\n");
     for (int levels : {256, 1024})
         for (int radius : {3, 7, 15}) print_stores(levels, radius);
-    std::printf("| stack of the library's filter |");
-    for (int c = 0; c < CONTESTS; c++) std::printf(" %s |", number("%.1f", filter_stack(Contest(c)) / 1024).c_str());
-    std::printf("\n");
+    print_stack("filter", [](Library &library) { library.filter(); });
+    print_stack("walk", [](Library &library) { library.walk({RIGHT, DOWN, LEFT, UP}); });
 }
 
 }  // namespace bench
