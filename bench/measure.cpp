@@ -2,92 +2,18 @@
 //
 // All contestants take turns in one run and the best of several rounds counts, so that what else the
 // machine does falls on all alike. Only ratios within a line mean something on another machine.
+#include "goals.hpp"
+#include "memory.hpp"
 #include "opencv.hpp"
-#include "yardstick.hpp"
-#include <cstdio>
-#include <ctime>
-#include <functional>
-#include <string>
-#ifdef WITH_LIBRARY
-#include "../include/icemedian.h"
-#endif
+#include "sideways.hpp"
+#include <chrono>
 
 using namespace bench;
-
-// What is timed: a way and a kind. The library and the yardstick both have all four.
-enum Contest { JOINT_TABLE, JOINT_GUIDED, COLUMNS, CHAIN, CONTESTS };
-static const char *const NAMES[CONTESTS] = {"joint, kind 1", "joint, kind 2", "columns", "chain"};
-static constexpr double NOT_TIMED = 0;
-
-// One frame's times in nanoseconds a pixel.
-struct Row {
-    bool noisy;
-    Settings k;
-    double opencv, library[CONTESTS], yardstick[CONTESTS];
-};
-
-// Processor time of this thread: all contestants run on it alone, and what the machine does for others
-// between is not theirs.
-static double now() {
-    timespec time;
-    clock_gettime(CLOCK_THREAD_CPUTIME_ID, &time);
-    return double(time.tv_sec) + 1e-9 * double(time.tv_nsec);
-}
-
-static double seconds_of(const std::function<void()> &run) {
-    double start = now();
-    run();
-    return now() - start;
-}
-
-static Walk by_yardstick(Contest contest, const Frame &frame, const std::vector<uint8_t> &moves) {
-    auto with = [&](auto way) { return walk(way, frame, 0, 0, moves); };
-    if (contest == COLUMNS) return with(Columns(frame));
-    if (contest == CHAIN) return with(Chain(frame));
-    return with(Joint(frame));
-}
-
-// The library's filter with its buffers, which a caller makes once and uses for many frames.
-class Library {
-  public:
-#ifdef WITH_LIBRARY
-    static constexpr bool LINKED = true;
-#else
-    static constexpr bool LINKED = false;
-#endif
-    uint64_t shifts = 0;
-
-    Library(Contest contest, const Frame &frame)
-        : file(file_of(frame)), way(uint8_t(contest == COLUMNS ? 2 : contest == CHAIN ? 3 : 1)), output(frame.pixels()) {
-#ifdef WITH_LIBRARY
-        if (way == ICEMEDIAN_JOINT) counts.resize(ICEMEDIAN_COUNTS_LENGTH(frame.levels, frame.guides));
-        if (way == ICEMEDIAN_JOINT) words.resize(ICEMEDIAN_WORDS_LENGTH(frame.levels, frame.guides));
-        if (way == ICEMEDIAN_COLUMNS) numbers.resize(ICEMEDIAN_COLUMNS_LENGTH(frame.width, frame.levels));
-        if (way == ICEMEDIAN_CHAIN) numbers.resize(ICEMEDIAN_CHAIN_LENGTH(frame.radius));
-        counts.reserve(1), words.reserve(1), numbers.reserve(1);  // no pointer may be null
-#endif
-    }
-    void filter() {
-#ifdef WITH_LIBRARY
-        uint64_t offset;
-        uint32_t status = icemedian_filter(file.data(), file.size(), way, counts.data(), counts.size(), words.data(), words.size(),
-                                           numbers.data(), numbers.size(), output.data(), output.size(), &shifts, &offset);
-        if (status != 0) std::printf("the library refused a frame: %u\n", unsigned(status)), std::exit(1);
-#endif
-    }
-
-  private:
-    std::vector<uint8_t> file;
-    uint8_t way;
-    std::vector<uint16_t> counts, output;
-    std::vector<uint64_t> words;
-    std::vector<uint32_t> numbers;
-};
 
 static Frame frame_of(bool noisy, const Settings &k) { return noisy ? noise(k) : ice(k); }
 
 // Times every contestant on one frame, in turns.
-static Row measure(bool noisy, Settings k, int rounds) {
+static Row measure(bool noisy, Settings k) {
     k.kind = TABLE;
     Frame table = frame_of(noisy, k);
     k.kind = GUIDED;
@@ -98,170 +24,133 @@ static Row measure(bool noisy, Settings k, int rounds) {
     for (int c = 0; c < CONTESTS; c++) libraries.emplace_back(Contest(c), c == JOINT_TABLE ? table : guided);
 
     Row row{noisy, k, NOT_TIMED, {}, {}};
-    auto keep = [&](double &best, const std::function<void()> &run) {
-        double time = seconds_of(run) * 1e9 / double(table.pixels());
-        if (best == NOT_TIMED || time < best) best = time;
-    };
-    for (int round = 0; round < rounds; round++) {
-        if (k.levels == 256) keep(row.opencv, [&] { opencv.filter(); });
+    for (int round = 0; round < ROUNDS; round++) {
+        if (k.levels == 256) keep_best(row.opencv, table.pixels(), [&] { opencv.filter(); });
         for (int c = 0; c < CONTESTS; c++) {
             Walk walk;
             const Frame &frame = c == JOINT_TABLE ? table : guided;
-            keep(row.yardstick[c], [&] { walk = by_yardstick(Contest(c), frame, moves); });
+            keep_best(row.yardstick[c], table.pixels(), [&] { walk = by_yardstick(Contest(c), frame, moves); });
             if (!Library::LINKED) continue;
-            keep(row.library[c], [&] { libraries[size_t(c)].filter(); });
-            if (libraries[size_t(c)].shifts != walk.shifts) std::printf("shift counts differ: %s\n", NAMES[c]), std::exit(1);
+            Library &library = libraries[size_t(c)];
+            keep_best(row.library[c], table.pixels(), [&] { library.filter(); });
+            library.compare(walk, NAMES[c]);
         }
     }
     return row;
 }
 
-static std::string number(const char *format, double value) {
-    char text[32];
-    std::snprintf(text, sizeof text, format, value);
-    return value == NOT_TIMED || !std::isfinite(value) ? "-" : text;
-}
-static std::string ratio(double a, double b) { return a == NOT_TIMED || b == NOT_TIMED ? "-" : number("%.2f", a / b); }
-
 static void print_row(const Row &row) {
-    std::printf("| %s | %dx%d | %d | %d | %s |", row.noisy ? "noise" : "ice", row.k.width, row.k.height, row.k.radius, row.k.levels,
+    std::printf("| %s | %dx%d | %d | %d | %s |", row.picture(), row.k.width, row.k.height, row.k.radius, row.k.levels,
                 number("%.0f", row.opencv).c_str());
     for (int c = 0; c < CONTESTS; c++)
         std::printf(" %s | %s |", number("%.0f", row.library[c]).c_str(), number("%.0f", row.yardstick[c]).c_str());
-    std::printf(" %s |\n", ratio(row.opencv, row.library[JOINT_TABLE]).c_str());
+    std::printf(" %s |\n", number("%.2f", row.over_opencv()).c_str());
     std::fflush(stdout);
 }
 
 static void print_head() {
-    std::printf("\n## Nanoseconds a pixel (library, then yardstick)\n\n| frame | size | r | L | OpenCV |");
+    std::printf("\n## Nanoseconds a pixel (library, then C++)\n\n"
+                "OpenCV %s; best of %d turns, 256 guides, smoothing 64 in kind 2.\n\n| frame | size | r | L | OpenCV |",
+                CV_VERSION, ROUNDS);
     for (const char *name : NAMES) std::printf(" %s | C++ |", name);
     std::printf(" OpenCV / library |\n|---|---|---|---|---|");
     for (int c = 0; c < CONTESTS; c++) std::printf("---|---|");
     std::printf("---|\n");
 }
 
-// Geometric mean of a ratio over the rows that have both sides.
-using Pick = std::function<double(const Row &)>;
-static double mean(const std::vector<Row> &rows, const Pick &above, const Pick &below) {
-    double sum = 0;
-    int count = 0;
-    for (const Row &row : rows) {
-        double a = above(row), b = below(row);
-        if (a != NOT_TIMED && b != NOT_TIMED) sum += std::log(a / b), count++;
-    }
-    return count ? std::exp(sum / count) : NOT_TIMED;
-}
-
-static std::vector<Row> where(const std::vector<Row> &rows, const std::function<bool(const Row &)> &wanted) {
-    std::vector<Row> found;
-    std::copy_if(rows.begin(), rows.end(), std::back_inserter(found), wanted);
-    return found;
-}
-
-// The row of the same frame with another radius or level count.
-static const Row *sibling(const std::vector<Row> &rows, const Row &row, int radius, int levels) {
-    for (const Row &other : rows)
-        if (other.noisy == row.noisy && other.k.width == row.k.width && other.k.radius == radius && other.k.levels == levels)
-            return &other;
-    return nullptr;
-}
-
-static void print_ratios(const std::vector<Row> &rows) {
-    std::printf("\n## Geometric means\n\n| | ice | noise | goal |\n|---|---|---|---|\n");
-    auto line = [&](const std::string &what, const Pick &above, const Pick &below, const char *goal) {
-        std::printf("| %s |", what.c_str());
-        for (bool noisy : {false, true})
-            std::printf(" %s |", number("%.2f", mean(where(rows, [&](const Row &r) { return r.noisy == noisy; }), above, below)).c_str());
-        std::printf(" %s |\n", goal);
+static void print_ratios(const Rows &rows) {
+    std::printf("\n## Geometric means\n\n| | ice | noise |\n|---|---|---|\n");
+    auto line = [&](const char *what, int contest, const Pick &above, const Pick &below) {
+        std::printf("| %s, %s |", what, NAMES[contest]);
+        for (bool noisy : {false, true}) std::printf(" %s |", number("%.2f", mean(on(noisy, rows), above, below)).c_str());
+        std::printf("\n");
     };
-    auto opencv = [](const Row &r) { return r.opencv; };
     for (int c = 0; c < CONTESTS; c++) {
-        std::string name = NAMES[c];
-        auto library = [c](const Row &r) { return r.library[c]; };
-        auto yardstick = [c](const Row &r) { return r.yardstick[c]; };
-        line("OpenCV's time / library's, " + name, opencv, library, c == JOINT_TABLE ? "2.0 and 1.6 at least" : "");
-        line("OpenCV's time / yardstick's, " + name, opencv, yardstick, "");
-        line("library's time / yardstick's, " + name, library, yardstick, "1.15 at most");
+        line("OpenCV's time / library's", c, opencv(), library(c));
+        line("OpenCV's time / C++'s", c, opencv(), yardstick(c));
+        line("library's time / C++'s", c, library(c), yardstick(c));
     }
-    double least = 0;
-    for (const Row &row : rows)
-        if (row.opencv != NOT_TIMED && row.library[JOINT_TABLE] != NOT_TIMED)
-            least = least == 0 ? row.opencv / row.library[JOINT_TABLE] : std::min(least, row.opencv / row.library[JOINT_TABLE]);
-    std::printf("\nLeast of OpenCV's time / library's, joint, kind 1: %s (goal: 1.0 at least)\n", number("%.2f", least).c_str());
 }
 
-static void print_growth(const std::vector<Row> &rows) {
+static void print_growth(const Rows &rows) {
     std::printf("\n## Growth: geometric means of time ratios, ice / noise\n\n"
-                "| | library r 15 / r 3 | C++ | goal on ice | library L 1024 / L 256 | C++ |\n|---|---|---|---|---|---|\n");
-    const char *const goals[CONTESTS] = {"3", "3", "1.4", "5"};
-    auto growth = [&](const std::vector<Row> &from, int radius, int levels, const Pick &time) {
-        auto later = [&](const Row &row) {
-            const Row *other = sibling(rows, row, radius ? radius : row.k.radius, levels ? levels : row.k.levels);
-            return other ? time(*other) : NOT_TIMED;
-        };
-        std::string text;
-        for (bool noisy : {false, true})
-            text += (noisy ? " / " : "") + number("%.2f", mean(where(from, [&](const Row &r) { return r.noisy == noisy; }), later, time));
-        return text;
+                "| | library, r 15 / r 3 | C++ | library, L 1024 / L 256 | C++ |\n|---|---|---|---|---|\n");
+    auto both = [&](double (*growth)(const Rows &, const Pick &), const Pick &time) {
+        return number("%.2f", growth(on(false, rows), time)) + " / " + number("%.2f", growth(on(true, rows), time));
     };
-    auto narrow = where(rows, [](const Row &r) { return r.k.radius == 3; });
-    auto few = where(rows, [](const Row &r) { return r.k.levels == 256; });
-    for (int c = 0; c < CONTESTS; c++) {
-        auto library = [c](const Row &r) { return r.library[c]; };
-        auto yardstick = [c](const Row &r) { return r.yardstick[c]; };
-        std::printf("| %s | %s | %s | %s | %s | %s |\n", NAMES[c], growth(narrow, 15, 0, library).c_str(),
-                    growth(narrow, 15, 0, yardstick).c_str(), goals[c], growth(few, 0, 1024, library).c_str(),
-                    growth(few, 0, 1024, yardstick).c_str());
-    }
-    auto opencv = [](const Row &r) { return r.opencv; };
-    std::printf("| OpenCV | | %s | | | |\n", growth(narrow, 15, 0, opencv).c_str());
+    for (int c = 0; c < CONTESTS; c++)
+        std::printf("| %s | %s | %s | %s | %s |\n", NAMES[c], both(growth_in_radius, library(c)).c_str(),
+                    both(growth_in_radius, yardstick(c)).c_str(), both(growth_in_levels, library(c)).c_str(),
+                    both(growth_in_levels, yardstick(c)).c_str());
+    std::printf("| OpenCV | | %s | | |\n", both(growth_in_radius, opencv()).c_str());
 }
 
-static void print_full_frames(const std::vector<Row> &rows) {
+static double frames_a_second(double nanoseconds) {
+    return nanoseconds == NOT_TIMED ? NOT_TIMED : 1e9 / nanoseconds / (1024 * 256);
+}
+
+static void print_full_frames(const Rows &rows) {
     std::printf("\n## Frames a second, 1024x256\n\n| frame | r | L | OpenCV |");
     for (const char *name : NAMES) std::printf(" %s | C++ |", name);
     std::printf("\n|---|---|---|---|");
     for (int c = 0; c < CONTESTS; c++) std::printf("---|---|");
     std::printf("\n");
+    auto rate = [](double time) { return number("%.1f", frames_a_second(time)); };
     for (const Row &row : rows) {
         if (row.k.width != 1024) continue;
-        auto rate = [](double ns) { return ns == NOT_TIMED ? std::string("-") : number("%.1f", 1e9 / ns / (1024 * 256)); };
-        std::printf("| %s | %d | %d | %s |", row.noisy ? "noise" : "ice", row.k.radius, row.k.levels, rate(row.opencv).c_str());
-        for (int c = 0; c < CONTESTS; c++) std::printf(" %s | %s |", rate(row.library[c]).c_str(), rate(row.yardstick[c]).c_str());
+        std::printf("| %s | %d | %d | %s |", row.picture(), row.k.radius, row.k.levels, rate(row.opencv).c_str());
+        for (int c = 0; c < CONTESTS; c++)
+            std::printf(" %s | %s |", rate(row.library[c]).c_str(), rate(row.yardstick[c]).c_str());
         std::printf("\n");
     }
 }
 
-// Stores as document 01 sizes them; they are all the memory that a way needs beside frame and output.
-static void print_memory() {
-    std::printf("\n## Memory of a way's stores, kilobytes, 1024 columns and 256 guides\n\n"
-                "| L | r | joint | columns | chain |\n|---|---|---|---|---|\n");
-    for (int levels : {256, 1024})
-        for (int radius : {3, 7, 15}) {
-            double joint = levels * 256 * 2.0 + levels * 4 * 8.0, columns = 2 * 1025.0 * levels * 4;
-            double side = 2 * radius + 1, chain = 4 * (1 + 4 * side * side);
-            std::printf("| %d | %d | %.0f | %.0f | %.1f |\n", levels, radius, joint / 1024, columns / 1024, chain / 1024);
-        }
+// The sentence to quote, with all that it does not say.
+static void print_headline(const Rows &rows) {
+    double rate = NOT_TIMED;
+    for (const Row &row : rows)
+        if (!row.noisy && row.k.width == 1024 && row.k.radius == 7 && row.k.levels == 256)
+            rate = frames_a_second(row.library[JOINT_TABLE]);
+    auto times = [&](bool noisy, const Pick &above, const Pick &below) {
+        return number("%.2f", mean(on(noisy, rows), above, below)) + " times";
+    };
+    auto way = library(JOINT_TABLE), same_way = yardstick(JOINT_TABLE);
+    std::printf("\n## Headline\n\nOn 1024x256 ice at r 7 with 256 levels, joint in kind 1 filters %s frames a second. "
+                "Over this run it is %s as fast as OpenCV on ice and %s on noise, and takes %s as long as C++ of the same way "
+                "on ice and %s on noise.\n\n",
+                number("%.1f", rate).c_str(), times(false, opencv(), way).c_str(), times(true, opencv(), way).c_str(),
+                times(false, way, same_way).c_str(), times(true, way, same_way).c_str());
+    std::printf("Its limits: drawn frames of the sizes and radii above; kind 1 with the built-in weights; beside OpenCV "
+                "256 levels only, since OpenCV's filter takes planes of 8 bits; one thread of this one processor.\n");
 }
 
-int main(int count, char **words) {
-    bool quick = count > 1 && std::string(words[1]) == "--quick";
-    int rounds = 4;
-    std::vector<Row> rows;
-    std::printf("OpenCV %s; best of %d rounds in turns, one thread, 256 guides, smoothing 64 in kind 2.\n", CV_VERSION, rounds);
-    if (!Library::LINKED) std::printf("The proved library is not linked: its columns stay empty.\n");
-    print_head();
+static Rows measure_all(bool quick) {
+    Rows rows;
     for (bool noisy : {false, true})
         for (auto [width, height] : {std::pair{512, 512}, {1024, 256}, {640, 400}})
             for (int levels : {256, 1024})
                 for (int radius : {3, 7, 15}) {
                     if (quick && (width == 640 || levels == 1024)) continue;
-                    rows.push_back(measure(noisy, {width, height, levels, 256, GUIDED, radius, 64}, rounds));
+                    rows.push_back(measure(noisy, {width, height, levels, 256, GUIDED, radius, 64}));
                     print_row(rows.back());
                 }
+    return rows;
+}
+
+int main(int count, char **words) {
+    bool quick = count > 1 && std::string(words[1]) == "--quick";
+    auto start = std::chrono::steady_clock::now();
+    if (!Library::LINKED) std::printf("\nThe proved library is not linked: its columns stay empty.\n");
+    print_head();
+    Rows rows = measure_all(quick);
     print_ratios(rows);
     print_growth(rows);
+    print_all_sideways();
     print_full_frames(rows);
     print_memory();
+    print_goals(rows);
+    print_headline(rows);
+    std::chrono::duration<double> passed = std::chrono::steady_clock::now() - start;
+    std::printf("\nThe measurements took %.0f seconds.\n", passed.count());
     return 0;
 }

@@ -32,7 +32,10 @@ static std::pair<int, int> differences(const Frame &frame, int weights) {
 
 int main() {
     bool same = true;
-    std::printf("OpenCV %s, frames of 160 x 120, 256 levels and guides: pixels that differ from document 01\n", CV_VERSION);
+    std::printf("\n## Pixels in which OpenCV %s departs from document 01\n\n"
+                "OpenCV weighs with floating point numbers. Frames of 160x120, 256 levels and guides.\n\n"
+                "| frame | r | weights 1 / (16 + d) | at most so many levels | all weights 1 |\n|---|---|---|---|---|\n",
+                CV_VERSION);
     for (bool noisy : {false, true})
         for (int radius : {3, 7, 15}) {
             Settings settings{160, 120, 256, 256, TABLE, radius, 0};
@@ -41,8 +44,8 @@ int main() {
             std::fill(frame.table.begin(), frame.table.end(), uint16_t(1));
             int ones = differences(frame, cv::ximgproc::WMF_OFF).first;
             same = same && ones == 0;
-            std::printf("%-5s r %2d: %5d of %zu with 1 / (16 + d), at most %d levels apart; %d with a table of ones\n",
-                        noisy ? "noise" : "ice", radius, rounded, frame.pixels(), most, ones);
+            std::printf("| %s | %d | %d of %zu | %d | %d |\n", noisy ? "noise" : "ice", radius, rounded, frame.pixels(), most,
+                        ones);
         }
     return same ? 0 : 1;
 }

@@ -125,7 +125,8 @@ int main(int count, char **words) {
         validate<Columns>("columns", number, frame, column, row, moves);
         validate<Chain>("chain", number, frame, column, row, moves);
     }
-    std::printf("%d frames, %ld windows: %ld hollow, %ld with a negative weight, %ld not steady; %ld differences\n", frames,
-                met.windows, met.hollow, met.negative, met.unsteady, differences);
+    std::printf("The C++ against a filter that sorts: %d frames, %ld windows (%ld hollow, %ld with a negative weight, "
+                "%ld not steady), %ld differences.\n",
+                frames, met.windows, met.hollow, met.negative, met.unsteady, differences);
     return differences != 0;
 }

@@ -50,7 +50,7 @@ def row(values, guide, levels, guides, kind, radius, smoothing, table=()):
 
 
 def bench_cases():
-    """Document 01's bench windows A to H, and walks over them from the other end."""
+    """Document 01's bench windows A to H, walks over them from the other end, and two windows more."""
     a = row([5, 1, 3], [0, 0, 2], 8, 4, GUIDED, 1, 1)
     b = row([1, 2, 5, 3, 4], [7, 7, 15, 7, 0], 8, 16, GUIDED, 2, 1)
     c = row([2, 6], [0, 0], 8, 2, TABLE, 1, 0, [1] * 4)
@@ -59,6 +59,8 @@ def bench_cases():
     f = row([7, 4, 2, 0], [0, 1, 16, 255], 8, 256, TABLE, 3, 0)
     g = row([2], [0], 8, 2, TABLE, 1, 0, [1] * 4)
     rows = row([2, 6], [0, 1], 8, 2, TABLE, 1, 0, [1, 2, 0, 1])
+    # One window's formula is negative at guide 0, another's at the last guide.
+    both_ends = frame(3, 2, 8, 16, GUIDED, 1, 1, [6, 1, 3, 7, 1, 4], [7, 15, 3, 7, 0, 3])
     return [
         ("bench_a", a, 0, 0, "00"),
         ("bench_a_back", a, 2, 0, "11"),
@@ -72,6 +74,7 @@ def bench_cases():
         ("bench_g", g, 0, 0, "0123"),
         ("bench_h", a, 0, 0, "0201"),
         ("table_rows", rows, 0, 0, "01"),
+        ("both_ends", both_ends, 0, 0, "00211"),
     ]
 
 

@@ -21,7 +21,7 @@ pub struct Case {
 
 /// The bytes that a string of hexadecimal digits stands for.
 pub fn bytes_of_hex(hex: &str) -> Option<Vec<u8>> {
-    if !hex.len().is_multiple_of(2) || !hex.is_ascii() {
+    if hex.len() % 2 != 0 || !hex.is_ascii() {
         return None;
     }
     let byte = |index| u8::from_str_radix(&hex[index..index + 2], 16).ok();

@@ -76,6 +76,14 @@ pub struct Places {
     pub table: Option<usize>,
 }
 
+impl Places {
+    /// How many bytes apart the planes begin, if they overlap.
+    pub fn overlap(&self, settings: &Settings) -> Option<usize> {
+        let apart = self.values.abs_diff(self.guides);
+        (apart < 2 * settings.pixels()).then_some(apart)
+    }
+}
+
 /// The 16-bit number at `offset`, high byte first.
 pub fn number16(bytes: &[u8], offset: usize) -> u16 {
     u16::from_be_bytes([bytes[offset], bytes[offset + 1]])

@@ -2,6 +2,7 @@
 
 use crate::Lent;
 use sorting_filter::calls::Walked;
+use sorting_filter::frame::locate;
 use sorting_filter::store::{Stores, BOX_CELLS};
 use std::sync::LazyLock;
 
@@ -64,6 +65,11 @@ pub fn in_results(status: u32, cut: &mut u16, balance_box: &mut [i16; BOX_CELLS]
         "refusal_result" if status != 0 => *cut = 1,
         _ => {}
     }
+}
+
+/// A file refused only because its planes overlap.
+pub fn refuses(file: &[u8]) -> bool {
+    makes("overlap_refused") && locate(file).is_ok_and(|(settings, places)| places.overlap(&settings).is_some())
 }
 
 /// A buffer touched although the call refuses.

@@ -87,7 +87,9 @@ unsafe fn lend<'a, T>(pointer: *mut T, length: usize) -> &'a mut [T] {
 /// As the header says.
 #[no_mangle]
 pub unsafe extern "C" fn icemedian_check(file: *const u8, file_length: usize, offset: &mut u64) -> u32 {
-    report(open(read(file, file_length)), offset).0
+    let file = read(file, file_length);
+    let result = if fault::refuses(file) { Err(Refusal::of(6)) } else { open(file).map(drop) };
+    report(result, offset).0
 }
 
 /// # Safety

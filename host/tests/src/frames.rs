@@ -2,11 +2,12 @@
 
 use crate::buffers::{compare, Buffers};
 use crate::library::{self, Status, WalkResult};
+use crate::overlap;
 use crate::tally::Tally;
 use crate::{same, Check};
 use sorting_filter::calls;
 use sorting_filter::cases;
-use sorting_filter::frame::{open, Frame, Settings, KIND_GUIDED, KIND_TABLE};
+use sorting_filter::frame::{locate, open, Frame, Settings, KIND_GUIDED, KIND_TABLE};
 use sorting_filter::random::{accepted_file, accepted_file_of, moves, start, Random};
 use sorting_filter::store::{Lengths, Way};
 use sorting_filter::walk::UNKNOWN_MOVE;
@@ -23,6 +24,11 @@ pub fn test_random(random: &mut Random, tally: &mut Tally) -> Result<Vec<u8>, St
     let file = accepted_file(random, side);
     test_accepted(random, &file, tally)?;
     Ok(file)
+}
+
+/// Frames whose planes overlap, up to the largest that the program takes.
+pub fn test_overlapping(random: &mut Random, tally: &mut Tally) -> Check {
+    overlap::accepted(random).iter().try_for_each(|file| test_accepted(random, file, tally))
 }
 
 /// The limits of document 01 that random frames do not reach: the largest frames of both kinds, and the
@@ -42,6 +48,7 @@ pub fn test_largest(random: &mut Random, tally: &mut Tally) -> Check {
 fn test_accepted(random: &mut Random, file: &[u8], tally: &mut Tally) -> Check {
     let frame = open(file).map_err(|refusal| format!("the generator made a bad file: {refusal}"))?;
     tally.frames[usize::from(frame.settings.kind == KIND_GUIDED)] += 1;
+    count_overlap(file, tally);
     let untouched = file.to_vec();
     same("check", &library::check(file), &Status { status: 0, offset: 0 })?;
     for way in Way::ALL.into_iter().filter(|way| way.serves(frame.settings.kind)) {
@@ -51,6 +58,16 @@ fn test_accepted(random: &mut Random, file: &[u8], tally: &mut Tally) -> Check {
     }
     test_balance(random, file, &frame, tally)?;
     same("the file after the calls", &file, &untouched.as_slice())
+}
+
+fn count_overlap(file: &[u8], tally: &mut Tally) {
+    let Ok((settings, places)) = locate(file) else { return };
+    match places.overlap(&settings) {
+        None => {}
+        Some(0) => tally.overlapping.same_start += 1,
+        Some(apart) if apart % 2 == 0 => tally.overlapping.even_apart += 1,
+        Some(_) => tally.overlapping.odd_apart += 1,
+    }
 }
 
 /// The list of small walks, each in every serving way: the bench windows A to H, chosen shapes, and every

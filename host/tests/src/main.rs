@@ -7,6 +7,7 @@
 mod buffers;
 mod frames;
 mod library;
+mod overlap;
 mod program;
 mod refusals;
 mod tally;
@@ -55,6 +56,7 @@ pub fn same<T: PartialEq + std::fmt::Debug>(what: &str, library: &T, expected: &
 /// All tests on one random frame.
 fn test_frame(random: &mut Random, tally: &mut Tally) -> Check {
     let file = frames::test_random(random, tally)?;
+    tally.random_frames += 1;
     refusals::test_calls(random, &file, tally)?;
     refusals::test_damaged(random, &file, tally)?;
     writing::test_writer(random, &file, tally)
@@ -74,6 +76,8 @@ fn run(options: &Options) -> Result<Tally, String> {
     }
     let listed = frames::test_listed(&mut Random::new(options.seed), &mut tally);
     failures.extend(listed.err().map(|message| format!("listed: {message}")));
+    let overlapping = frames::test_overlapping(&mut Random::new(options.seed), &mut tally);
+    failures.extend(overlapping.err().map(|message| format!("overlapping: {message}")));
     let largest = frames::test_largest(&mut Random::new(options.seed), &mut tally);
     failures.extend(largest.err().map(|message| format!("largest: {message}")));
     if let Some(path) = &options.program {

@@ -1,5 +1,6 @@
-//! The program: what it prints for frames, damaged frames and endless input.
+//! The program: what it prints for frames, damaged frames, planes that overlap and endless input.
 
+use crate::overlap;
 use crate::tally::Tally;
 use crate::{same, Check};
 use sorting_filter::program::{printed, INPUT_MOST};
@@ -69,7 +70,7 @@ fn random_input(random: &mut Random) -> Vec<u8> {
     input
 }
 
-/// Runs the program on random inputs, on none, and on one that has no end.
+/// Runs the program on random inputs, on planes that overlap, on no input, and on one that has no end.
 pub fn test(path: &str, runs: u64, seed: u64, tally: &mut Tally) -> Check {
     let mut random = Random::new(seed ^ 0x5EED);
     same("the program on no input", &output_of(path, once(&[]))?, &printed(&[]))?;
@@ -78,6 +79,14 @@ pub fn test(path: &str, runs: u64, seed: u64, tally: &mut Tally) -> Check {
         let what = format!("the program, seed {seed} run {run}");
         same(&what, &output_of(path, once(&input))?, &printed(&input))?;
         tally.programs += 1;
+    }
+    for (number, input) in overlap::inputs(&mut random).iter().enumerate() {
+        let what = format!("the program, planes that overlap, input {number}");
+        let expected = printed(input);
+        same(&what, &output_of(path, once(input))?, &expected)?;
+        tally.programs += 1;
+        tally.overlapping_inputs += 1;
+        tally.longest_text = tally.longest_text.max(expected.len());
     }
     same("the program on endless input", &output_of(path, without_end)?, &printed(&[0; INPUT_MOST + 1]))
 }

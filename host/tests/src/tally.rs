@@ -2,9 +2,20 @@
 
 use std::fmt;
 
+/// Accepted frames whose planes overlap, by how many bytes apart they begin.
+#[derive(Default)]
+pub struct Overlapping {
+    pub same_start: u64,
+    pub even_apart: u64,
+    pub odd_apart: u64,
+}
+
 #[derive(Default)]
 pub struct Tally {
+    /// Accepted frames of each kind; those made at random are among them.
     pub frames: [u64; 2],
+    pub random_frames: u64,
+    pub overlapping: Overlapping,
     pub walks: u64,
     /// Walks of the list of small ones, among the walks.
     pub listed: u64,
@@ -19,6 +30,10 @@ pub struct Tally {
     /// Calls refused by each number from 1 to 11; place 0 is not used.
     pub refusals: [u64; 12],
     pub programs: u64,
+    /// Inputs with planes that overlap on purpose, among the program's.
+    pub overlapping_inputs: u64,
+    /// Bytes of the longest text that the program printed for them.
+    pub longest_text: usize,
 }
 
 impl Tally {
@@ -27,8 +42,10 @@ impl Tally {
         if self.frames.iter().sum::<u64>() < 1_000 {
             return None;
         }
-        let met = [self.listed, self.marks, self.hollow, self.negative, self.unsteady, self.frames[0], self.frames[1]];
-        if self.refusals[1..].contains(&0) || met.contains(&0) {
+        let Overlapping { same_start, even_apart, odd_apart } = self.overlapping;
+        let windows = [self.listed, self.marks, self.hollow, self.negative, self.unsteady];
+        let frames = [self.frames[0], self.frames[1], same_start, even_apart, odd_apart];
+        if self.refusals[1..].contains(&0) || windows.contains(&0) || frames.contains(&0) {
             return Some(format!("the run left something untried:\n{self}"));
         }
         None
@@ -37,7 +54,20 @@ impl Tally {
 
 impl fmt::Display for Tally {
     fn fmt(&self, f: &mut fmt::Formatter<'_>) -> fmt::Result {
-        writeln!(f, "frames: {} of kind 1, {} of kind 2", self.frames[0], self.frames[1])?;
+        let Overlapping { same_start, even_apart, odd_apart } = self.overlapping;
+        writeln!(
+            f,
+            "frames: {} at random, {} chosen; {} of kind 1, {} of kind 2",
+            self.random_frames,
+            self.frames.iter().sum::<u64>() - self.random_frames,
+            self.frames[0],
+            self.frames[1]
+        )?;
+        writeln!(
+            f,
+            "frames with planes that overlap: {} from the same byte, {} an even number of bytes apart, {} an odd number",
+            same_start, even_apart, odd_apart
+        )?;
         writeln!(
             f,
             "start windows: {} hollow, {} with a negative weight, {} not steady",
@@ -53,6 +83,10 @@ impl fmt::Display for Tally {
         for (number, count) in self.refusals.iter().enumerate().skip(1) {
             write!(f, " {number}: {count}")?;
         }
-        write!(f, "\nprogram runs: {}\nno difference", self.programs)
+        write!(
+            f,
+            "\nprogram runs: {} ({} chosen with planes that overlap, the longest text {} bytes)\nno difference",
+            self.programs, self.overlapping_inputs, self.longest_text
+        )
     }
 }

@@ -1,7 +1,7 @@
 //! Files of accepted frames, their parts laid out in every way that document 01 allows.
 
 use super::{random_guides, random_table, random_values, Random};
-use crate::frame::{bytes_of, trailer_bytes, Settings, KIND_GUIDED, KIND_TABLE};
+use crate::frame::{bytes_of, number16, trailer_bytes, Settings, KIND_GUIDED, KIND_TABLE};
 
 /// Width and height: a rectangle, a single row or column, or smaller than the window.
 fn size(random: &mut Random, side: u16, radius: u8) -> (u16, u16) {
@@ -49,7 +49,13 @@ pub fn accepted_file_of(random: &mut Random, settings: &Settings) -> Vec<u8> {
     };
     match random.below(5) {
         0 => shared(random, settings, table.len()),
-        1 if settings.levels > 256 => interleaved(random, settings, table),
+        1 if settings.levels > 256 || random.once_in(8) => {
+            let plane = 2 * settings.pixels();
+            let odd = 2 * random.below(plane) as isize + 1 - plane as isize;
+            let mut file = overlapping_file(random, settings, odd, &table);
+            file.splice(0..0, junk(random));
+            file
+        }
         _ => {
             let values = bytes_of(&random_values(random, settings));
             let guides = bytes_of(&random_guides(random, settings));
@@ -102,17 +108,31 @@ fn shared(random: &mut Random, settings: &Settings, table: usize) -> Vec<u8> {
     closed(body, settings, starts)
 }
 
-/// The guide plane one byte after the value plane: each byte serves both, here as a value's high byte
-/// and then as a guide's low byte.
-fn interleaved(random: &mut Random, settings: &Settings, table: Vec<u8>) -> Vec<u8> {
-    let most = ((settings.levels - 1) / 256).min(settings.guides - 1);
-    let mut body = junk(random);
-    let first = body.len();
-    for _ in 0..settings.pixels() {
-        body.extend([random.within(0, most) as u8, 0]);
-    }
-    body.push(random.within(0, most) as u8);
+/// The file of a random frame whose guide plane begins `shift` bytes after its value plane, or before it.
+///
+/// Where they overlap a byte serves both planes, and an odd shift makes one's high byte the other's low
+/// byte: numbers that are then too large for their plane are lowered, often to 0.
+pub fn overlapping_file(random: &mut Random, settings: &Settings, shift: isize, table: &[u8]) -> Vec<u8> {
+    let (values, guides) = (bytes_of(&random_values(random, settings)), bytes_of(&random_guides(random, settings)));
+    let (plane, apart) = (values.len(), shift.unsigned_abs());
+    let (first, second) = if shift < 0 { (guides, values) } else { (values, guides) };
+    let mut body = [&first, &second[plane - apart..]].concat();
+    let (value_start, guide_start) = if shift < 0 { (apart, 0) } else { (0, apart) };
+    lower(&mut body[value_start..value_start + plane], settings.levels - 1);
+    lower(&mut body[guide_start..guide_start + plane], settings.guides - 1);
     let table_start = (!table.is_empty()).then_some(body.len());
     body.extend(table);
-    closed(body, settings, [Some(first), Some(first + 1), table_start])
+    closed(body, settings, [Some(value_start), Some(guide_start), table_start])
+}
+
+/// Makes bytes 0 until no number is above `most`. No number grows by that, so that planes which overlap
+/// may be lowered one after the other.
+fn lower(plane: &mut [u8], most: u16) {
+    for number in plane.chunks_exact_mut(2) {
+        for place in 0..2 {
+            if number16(number, 0) > most {
+                number[place] = 0;
+            }
+        }
+    }
 }

@@ -5,7 +5,7 @@ mod files;
 mod planes;
 
 pub use damage::damage;
-pub use files::{accepted_file, accepted_file_of, settings};
+pub use files::{accepted_file, accepted_file_of, overlapping_file, settings};
 pub use planes::{random_guides, random_table, random_values};
 
 use crate::frame::Settings;

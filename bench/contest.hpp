@@ -1,0 +1,98 @@
+// The contestants, the proved library and the yardstick in the same four contests, and the clock.
+#pragma once
+#include "../include/icemedian.h"
+#include "yardstick.hpp"
+#include <cstdio>
+#include <ctime>
+#include <functional>
+
+namespace bench {
+
+// What is timed: a way and a kind. The library and the yardstick both have all four.
+enum Contest { JOINT_TABLE, JOINT_GUIDED, COLUMNS, CHAIN, CONTESTS };
+inline constexpr const char *NAMES[CONTESTS] = {"joint, kind 1", "joint, kind 2", "columns", "chain"};
+inline constexpr double NOT_TIMED = 0;
+// Every contestant has so many turns, and its best counts.
+inline constexpr int ROUNDS = 4;
+
+// Processor time of this thread: all contestants run on it alone, and what the machine does for others
+// between is not theirs.
+inline double now() {
+    timespec time;
+    clock_gettime(CLOCK_THREAD_CPUTIME_ID, &time);
+    return double(time.tv_sec) + 1e-9 * double(time.tv_nsec);
+}
+
+// Keeps the best time of a run of `parts` pixels or moves, in nanoseconds for each.
+inline void keep_best(double &best, size_t parts, const std::function<void()> &run) {
+    double start = now();
+    run();
+    double time = (now() - start) * 1e9 / double(parts);
+    if (best == NOT_TIMED || time < best) best = time;
+}
+
+// The yardstick's walk from the first pixel.
+inline Walk by_yardstick(Contest contest, const Frame &frame, const std::vector<uint8_t> &moves) {
+    auto with = [&](auto way) { return walk(way, frame, 0, 0, moves); };
+    if (contest == COLUMNS) return with(Columns(frame));
+    if (contest == CHAIN) return with(Chain(frame));
+    return with(Joint(frame));
+}
+
+// The library's calls with their buffers, which a caller makes once and uses for many frames.
+class Library {
+  public:
+#ifdef WITH_LIBRARY
+    static constexpr bool LINKED = true;
+#else
+    static constexpr bool LINKED = false;
+#endif
+    uint64_t shifts = 0;
+
+    Library(Contest contest, const Frame &frame, size_t longest_walk = 0)
+        : file(file_of(frame)), way(way_of(contest)), output(std::max(frame.pixels(), ICEMEDIAN_ANSWERS_LENGTH(longest_walk))) {
+        if (way == ICEMEDIAN_JOINT) counts.resize(ICEMEDIAN_COUNTS_LENGTH(frame.levels, frame.guides));
+        if (way == ICEMEDIAN_JOINT) words.resize(ICEMEDIAN_WORDS_LENGTH(frame.levels, frame.guides));
+        if (way == ICEMEDIAN_COLUMNS) numbers.resize(ICEMEDIAN_COLUMNS_LENGTH(frame.width, frame.levels));
+        if (way == ICEMEDIAN_CHAIN) numbers.resize(ICEMEDIAN_CHAIN_LENGTH(frame.radius));
+        counts.reserve(1), words.reserve(1), numbers.reserve(1);  // no pointer may be null
+    }
+    void filter() {
+#ifdef WITH_LIBRARY
+        uint64_t offset;
+        accept(icemedian_filter(file.data(), file.size(), way, counts.data(), counts.size(), words.data(), words.size(),
+                                numbers.data(), numbers.size(), output.data(), output.size(), &shifts, &offset));
+#endif
+    }
+    // From the first pixel.
+    void walk([[maybe_unused]] const std::vector<uint8_t> &moves) {
+#ifdef WITH_LIBRARY
+        uint64_t offset;
+        uint16_t cut;
+        int16_t box[ICEMEDIAN_BOX_LENGTH];
+        accept(icemedian_walk(file.data(), file.size(), way, 0, 0, moves.data(), moves.size(), counts.data(), counts.size(),
+                              words.data(), words.size(), numbers.data(), numbers.size(), output.data(), output.size(), &shifts,
+                              &cut, box, &offset));
+#endif
+    }
+    // The contestants must have done the same work.
+    void compare(const Walk &yardstick, const char *name) const {
+        if (shifts != yardstick.shifts) std::printf("shift counts differ: %s\n", name), std::exit(1);
+    }
+
+  private:
+    std::vector<uint8_t> file;
+    uint8_t way;
+    std::vector<uint16_t> counts, output;
+    std::vector<uint64_t> words;
+    std::vector<uint32_t> numbers;
+
+    static uint8_t way_of(Contest contest) {
+        return contest == COLUMNS ? ICEMEDIAN_COLUMNS : contest == CHAIN ? ICEMEDIAN_CHAIN : ICEMEDIAN_JOINT;
+    }
+    static void accept(uint32_t status) {
+        if (status != 0) std::printf("the library refused a frame: %u\n", unsigned(status)), std::exit(1);
+    }
+};
+
+}  // namespace bench

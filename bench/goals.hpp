@@ -1,0 +1,68 @@
+// The goals, each held against the times of the run.
+#pragma once
+#include "rows.hpp"
+#include "text.hpp"
+
+namespace bench {
+
+struct Goal {
+    std::string what;
+    enum { AT_LEAST, AT_MOST } side;
+    double bound, seen;
+
+    bool met() const { return side == AT_LEAST ? seen >= bound : seen <= bound; }
+    // The part by which what was seen falls short of the bound or goes beyond it.
+    double missed_by() const { return std::abs(seen / bound - 1); }
+
+    void print() const {
+        const char *than = side == AT_LEAST ? "at least" : "at most";
+        std::printf("| %s: %s %g | %s |", what.c_str(), than, bound, number("%.2f", seen).c_str());
+        if (seen == NOT_TIMED)
+            std::printf(" not measured |\n");
+        else if (met())
+            std::printf(" met |\n");
+        else
+            std::printf(" missed by %.1f %% |\n", 100 * missed_by());
+    }
+};
+
+inline std::string place(bool noisy) { return noisy ? " on noise" : " on ice"; }
+
+// The frame on which the joint way is slowest beside OpenCV.
+inline Goal slowest(const Rows &rows) {
+    const Row *least = nullptr;
+    for (const Row &row : rows) {
+        if (row.opencv == NOT_TIMED || row.over_opencv() == NOT_TIMED) continue;
+        if (!least || row.over_opencv() < least->over_opencv()) least = &row;
+    }
+    Goal goal{"OpenCV's time / library's, joint, kind 1, every frame", Goal::AT_LEAST, 1.0, NOT_TIMED};
+    if (!least) return goal;
+    goal.seen = least->over_opencv();
+    goal.what += " (least: " + std::string(least->picture()) + " " + std::to_string(least->k.width) + "x" +
+                 std::to_string(least->k.height) + ", r " + std::to_string(least->k.radius) + ")";
+    return goal;
+}
+
+inline std::vector<Goal> goals_of(const Rows &rows) {
+    std::vector<Goal> goals;
+    for (bool noisy : {false, true})
+        goals.push_back({"OpenCV's time / library's, joint, kind 1," + place(noisy), Goal::AT_LEAST, noisy ? 1.6 : 2.0,
+                         mean(on(noisy, rows), opencv(), library(JOINT_TABLE))});
+    goals.push_back(slowest(rows));
+    for (int c = 0; c < CONTESTS; c++)
+        for (bool noisy : {false, true})
+            goals.push_back({std::string("library's time / C++'s, ") + NAMES[c] + "," + place(noisy), Goal::AT_MOST, 1.15,
+                             mean(on(noisy, rows), library(c), yardstick(c))});
+    const double growth[CONTESTS] = {3, 3, 1.4, 5};
+    for (int c = 0; c < CONTESTS; c++)
+        goals.push_back({std::string("library's time at r 15 / at r 3, ") + NAMES[c] + "," + place(false), Goal::AT_MOST,
+                         growth[c], growth_in_radius(on(false, rows), library(c))});
+    return goals;
+}
+
+inline void print_goals(const Rows &rows) {
+    std::printf("\n## Goals\n\nGeometric means over the frames of this run.\n\n| goal | seen | |\n|---|---|---|\n");
+    for (const Goal &goal : goals_of(rows)) goal.print();
+}
+
+}  // namespace bench
