@@ -2,15 +2,14 @@
 -- Assumes nothing.
 use mathlib.Core.Path.{sym, _∙_}
 use Rattle.spec.specs.Checks.{verdict}
-use Rattle.spec.proofs.Checks.{Passed, passed}
 use Rattle.frame.proofs.Outcomes.{stopped, quiet, past, met, unmet}
 use Rattle.program.proofs.Admission.{of-picture, picture-test}
 use borrow.Author.Needs.{needs}
 use Rattle.program.proofs.judge.judge_frame.Statement.{statement}
 use Rattle.program.proofs.judge.judge_frame.Tie as tie
 
-check-requires : tie.Need-check-requires
-check-requires c κs = search needs
+open-plan-requires : tie.Need-open-plan-requires
+open-plan-requires c κs = search needs
 
 stops-requires : tie.Need-stops-requires
 stops-requires c κs = search needs
@@ -19,9 +18,6 @@ returns : tie.Need-returns
 returns c =
     let b = c .before .before .before .before .args .input .now in
     stopped (verdict b) (of-picture b) (c .before .before .check .ensures) (c .before .stops .ensures) (c .if1 .taken)
-
-plan-of-requires : tie.Need-plan-of-requires
-plan-of-requires c κs = passed (c .before .before .before .before .args .input .now) (quiet (c .before .before .check .ensures) (c .before .stops .ensures) (c .if1 .left)) .long
 
 too-large-requires : tie.Need-too-large-requires
 too-large-requires c κs = search needs
@@ -42,10 +38,9 @@ pub judge-frame-spec : {M : Type 1} → statement M
 judge-frame-spec =
     tie.close
     (tie.spec
-    check-requires
+    open-plan-requires
     stops-requires
     returns
-    plan-of-requires
     too-large-requires
     returns-2
     returns-3)
