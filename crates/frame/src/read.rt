@@ -9,9 +9,9 @@ ghost use lib.ListN.{length};
 ghost use Rattle.spec.specs.Frame.{settingsOf, trailerOf};
 
 // The bytes of a trailer.
-pub const TRAILER: usize = 28;
+pub(crate) const TRAILER: usize = 28;
 
-pub fn settings_of(b: &[u8]) -> Settings
+fn settings_of(b: &[u8]) -> Settings
     requires { ⌜ 28 ≤ length (now b) ⌝ }
     ensures { λ r. ⌜ r ≡ settingsOf (now (b .entry)) ⌝ }
 {
@@ -27,7 +27,7 @@ pub fn settings_of(b: &[u8]) -> Settings
     }
 }
 
-pub fn trailer_of(b: &[u8]) -> Trailer
+pub(crate) fn trailer_of(b: &[u8]) -> Trailer
     requires { ⌜ 28 ≤ length (now b) ⌝ }
     ensures { λ r. ⌜ r ≡ trailerOf (now (b .entry)) ⌝ }
 {

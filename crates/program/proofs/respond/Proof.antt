@@ -49,15 +49,15 @@ open-plan-requires c κs = search needs
 
 put-answer-requires : tie.Need-put-answer-requires
 put-answer-requires c κs =
-    let b = c .before .before .before .before .before .before .args .input .now in
-    let a = admits (c .before .before) in
-    (subst (Admitted b) (sym (c .before .open-plan .ensures .1 ∙ plan-opened b (a .planned .accepts))) a, search needs)
+    let o = c .before .before in
+    let b = o .before .before .before .before .before .args .input .now in
+    let a = admits (o .before) in
+    (subst (Admitted b) (sym (o .open-plan .ensures .1 ∙ plan-opened b (a .planned .accepts))) a, search needs)
 
 returns-2 : tie.Need-returns-2
 returns-2 c =
-    let s = c .before .before .before .before .before .before .before in
-    let b = s .args .input .now in
-    let d = c .before .before .before in
+    let d = c .before .before .before .before in
+    let b = d .before .before .before .before .args .input .now in
     let e = outcome d in
     let t = printed-as b (sym e) in
     let f : length (printed b) ≤ 24704 = rw t at (text-short (admits d)) in
