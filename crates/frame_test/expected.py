@@ -169,4 +169,4 @@ written('write kind 2 with a table', {**one, 'kind': 2, 'E': 64}, [2, 6], [0, 0]
 written('write kind 1, smoothing 64', {**one, 'E': 64}, [2, 6], [0, 0], [1, 1, 1, 1], 48)
 for name, value, guide, weight in [('kind 1', 6, 0, 1), ('weight 256', 6, 1, 256), ('weight 257', 6, 0, 257), ('value 8', 8, 0, 257), ('guide 2', 6, 2, 257)]:
     written('write ' + name, one, [2, value], [0, guide], [1, 1, 1, weight], 48)
-words('built-in', [4096 // (16 + d) for d in [0, 1, 16, 255]])
+words('built-in', [4096 // (16 + d) for d in [0, 1, 16, 255, 256, 4080, 65535]])

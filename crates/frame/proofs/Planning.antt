@@ -1,5 +1,5 @@
 -- A plan made field by field; checks 1 to 6 in their order, and what they promise of it: its parts lie within the file. Assumes nothing.
-use mathlib.Core.Path.{_≡_, sym, ap, _∙_}
+use mathlib.Core.Path.{_≡_, ap, _∙_}
 use mathlib.Core.Bool.{Bool, false}
 use mathlib.Core.List.{List}
 use Prim.Native.Nat.{ℕ, _-_, _≤_}
@@ -11,8 +11,8 @@ use Rattle.spec.specs.Refusal.{Outcome, accepted, _▷_, refuse, fires}
 use Rattle.spec.specs.Frame.{trailerAt, settingsOf, trailerOf, ownWeights, planOf}
 use Rattle.spec.specs.Checks.{badMark, settingsOutcome, badDistance, trailerOutcome, verdict, Planned}
 use Rattle.spec.proofs.Checks.{both-accepted, not-fired, Near, near, mark-long}
-use Rattle.frame.specs.Parts.{PartsInFile, blankPlan, openedPlan}
-use Rattle.frame.proofs.Outcomes.{quiet, past, if-silent}
+use Rattle.frame.specs.Parts.{PartsInFile, openedPlan}
+use Rattle.frame.proofs.Outcomes.{quiet, past}
 
 -- a trailer's settings, and the four numbers that its distances lead to
 abbrev planWith : Trailer → ℕ → ℕ → ℕ → ℕ → Plan
@@ -76,8 +76,11 @@ parts-in-file b e =
     }
 
 -- ---- what a call has that opened a file and went on
-pub planned : (b : List ℕ) {z : Plan} {u : Outcome} {f : Bool} → u ≡ verdict b → z ≡ openedPlan b → f ≡ fires u → f ≡ false → Planned b z
+pub plan-opened : (b : List ℕ) → verdict b ≡ accepted → openedPlan b ≡ planOf b
 unfolding openedPlan
+plan-opened b e = simp e
+
+pub planned : (b : List ℕ) {z : Plan} {u : Outcome} {f : Bool} → u ≡ verdict b → z ≡ openedPlan b → f ≡ fires u → f ≡ false → Planned b z
 planned b e h g s =
     let ok : verdict b ≡ accepted = quiet e g s in
-    record { accepts = ok; plan = h ∙ sym (if-silent blankPlan (planOf b) e g s) }
+    record { accepts = ok; plan = h ∙ plan-opened b ok }

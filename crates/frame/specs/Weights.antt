@@ -1,19 +1,13 @@
--- The rule of the built-in constants, and the weights of a file's table as one list.
+-- The built-in constants, and the weights of a file's table as one list.
 -- Assumes nothing.
-use Prim.Native.Nat.{ℕ, _+_, _*_, _/_, _%_, _≤_, _<_}
+use Prim.Native.Nat.{ℕ, _+_, _/_, _%_}
 use mathlib.Core.List.{List}
-use lib.ListN.{getD}
 use Rattle.spec.specs.Base.{tabulate}
 use Rattle.spec.specs.Frame.{table, tableSize, frameOf}
 
--- w is the whole part of 4096 / (16 + d)
-pub record WholePart (d w : ℕ) : Type 0 where
-  pub most : w * (16 + d) ≤ 4096
-  pub next : 4096 < (w + 1) * (16 + d)
-
--- each of the first 256 numbers of a list is the whole part for its place
-pub record BuiltInTable (l : List ℕ) : Type 0 where
-  pub rule : (d : ℕ) → d < 256 → WholePart d (getD l d 0)
+-- for each difference d from 0 to 255 the whole part of 4096 / (16 + d)
+unfoldable pub builtInList : List ℕ
+builtInList = tabulate 256 (λ d. 4096 / (16 + d))
 
 abbrev pub weightCount : List ℕ → ℕ
 weightCount b = tableSize (frameOf b .set)

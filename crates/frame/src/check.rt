@@ -1,6 +1,8 @@
 // Checks 1 to 7, in the order of specs/Checks of crate spec: the first that fires decides. Any bytes are taken.
 use crate::plan;
 use crate::read;
+use big_endian::be16;
+use big_endian::be32;
 use spec::Plan;
 use spec::Refusal;
 use spec::Settings;
@@ -49,7 +51,7 @@ fn bad_mark(file: &[u8]) -> bool
     if file.len() < read::TRAILER {
         return true;
     }
-    let mark = read::be32(file, file.len() - read::TRAILER + 24);
+    let mark = be32(file, file.len() - read::TRAILER + 24);
     mark != 0x49434531
 }
 
@@ -172,7 +174,7 @@ fn scan(file: &[u8], offset: usize, n: usize, limit: usize) -> Verdict
     let mut k = 0;
     while k < n {
         let at = offset + 2 * k;
-        if limit <= read::be16(file, at) as usize {
+        if limit <= be16(file, at) as usize {
             return too_large(at);
         }
         k += 1;

@@ -33,7 +33,8 @@ pub fn back_from(at: usize, back: usize) -> usize
     at - back
 }
 
-pub fn plan_of(file: &[u8]) -> Plan
+// The plan of a file that is long enough for a trailer.
+pub(crate) fn plan_of(file: &[u8]) -> Plan
     requires { ⌜ 28 ≤ length (now file) ⌝ }
     ensures { λ r. ⌜ r ≡ planOf (now (file .entry)) ⌝ }
 {

@@ -1,49 +1,17 @@
-// Numbers of a file, high byte first, and its trailer. The caller has made sure that the bytes are there.
-use spec::Guide;
-use spec::Level;
+// The trailer of a file, for the rest of this crate alone: the checks have made sure that its 28 bytes are there.
+use big_endian::be16;
+use big_endian::be32;
 use spec::Settings;
 use spec::Trailer;
 ghost use mathlib.Core.Path.{_≡_};
-ghost use Prim.Native.Nat.{_+_, _*_, _<_, _≤_};
+ghost use Prim.Native.Nat.{_≤_};
 ghost use lib.ListN.{length};
-ghost use Rattle.spec.specs.Bytes.{be16, be32};
 ghost use Rattle.spec.specs.Frame.{settingsOf, trailerOf};
 
 // The bytes of a trailer.
-pub const TRAILER: usize = 28;
+pub(crate) const TRAILER: usize = 28;
 
-pub fn be16(b: &[u8], at: usize) -> u16
-    requires { ⌜ at + 1 < length (now b) ⌝ }
-    ensures { λ r. ⌜ r ≡ be16 (now (b .entry)) at ⌝ }
-{
-    let high = b[at];
-    let low = b[at + 1];
-    (high as u16) * 256 + (low as u16)
-}
-
-pub fn be32(b: &[u8], at: usize) -> usize
-    requires { ⌜ at + 3 < length (now b) ⌝ }
-    ensures { λ r. ⌜ (r ≡ be32 (now (b .entry)) at) × (r < 4294967296) ⌝ }
-{
-    (be16(b, at) as usize) * 65536 + (be16(b, at + 2) as usize)
-}
-
-// The level, the guide that begins at a byte.
-pub fn level(b: &[u8], at: usize) -> Level
-    requires { ⌜ at + 1 < length (now b) ⌝ }
-    ensures { λ r. ⌜ r .0 ≡ be16 (now (b .entry)) at ⌝ }
-{
-    Level(be16(b, at))
-}
-
-pub fn guide(b: &[u8], at: usize) -> Guide
-    requires { ⌜ at + 1 < length (now b) ⌝ }
-    ensures { λ r. ⌜ r .0 ≡ be16 (now (b .entry)) at ⌝ }
-{
-    Guide(be16(b, at))
-}
-
-pub fn settings_of(b: &[u8]) -> Settings
+fn settings_of(b: &[u8]) -> Settings
     requires { ⌜ 28 ≤ length (now b) ⌝ }
     ensures { λ r. ⌜ r ≡ settingsOf (now (b .entry)) ⌝ }
 {
@@ -59,7 +27,7 @@ pub fn settings_of(b: &[u8]) -> Settings
     }
 }
 
-pub fn trailer_of(b: &[u8]) -> Trailer
+pub(crate) fn trailer_of(b: &[u8]) -> Trailer
     requires { ⌜ 28 ≤ length (now b) ⌝ }
     ensures { λ r. ⌜ r ≡ trailerOf (now (b .entry)) ⌝ }
 {

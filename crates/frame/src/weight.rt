@@ -1,14 +1,9 @@
-// The weights of kind 1: the built-in constants with their rule, one weight of a frame's table, and the whole table decoded once for a call.
-use crate::read;
+// The built-in weights of kind 1: the 256 constants with their rule, and the weight of any two guides.
 use spec::Guide;
-use spec::Plan;
 ghost use mathlib.Core.Path.{_≡_};
-ghost use mathlib.Core.List.{_++_};
-ghost use Prim.Native.Nat.{_<_, _≤_};
-ghost use lib.ListN.{length, drop};
-ghost use Rattle.spec.specs.Frame.{builtIn, table, frameOf};
-ghost use Rattle.spec.specs.Checks.{Planned};
-ghost use Rattle.frame.specs.Weights.{BuiltInTable, weightCount, tableList};
+ghost use Rattle.spec.specs.Base.{distance};
+ghost use Rattle.spec.specs.Frame.{builtIn};
+ghost use Rattle.frame.specs.Weights.{builtInList};
 
 // The whole part of 4096 / (16 + d), for d from 0 to 255.
 const BUILT_IN: [u16; 256] = [
@@ -270,62 +265,31 @@ const BUILT_IN: [u16; 256] = [
     15,
 ];
 
-// The constants, with their rule: a call binds them once and lends them on.
-fn constants() -> [u16; 256]
-    ensures { λ r. ⌜ BuiltInTable r ⌝ }
+// The constants: a call binds them once and lends them on.
+pub fn constants() -> [u16; 256]
+    ensures { λ r. ⌜ r ≡ builtInList ⌝ }
 {
     BUILT_IN
 }
 
-// The built-in weight of two guides, from the constants that the caller bound once.
-fn built_at(built: &[u16; 256], f: Guide, g: Guide) -> u16
-    requires { ⌜ (BuiltInTable (now built)) × (f .0 < 256) × (g .0 < 256) ⌝ }
-    ensures { λ r. ⌜ r ≡ builtIn (f .0) (g .0) ⌝ }
+// How far two guides are apart.
+pub fn apart(f: Guide, g: Guide) -> u16
+    ensures { λ r. ⌜ r ≡ distance (f .0) (g .0) ⌝ }
 {
     if f.0 < g.0 {
-        return built[(g.0 - f.0) as usize];
+        return g.0 - f.0;
     }
-    built[(f.0 - g.0) as usize]
+    f.0 - g.0
 }
 
+// The built-in weight of two guides. Guides of a frame are less than 256 apart; the constants' rule goes on beyond.
 pub fn built_in(f: Guide, g: Guide) -> u16
-    requires { ⌜ (f .0 < 256) × (g .0 < 256) ⌝ }
     ensures { λ r. ⌜ r ≡ builtIn (f .0) (g .0) ⌝ }
 {
-    let built = constants();
-    built_at(&built, f, g)
-}
-
-// What a pixel of guide g weighs in a window whose centre has guide f.
-fn weight_at(built: &[u16; 256], file: &[u8], z: Plan, f: Guide, g: Guide) -> u16
-    requires { ⌜ (BuiltInTable (now built)) × (Planned (now file) z) × (f .0 < z .guides) × (g .0 < z .guides) ⌝ }
-    ensures { λ r. ⌜ r ≡ table (frameOf (now (file .entry))) (f .0) (g .0) ⌝ }
-{
-    if z.weights == 0 {
-        return built_at(built, f, g);
+    let d = apart(f, g) as usize;
+    if d < 256 {
+        let built = constants();
+        return built[d];
     }
-    let k = (f.0 as usize) * z.guides + (g.0 as usize);
-    read::be16(file, z.table + 2 * k)
-}
-
-// All weights of the frame's table, row by row.
-pub fn decode(file: &[u8], z: Plan, out: &mut [u16])
-    requires { ⌜ (Planned (now file) z) × (weightCount (now file) ≤ length (now out)) ⌝ }
-    ensures { λ _. ⌜ now (out .exit) ≡ tableList (now (file .entry)) ++ drop (weightCount (now (file .entry))) (now (out .entry)) ⌝ }
-{
-    let built = constants();
-    let m = z.guides;
-    let n = m * m;
-    let mut f: usize = 0;
-    let mut g: usize = 0;
-    let mut k = 0;
-    while k < n {
-        out[k] = weight_at(&built, file, z, Guide(f as u16), Guide(g as u16));
-        k += 1;
-        g += 1;
-        if g == m {
-            g = 0;
-            f += 1;
-        }
-    }
+    (4096 / (16 + d)) as u16
 }

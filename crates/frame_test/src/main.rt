@@ -296,13 +296,16 @@ fn plans() {
     say::weights(b"weights of tabled", &table);
 }
 
-// Window F.
+// Window F, and differences that no frame has.
 fn built_in() {
     say::text(b"built-in");
     say::number(weight::built_in(Guide(0), Guide(0)) as usize);
     say::number(weight::built_in(Guide(0), Guide(1)) as usize);
     say::number(weight::built_in(Guide(16), Guide(0)) as usize);
     say::number(weight::built_in(Guide(255), Guide(0)) as usize);
+    say::number(weight::built_in(Guide(300), Guide(44)) as usize);
+    say::number(weight::built_in(Guide(0), Guide(4080)) as usize);
+    say::number(weight::built_in(Guide(65535), Guide(0)) as usize);
     say::text(b"\n");
 }
 

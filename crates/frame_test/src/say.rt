@@ -1,10 +1,10 @@
 // Lines of text on standard output.
+use big_endian::be16;
 use frame::open;
 use frame::open::Plane;
 use frame::plan;
-use frame::read;
-use frame::weight;
 use frame_write::Written;
+use joint_search::table;
 use spec::Refusal;
 use spec::Verdict;
 
@@ -74,7 +74,7 @@ pub fn weights(name: &[u8], file: &[u8]) {
     }
     let z = o.plan;
     let mut all = [9u16; 65536];
-    weight::decode(file, z, &mut all);
+    table::decode(file, z, &mut all);
     text(name);
     let mut k = 0;
     while k < 16 {
@@ -89,7 +89,7 @@ pub fn numbers(name: &[u8], part: &[u8]) {
     text(name);
     let mut k = 0;
     while 1 < part.len() - k {
-        number(read::be16(part, k) as usize);
+        number(be16(part, k) as usize);
         k += 2;
     }
     text(b"\n");

@@ -1,5 +1,5 @@
 // The writer of a frame: checks first, then every byte straight to its place in the lent output. Any arguments are taken; a refusal changes no byte.
-pub mod put;
+mod put;
 
 use frame::check;
 use spec::Refusal;

@@ -69,7 +69,7 @@ fn put_distances(out: &mut [u8], at: usize, n: usize, p: usize)
     put32(out, at + 12, 0x49434531);
 }
 
-pub fn put_file(out: &mut [u8], k: Settings, values: &[u16], guides: &[u16], table: &[u16])
+pub(crate) fn put_file(out: &mut [u8], k: Settings, values: &[u16], guides: &[u16], table: &[u16])
     requires { ⌜ Fit k (now values) (now guides) (now table) (length (now out)) ⌝ }
     ensures { λ _. ⌜ now (out .exit) ≡ sets (now (out .entry)) 0 (written k (now (values .entry)) (now (guides .entry)) (now (table .entry))) ⌝ }
 {

@@ -5,6 +5,7 @@ pub mod FormulaLaws
 pub mod FewLaws
 pub mod SearchLaws
 pub mod WeightlessLaws
+pub mod TableLaws
 pub mod RowLaws
 pub mod ArriveLaws
 pub mod VisitLaws

@@ -2,7 +2,7 @@
 use crate::formula;
 use crate::formula::Formula;
 use crate::rows;
-use frame::read;
+use crate::table;
 use frame::weight;
 use spec::Guide;
 use spec::Level;
@@ -17,7 +17,7 @@ use window::sums;
 ghost use mathlib.Core.Path.{_≡_};
 ghost use Prim.Native.Nat.{_<_, _≤_};
 ghost use lib.IntN.{pos, natAbs, _+ℤ_, _*ℤ_};
-ghost use Rattle.spec.specs.Frame.{table, frameOf};
+ghost use Rattle.spec.specs.Frame.{frameOf};
 ghost use Rattle.spec.specs.Checks.{Planned};
 ghost use Rattle.spec.specs.Median.{balance};
 ghost use Rattle.window.specs.Line.{InPlanes, lineFold};
@@ -102,27 +102,17 @@ pub fn window_balance(
     sum
 }
 
-// What a pixel of guide g weighs in a window of kind 1 whose centre has guide f.
-pub fn table_weight(file: &[u8], z: Plan, f: Guide, g: Guide) -> u16
-    requires { ⌜ (Planned (now file) z) × (f .0 < z .guides) × (g .0 < z .guides) ⌝ }
-    ensures { λ r. ⌜ r ≡ table (frameOf (now (file .entry))) (f .0) (g .0) ⌝ }
-{
-    if z.weights == 0 {
-        return weight::built_in(f, g);
-    }
-    let k = (f.0 as usize) * z.guides + (g.0 as usize);
-    read::be16(file, z.table + 2 * k)
-}
-
+// The table's row of the centre's guide.
 pub fn table_row(file: &[u8], z: Plan, f: Guide) -> [u16; 256]
     requires { ⌜ (Planned (now file) z) × (f .0 < z .guides) ⌝ }
     ensures { λ r. ⌜ TableRow (frameOf (now (file .entry))) (z .guides) (f .0) r ⌝ }
 {
+    let built = weight::constants();
     let m = z.guides;
     let mut out = [0u16; 256];
     let mut k = 0;
     while k < m {
-        out[k] = table_weight(file, z, f, Guide(k as u16));
+        out[k] = table::weight_at(&built, file, z, f, Guide(k as u16));
         k += 1;
     }
     out

@@ -10,4 +10,5 @@ pub mod level;
 pub mod rows;
 pub mod scan;
 pub mod shift;
+pub mod table;
 pub mod visit;

@@ -1,6 +1,6 @@
 // The rows of weights that a call decodes once, and a window's formula over them.
 use crate::formula::Formula;
-use frame::weight;
+use crate::table;
 use spec::Plan;
 use window::coefficients::Coefficients;
 use window::pixel;
@@ -33,7 +33,7 @@ pub fn decode_rows(file: &[u8], z: Plan, out: &mut [u16])
     ensures { λ _. ⌜ WeightRows (now (file .entry)) z (now (out .exit)) ⌝ }
 {
     if z.kind == 1 {
-        weight::decode(file, z, out);
+        table::decode(file, z, out);
     }
 }
 

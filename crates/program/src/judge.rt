@@ -1,7 +1,6 @@
 // The program's checks: 12 by the input's length first, then 1 to 7, then 12 by width, levels and guides.
-use frame::check::check;
 use frame::check::stops;
-use frame::plan::plan_of;
+use frame::plan::open_plan;
 use spec::Plan;
 use spec::Refusal;
 use spec::Verdict;
@@ -44,12 +43,12 @@ fn too_large(z: Plan) -> bool
 fn judge_frame(input: &[u8]) -> Verdict
     ensures { λ r. ⌜ numbered r ≡ (verdict (now (input .entry)) ▷ refuse 12 (tooLarge (settingsOf (now (input .entry))))) ⌝ }
 {
-    let v = check(input);
+    let o = open_plan(input);
+    let v = o.verdict;
     if stops(v) {
         return v;
     }
-    let z = plan_of(input);
-    if too_large(z) {
+    if too_large(o.plan) {
         return Verdict::Refused(Refusal::Program);
     }
     Verdict::Accepted

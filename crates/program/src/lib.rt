@@ -3,7 +3,7 @@ mod answer;
 mod judge;
 
 use frame::check::stops;
-use frame::plan::plan_of;
+use frame::plan::open_plan;
 use spec::Refusal;
 use spec::Verdict;
 use spec::number_of;
@@ -50,6 +50,6 @@ pub fn respond(input: &[u8], out: &mut [u8; ROOM]) -> usize
     if stops(v) {
         return put_verdict(out, v);
     }
-    let z = plan_of(input);
+    let z = open_plan(input).plan;
     answer::put_answer(out, input, z)
 }

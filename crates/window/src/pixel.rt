@@ -1,5 +1,6 @@
 // The level and the guide of a pixel, by its number: row by row from the top left. The file is accepted, so the bytes are there.
-use frame::read;
+use big_endian::guide;
+use big_endian::level;
 use spec::Guide;
 use spec::Level;
 use spec::Plan;
@@ -13,7 +14,7 @@ pub fn level_at(file: &[u8], z: Plan, q: usize) -> Level
     requires { ⌜ q < z .width * z .height ⌝ }
     ensures { λ r. ⌜ r .0 ≡ pixelLevel (now (file .entry)) q ⌝ }
 {
-    read::level(file, z.value + 2 * q)
+    level(file, z.value + 2 * q)
 }
 
 pub fn guide_at(file: &[u8], z: Plan, q: usize) -> Guide
@@ -21,5 +22,5 @@ pub fn guide_at(file: &[u8], z: Plan, q: usize) -> Guide
     requires { ⌜ q < z .width * z .height ⌝ }
     ensures { λ r. ⌜ r .0 ≡ pixelGuide (now (file .entry)) q ⌝ }
 {
-    read::guide(file, z.guide + 2 * q)
+    guide(file, z.guide + 2 * q)
 }

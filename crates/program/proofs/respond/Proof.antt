@@ -9,8 +9,8 @@ use Rattle.spec.specs.declared.Plan.{Plan}
 use Rattle.spec.specs.Frame.{planOf}
 use Rattle.spec.specs.Checks.{Planned}
 use Rattle.spec.specs.Program.{programOutcome, printed}
-use Rattle.spec.proofs.Checks.{Passed, passed}
 use Rattle.frame.proofs.Outcomes.{quiet}
+use Rattle.frame.proofs.Planning.{plan-opened}
 use Rattle.text.specs.Text.{Puts}
 use Rattle.text.proofs.Putting.{called, from-start}
 use Rattle.program.specs.Admitted.{Admitted}
@@ -44,17 +44,20 @@ returns c =
     let f = refusal-fits b (v .result) (v .ensures) (sym (c .before .before .before .stops .ensures) ∙ c .before .before .if1 .taken) in
     from-start (omega (arith, f)) (called (printed-as b (v .ensures)) (c .put-verdict .ensures b))
 
-plan-of-requires : tie.Need-plan-of-requires
-plan-of-requires c κs = passed (c .before .before .before .before .args .input .now) (admits c .planned .accepts) .long
+open-plan-requires : tie.Need-open-plan-requires
+open-plan-requires c κs = search needs
 
 put-answer-requires : tie.Need-put-answer-requires
-put-answer-requires c κs = (subst (Admitted (c .before .before .before .before .before .before .args .input .now)) (sym (c .before .plan-of .ensures)) (admits (c .before .before)), search needs)
+put-answer-requires c κs =
+    let o = c .before .before in
+    let b = o .before .before .before .before .before .args .input .now in
+    let a = admits (o .before) in
+    (subst (Admitted b) (sym (o .open-plan .ensures .1 ∙ plan-opened b (a .planned .accepts))) a, search needs)
 
 returns-2 : tie.Need-returns-2
 returns-2 c =
-    let s = c .before .before .before .before .before .before .before in
-    let b = s .args .input .now in
-    let d = c .before .before .before in
+    let d = c .before .before .before .before in
+    let b = d .before .before .before .before .args .input .now in
     let e = outcome d in
     let t = printed-as b (sym e) in
     let f : length (printed b) ≤ 24704 = rw t at (text-short (admits d)) in
@@ -68,6 +71,6 @@ respond-spec =
     stops-requires
     put-verdict-requires
     returns
-    plan-of-requires
+    open-plan-requires
     put-answer-requires
     returns-2)

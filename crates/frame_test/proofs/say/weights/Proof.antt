@@ -3,7 +3,7 @@ use native.Mathlib.Omega.{arith}
 use borrow.Author.Needs.{needs}
 use Prim.Native.Nat.{_≤_, _-_}
 use Rattle.frame.proofs.Planning.{planned}
-use Rattle.frame.proofs.Weights.{count-is, count-within}
+use Rattle.joint_search.proofs.TableLaws.{count-is, count-within}
 use Rattle.frame_test.proofs.say.weights.Statement.{statement}
 use Rattle.frame_test.proofs.say.weights.Tie as tie
 

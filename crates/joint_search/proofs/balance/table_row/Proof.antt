@@ -1,5 +1,6 @@
 -- `table_row` meets its contract: after k turns the row has k weights. Assumes nothing.
 use native.Mathlib.Omega.{arith}
+use borrow.Author.Needs.{needs}
 use Prim.Native.Nat.{_-_, _≤_}
 use Rattle.spec.specs.Frame.{frameOf}
 use Rattle.window.proofs.PixelLaws.{guides-high}
@@ -8,41 +9,47 @@ use Rattle.joint_search.proofs.balance.table_row.Statement.{statement}
 use Rattle.joint_search.proofs.balance.table_row.Tie as tie
 
 abbrev Inv-loop : tie.InvT-loop
-Inv-loop file z f m out₀ k₀ out k =
+Inv-loop file z f built m out₀ k₀ out k =
     (k ≤ m) × Rowed (frameOf file) k (f .0) out
 
 abbrev μ-loop : tie.MeasureT-loop
-μ-loop file z f m out₀ k₀ out k = m - k
+μ-loop file z f built m out₀ k₀ out k = m - k
 
 abbrev start : tie.At-loop Inv-loop μ-loop → tie.Start Inv-loop μ-loop
-start h = h .before .before
+start h = h .before .before .before
+
+constants-requires : tie.Need-constants-requires Inv-loop μ-loop
+constants-requires c κs = search needs
 
 loop-holds : tie.Need-loop-holds Inv-loop μ-loop
 loop-holds c = (omega arith, row-start _ _)
 
-cast-t9 : tie.Need-cast-t9 Inv-loop μ-loop
-cast-t9 c = let at = start (c .before) in omega (arith, c .loop-test .taken, guides-high (at .pre .0))
+cast-t12 : tie.Need-cast-t12 Inv-loop μ-loop
+cast-t12 c = let t = c .before in omega (arith, t .loop-test .taken, guides-high (start (t .before) .pre .0))
 
-table-weight-requires : tie.Need-table-weight-requires Inv-loop μ-loop
-table-weight-requires c κs = let at = start (c .before) in (at .pre .0, at .pre .1, c .loop-test .taken)
+weight-at-requires : tie.Need-weight-at-requires Inv-loop μ-loop
+weight-at-requires c κs =
+    let t = c .before in
+    let h = start (t .before) .pre in
+    (t .before .before .constants .ensures, h .0, h .1, t .loop-test .taken)
 
 mul-out : tie.Need-mul-out Inv-loop μ-loop
-mul-out c = let t = c .before in let at = start (t .before) in omega (arith, t .loop-test .taken, guides-high (at .pre .0), t .before .loop .inv .1 .long)
+mul-out c = let t = c .before .before in let at = start (t .before) in omega (arith, t .loop-test .taken, guides-high (at .pre .0), t .before .loop .inv .1 .long)
 
 array-write-out : tie.Need-array-write-out Inv-loop μ-loop
-array-write-out c = let t = c .before in let at = start (t .before) in omega (arith, t .loop-test .taken, guides-high (at .pre .0), t .before .loop .inv .1 .long)
+array-write-out c = let t = c .before .before in let at = start (t .before) in omega (arith, t .loop-test .taken, guides-high (at .pre .0), t .before .loop .inv .1 .long)
 
 add-k : tie.Need-add-k Inv-loop μ-loop
-add-k c = let t = c .before in let at = start (t .before) in omega (arith, t .loop-test .taken, guides-high (at .pre .0), t .before .loop .inv .1 .long)
+add-k c = let t = c .before .before in let at = start (t .before) in omega (arith, t .loop-test .taken, guides-high (at .pre .0), t .before .loop .inv .1 .long)
 
 loop-less : tie.Need-loop-less Inv-loop μ-loop
-loop-less c = omega (arith, c .before .loop-test .taken)
+loop-less c = omega (arith, c .before .before .loop-test .taken)
 
 loop-again : tie.Need-loop-again Inv-loop μ-loop
 loop-again c =
-    let t = c .before in
+    let t = c .before .before in
     let at = start (t .before) in
-    (omega (arith, t .loop-test .taken), row-next (omega (arith, t .loop-test .taken, guides-high (at .pre .0))) (t .before .loop .inv .1) (c .table-weight .ensures))
+    (omega (arith, t .loop-test .taken), row-next (omega (arith, t .loop-test .taken, guides-high (at .pre .0))) (t .before .loop .inv .1) (c .weight-at .ensures))
 
 returns : tie.Need-returns Inv-loop μ-loop
 returns c =
@@ -55,9 +62,10 @@ table-row-spec =
     (tie.spec
     Inv-loop
     μ-loop
+    constants-requires
     loop-holds
-    cast-t9
-    table-weight-requires
+    cast-t12
+    weight-at-requires
     mul-out
     array-write-out
     add-k

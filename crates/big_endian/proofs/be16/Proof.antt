@@ -1,11 +1,11 @@
--- `frame::read::be16` meets its contract. Assumes nothing.
+-- `big_endian::be16` meets its contract. Assumes nothing.
 use Rattle.spec.specs.Bytes.{be16}
 use Prim.Native.Nat.{_+_}
 use mathlib.Core.Path.{refl}
 use native.Mathlib.Omega.{arith}
 use borrow.Author.Needs.{needs}
-use Rattle.frame.proofs.read.be16.Statement.{statement}
-use Rattle.frame.proofs.read.be16.Tie as tie
+use Rattle.big_endian.proofs.be16.Statement.{statement}
+use Rattle.big_endian.proofs.be16.Tie as tie
 
 shared-slice-read-high : tie.Need-shared-slice-read-high
 shared-slice-read-high c = search needs

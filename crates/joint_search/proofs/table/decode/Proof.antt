@@ -1,10 +1,10 @@
--- `frame::weight::decode` meets its contract. The invariant: the first k weights are there, and the next is at row f, column g. Assumes nothing.
+-- `joint_search::table::decode` meets its contract. The invariant: the first k weights are there, and the next is at row f, column g. Assumes nothing.
 use native.Mathlib.Omega.{arith}
 use borrow.Author.Needs.{needs}
 use Prim.Native.Nat.{_-_, _*_}
-use Rattle.frame.proofs.Weights.{guides-within, count-within, count-is, Turn, turn-first, turn-row, turn-next, turn-wrap, turns-done}
-use Rattle.frame.proofs.weight.decode.Statement.{statement}
-use Rattle.frame.proofs.weight.decode.Tie as tie
+use Rattle.joint_search.proofs.TableLaws.{guides-within, count-within, count-is, Turn, turn-first, turn-row, turn-next, turn-wrap, turns-done}
+use Rattle.joint_search.proofs.table.decode.Statement.{statement}
+use Rattle.joint_search.proofs.table.decode.Tie as tie
 
 abbrev Inv-loop : tie.InvT-loop
 Inv-loop file z out₀ built m n f₀ g₀ k₀ out f g k = Turn file z f g k out₀ out

@@ -1,17 +1,34 @@
--- `frame::weight::weight_at` meets its contract. Assumes nothing.
+-- `joint_search::table::weight_at` meets its contract. Assumes nothing.
 use native.Mathlib.Omega.{arith}
 use mathlib.Core.Path.{_∙_, sym}
 use Rattle.spec.proofs.Plans.{table-own, table-built}
-use Rattle.frame.proofs.Weights.{guides-within, weight-place}
+use Rattle.frame.proofs.Weights.{built-entry}
+use Rattle.joint_search.proofs.TableLaws.{apart-low, weight-place}
 use borrow.Author.Needs.{needs}
-use Rattle.frame.proofs.weight.weight_at.Statement.{statement}
-use Rattle.frame.proofs.weight.weight_at.Tie as tie
+use Rattle.joint_search.proofs.table.weight_at.Statement.{statement}
+use Rattle.joint_search.proofs.table.weight_at.Tie as tie
 
-built-at-requires : tie.Need-built-at-requires
-built-at-requires c κs = let h = c .before .before .before .pre in (h .0, omega (arith, h .2, guides-within (h .1) .1), omega (arith, h .3, guides-within (h .1) .1))
+-- without a table of its own
+abbrev start : tie.Then1 → tie.Start
+start d = d .before .before .before
+
+apart-requires : tie.Need-apart-requires
+apart-requires c κs = search needs
+
+cast-result : tie.Need-cast-result
+cast-result c = search needs
+
+mul-result : tie.Need-mul-result
+mul-result c = search needs
+
+element-copy-out-result : tie.Need-element-copy-out-result
+element-copy-out-result c = let h = start (c .before) .pre in omega (arith, apart-low (h .1) (h .2) (h .3) (c .apart .ensures))
 
 returns : tie.Need-returns
-returns c = let h = c .before .before .before .before .pre in c .built-at .ensures ∙ sym (table-built (h .1) (c .before .if1 .taken) _ _)
+returns c =
+    let e = c .before in
+    let h = start (e .before) .pre in
+    built-entry _ _ _ (h .0) (apart-low (h .1) (h .2) (h .3) (e .apart .ensures)) (e .apart .ensures) ∙ sym (table-built (h .1) (e .before .if1 .taken) _ _)
 
 cast-k : tie.Need-cast-k
 cast-k c = search needs
@@ -41,7 +58,10 @@ pub weight-at-spec : {M : Type 1} → statement M
 weight-at-spec =
     tie.close
     (tie.spec
-    built-at-requires
+    apart-requires
+    cast-result
+    mul-result
+    element-copy-out-result
     returns
     cast-k
     mul-k

@@ -1,8 +1,8 @@
--- `frame::read::be32` meets its contract. Assumes nothing.
+-- `big_endian::be32` meets its contract. Assumes nothing.
 use Rattle.spec.specs.Bytes.{be32}
 use borrow.Author.Needs.{needs}
-use Rattle.frame.proofs.read.be32.Statement.{statement}
-use Rattle.frame.proofs.read.be32.Tie as tie
+use Rattle.big_endian.proofs.be32.Statement.{statement}
+use Rattle.big_endian.proofs.be32.Tie as tie
 
 be16-requires : tie.Need-be16-requires
 be16-requires c κs = search needs
