@@ -1,33 +1,35 @@
 -- The window's counts and guide sums of each level, and the definition's median found in them.
 -- Assumes nothing.
 use mathlib.Core.Path.{_≡_, refl, sym, ap, ap₂, _∙_}
-use mathlib.Core.Bool.{Bool, true}
+use mathlib.Core.Bool.{Bool, true, false}
 use mathlib.Core.List.{List}
-use Prim.Native.Nat.{ℕ, zero, suc, _+_, _≤_, _<_}
+use Prim.Native.Nat.{ℕ, zero, suc, _+_, _-_, _≤_, _<_}
 use native.Mathlib.Nat.{le-trans, le-of-eq, add-zero}
 use native.Mathlib.Numerals.{add-one}
 use native.Mathlib.Omega.{arith}
 use native.Mathlib.Decide.{ℕ-discrete, decLt}
 use lib.Dec.{ltb, eqb}
 use lib.ListN.{length, getD}
-use lib.IntN.{ℤ, pos, _+ℤ_, _*ℤ_}
-use lib.Signed.{leZ}
+use lib.IntN.{ℤ, pos, _+ℤ_, _*ℤ_, *ℤ-zero}
+use lib.Signed.{_≤ℤ_, leZ}
 use borrow.Author.Tests.{eq-eqb, ne-eqb, lt-ltb, le-ltb}
+use Rattle.ints.specs.Order.{≤-trans, ≤-of-eq}
+use Rattle.ints.specs.Ring.{mul-one}
 use Rattle.ints.specs.Polynomial.{_⊕_, _⊗_, #_, _≐_, solve2, solve6}
 use Rattle.spec.specs.declared.Plan.{Plan}
 use Rattle.spec.specs.Base.{if_then_else_, distance}
 use Rattle.spec.specs.Frame.{Frame, level, guide, frameOf}
 use Rattle.spec.specs.Checks.{Planned}
 use Rattle.spec.specs.Window.{levelSum}
-use Rattle.spec.specs.Weight.{monotone}
+use Rattle.spec.specs.Weight.{weight, monotone}
 use Rattle.spec.specs.Median.{totalWeight, cumulative, median}
 use Rattle.spec.specs.Walk.{arrive}
 use Rattle.spec.proofs.First.{first-unique}
 use Rattle.spec.proofs.Ranges.{natSums}
-use Rattle.spec.proofs.Sums.{over-inWindow, over-both, over-constant}
+use Rattle.spec.proofs.Sums.{over-inWindow, over-both, over-constant, over-mono, over-scale, over-pos}
 use Rattle.spec.proofs.Limits.{Pixel}
 use Rattle.spec.proofs.Plans.{facts}
-use Rattle.spec.proofs.Levels.{slope, offset, level-linear}
+use Rattle.spec.proofs.Levels.{slope, offset, levelWeight, weight-linear, level-linear}
 use Rattle.spec.proofs.Totals.{le-leZ, leZ-le, le-balance, balance-le, median-first, median-low}
 use Rattle.spec.proofs.Monotone.{monotone-none, balance-mono}
 use Rattle.spec.proofs.Climb.{cumulativeBelow, cumulativeBelow-zero, cumulativeBelow-suc, cumulativeBelow-next, guided-full}
@@ -37,8 +39,10 @@ use Rattle.levels.specs.declared.tally.Tally.{Tally}
 use Rattle.levels.specs.declared.search.Found.{Found}
 use Rattle.levels.specs.Tally.{belowSum, BelowAt}
 use Rattle.levels.specs.Search.{sumTo, TallyTo, weightOf, passes, firstLevel, LevelCells, Searchable, Rising, FoundAt}
+use Rattle.levels.specs.Block.{EndsBelow, Heaviest}
 use Rattle.levels.specs.Answer.{Profiled, Answered}
 use Rattle.levels.proofs.SearchLaws.{sumTo-none, sumTo-more}
+use Rattle.levels.proofs.BlockLaws.{formula-below}
 use Rattle.levels.proofs.TallyLaws.{below-count-high, below-guide-high}
 
 pub guided : {b : List ℕ} {z : Plan} → Planned b z → z .kind ≡ 2 → frameOf b .set .kind ≡ 2
@@ -140,7 +144,30 @@ module _ {p : Frame} {s t : ℕ} (q : Pixel p s t) {counts sums : List ℕ} (c :
               let lj : j < p .set .levels = omega (arith, c .count-long) in
               let li : i < p .set .levels = omega arith in
               let b = le-balance p s t i (leZ-le _ _ (sym (passes-is i li) ∙ a)) in
-              passes-is j lj ∙ le-leZ (balance-le p s t j (Rattle.ints.specs.Order.≤-trans b (balance-mono p s t (monotone-none q e) i j h)));
+              passes-is j lj ∙ le-leZ (balance-le p s t j (≤-trans b (balance-mono p s t (monotone-none q e) i j h)));
+        }
+
+    -- ---- no pixel outweighs the larger end of the formula
+    pixel-below : {m : ℤ} → EndsBelow k (p .set .guides) m → (b : Bool) (g : ℕ) → g < p .set .guides → (if b then weight p s t g else pos 0) ≤ℤ (m *ℤ pos (if b then 1 else 0))
+    pixel-below {m} e true g h =
+        ≤-trans (≤-of-eq (weight-linear p s t g two ∙ sym (ap₂ (λ (c d : ℤ). c *ℤ pos g +ℤ d) (w .slope) (w .offset))))
+        (≤-trans (formula-below (k .slope) (k .offset) m {g = g} {m = p .set .guides - 1} (omega arith) (e .low) (e .high)) (≤-of-eq (sym (mul-one m))))
+    pixel-below {m} e false g h = ≤-of-eq (sym (*ℤ-zero m))
+
+    level-below : {m : ℤ} → EndsBelow k (p .set .guides) m → (i : ℕ) → levelWeight p s t i ≤ℤ (m *ℤ pos (levelSum p s t (λ x y. 1) i))
+    unfolding levelWeight levelSum
+    level-below {m} e i =
+        ≤-trans (over-mono p s t _ (λ x y. m *ℤ pos (if eqb (level p x y) i then 1 else 0)) (λ x y h. pixel-below e (eqb (level p x y) i) (guide p x y) (q .good .guide-low x y (h .wide) (h .high))))
+        (≤-of-eq (over-scale p s t m (λ x y. pos (if eqb (level p x y) i then 1 else 0)) ∙ ap (λ (z : ℤ). m *ℤ z) (over-pos p s t (λ x y. if eqb (level p x y) i then 1 else 0))))
+
+    pub heaviest : {m : ℤ} → EndsBelow k (p .set .guides) m → Heaviest k counts sums m
+    heaviest {m} e =
+        record {
+          level = λ i h.
+              let l : i < p .set .levels = omega (arith, c .count-long) in
+              rw (c .count-cell i l, c .sum-cell i l, w .slope, w .offset) (≤-trans (≤-of-eq (sym (level-linear p s t i two))) (level-below e i));
+          not-negative = e .not-negative;
+          small = e .small;
         }
 
 -- ---- what is answered

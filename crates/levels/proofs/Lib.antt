@@ -1,3 +1,4 @@
 pub mod SearchLaws
+pub mod BlockLaws
 pub mod TallyLaws
 pub mod AnswerLaws

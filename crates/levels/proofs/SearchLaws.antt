@@ -88,13 +88,12 @@ shifted shifts from e h l = rw e (h, l)
 pub shifted-back : (shifts cut : ℕ) {f : Found} {i n s m : ℕ} → f ≡ foundAt i n s m → m + i ≡ shifts + cut → i ≤ cut → (f .shifts + f .level .0 ≡ shifts + cut) × (f .level .0 ≤ cut)
 shifted-back shifts cut e h l = rw e (h, l)
 
--- ---- upward: the levels below i fall short, and each was a shift
-pub record Ascending (k : Coefficients) (counts sums : List ℕ) (shifts from n s m i : ℕ) : Type 0 where
+-- ---- upward: the levels below i fall short
+pub record Ascending (k : Coefficients) (counts sums : List ℕ) (from n s i : ℕ) : Type 0 where
   pub from-low : from ≤ i
   pub to : i ≤ length counts
   pub tally : TallyTo counts sums i (tally n s)
   pub fails : FailTo k counts sums i
-  pub counted : m + from ≡ shifts + i
 
 -- ---- downward: the level passes
 pub record Descending (k : Coefficients) (counts sums : List ℕ) (shifts cut n s m c : ℕ) : Type 0 where

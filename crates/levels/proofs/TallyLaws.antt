@@ -38,7 +38,7 @@ line-start b d n =
 
 module _ {b : List ℕ} {z : Plan} (pl : Planned b z) {d : Line} (ins : InPlanes z d) (n : ℕ) {k i f u v : ℕ} (h : k < d .count)
     (ei : i ≡ pixelLevel b (pixelOf d k)) (ef : f ≡ pixelGuide b (pixelOf d k)) (eu : u ≡ (if ltb i n then 1 else 0)) (ev : v ≡ (if ltb i n then f else 0)) where
-  pub guide-small : f ≤ 255
+  guide-small : f ≤ 255
   guide-small = guide-byte pl (ins .inside k h) ef
 
   pub parts-small : (u ≤ 1) × (v ≤ 255)

@@ -1,3 +1,4 @@
 pub mod Tally
 pub mod Search
+pub mod Block
 pub mod Answer

@@ -1,4 +1,5 @@
 // The window's answer from its counts and guide sums of each level. The two lists are the window's: how they are kept is the way's own.
+use crate::block;
 use crate::search;
 use crate::tally::Tally;
 use spec::Level;
@@ -61,7 +62,8 @@ pub fn answer(
     let centre = pixel::guide_at(file, z, t * z.width + s);
     let k = coefficients::from_sums(z, a, centre);
     let monotone = coefficients::monotone(z, k);
-    let f = search::find(counts, sums, k, monotone, cut, below, shifts);
+    let heaviest = block::heaviest(k, z.guides);
+    let f = search::find(counts, sums, k, heaviest, monotone, cut, below, shifts);
     let level = f.level;
     let tally = f.tally;
     Arrival {

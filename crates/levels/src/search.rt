@@ -1,4 +1,6 @@
 // The search for a window's answer among its levels, by the cumulative count and guide sum: counts and sums are the window's, level by level.
+use crate::block;
+use crate::block::BLOCK;
 use crate::tally::Tally;
 use spec::Level;
 use window::coefficients::Coefficients;
@@ -8,6 +10,7 @@ ghost use Prim.Native.Nat.{_+_, _<_, _≤_};
 ghost use lib.ListN.{length};
 ghost use Rattle.spec.specs.Base.{distance, if_then_else_};
 ghost use Rattle.window.specs.Coefficients.{CoefficientsSmall};
+ghost use Rattle.levels.specs.Block.{Heaviest};
 ghost use Rattle.levels.specs.Search.{foundAt, TallyTo, half, passes, LevelCells, Searchable, Rising, FoundAt, FailTo};
 
 // The answer, the tally of the levels up to it, and the shift count.
@@ -60,36 +63,43 @@ pub fn gather(counts: &[u32], sums: &[u32], end: usize) -> Tally
     }
 }
 
-// Upward from a level below which none passes; a is the tally of the levels below it. Each level that falls short is a shift.
+// Upward from a level below which none passes; a is the tally of the levels below it. Each level that falls short is a shift, also in a block that is passed
+// over: no pixel outweighs the heaviest.
 pub fn ascend(
     counts: &[u32],
     sums: &[u32],
     k: Coefficients,
+    heaviest: i64,
     from: Level,
     a: Tally,
     shifts: u64,
 ) -> Found
-    requires { ⌜ Searchable k (now counts) (now sums) ⌝ }
+    requires { ⌜ (Searchable k (now counts) (now sums)) × (Heaviest k (now counts) (now sums) heaviest) ⌝ }
     requires { ⌜ (from .0 ≤ length (now counts)) × (shifts ≤ 8589934592) ⌝ }
     requires { ⌜ TallyTo (now counts) (now sums) (from .0) a ⌝ }
     requires { ⌜ FailTo k (now counts) (now sums) (from .0) ⌝ }
     ensures { λ f. ⌜ (FoundAt k (now (counts .entry)) (now (sums .entry)) f) × (f .shifts + from .0 ≡ shifts + f .level .0) × (from .0 ≤ f .level .0) ⌝ }
 {
     let levels = counts.len();
+    let first = from.0 as usize;
     let mut count = a.count;
     let mut sum = a.sum;
-    let mut n = shifts;
-    let mut i = from.0 as usize;
+    let mut i = first;
     while i < levels {
-        count += counts[i] as usize;
-        sum += sums[i] as usize;
-        if reached(k, count, sum) {
-            return ended(Level(i as u16), count, sum, n);
+        if block::light(counts, k, heaviest, i, count, sum) {
+            count += block::total(counts, i);
+            sum += block::total(sums, i);
+            i += BLOCK;
+        } else {
+            count += counts[i] as usize;
+            sum += sums[i] as usize;
+            if reached(k, count, sum) {
+                return ended(Level(i as u16), count, sum, shifts + (i - first) as u64);
+            }
+            i += 1;
         }
-        i += 1;
-        n += 1;
     }
-    ended(Level(i as u16), count, sum, n)
+    ended(Level(i as u16), count, sum, shifts + (i - first) as u64)
 }
 
 // Downward from a cut point that passes, where the cumulative weight never falls; a is the tally of the levels up to it. Each level that still passes below
@@ -132,11 +142,12 @@ pub fn from_cut(
     counts: &[u32],
     sums: &[u32],
     k: Coefficients,
+    heaviest: i64,
     cut: Level,
     a: Tally,
     shifts: u64,
 ) -> Found
-    requires { ⌜ Searchable k (now counts) (now sums) ⌝ }
+    requires { ⌜ (Searchable k (now counts) (now sums)) × (Heaviest k (now counts) (now sums) heaviest) ⌝ }
     requires { ⌜ (cut .0 < length (now counts)) × (shifts ≤ 4294967296) ⌝ }
     requires { ⌜ TallyTo (now counts) (now sums) (cut .0 + 1) a ⌝ }
     requires { ⌜ Rising k (now counts) (now sums) ⌝ }
@@ -145,7 +156,7 @@ pub fn from_cut(
     if reached(k, a.count, a.sum) {
         return descend(counts, sums, k, cut, a, shifts);
     }
-    ascend(counts, sums, k, Level(cut.0 + 1), a, shifts + 1)
+    ascend(counts, sums, k, heaviest, Level(cut.0 + 1), a, shifts + 1)
 }
 
 // From the cut point where the window is monotone, else from level 0.
@@ -153,20 +164,21 @@ pub fn find(
     counts: &[u32],
     sums: &[u32],
     k: Coefficients,
+    heaviest: i64,
     monotone: bool,
     cut: Level,
     a: Tally,
     shifts: u64,
 ) -> Found
-    requires { ⌜ Searchable k (now counts) (now sums) ⌝ }
+    requires { ⌜ (Searchable k (now counts) (now sums)) × (Heaviest k (now counts) (now sums) heaviest) ⌝ }
     requires { ⌜ (cut .0 < length (now counts)) × (shifts ≤ 4294967296) ⌝ }
     requires { ⌜ TallyTo (now counts) (now sums) (cut .0 + 1) a ⌝ }
     requires { ⌜ (monotone ≡ true → Rising k (now counts) (now sums)) ⌝ }
     ensures { λ f. ⌜ (FoundAt k (now (counts .entry)) (now (sums .entry)) f) × (f .shifts ≡ shifts + (if monotone then distance (f .level .0) (cut .0) else f .level .0)) ⌝ }
 {
     if monotone {
-        return from_cut(counts, sums, k, cut, a, shifts);
+        return from_cut(counts, sums, k, heaviest, cut, a, shifts);
     }
     let none = Tally { count: 0, sum: 0 };
-    ascend(counts, sums, k, Level(0), none, shifts)
+    ascend(counts, sums, k, heaviest, Level(0), none, shifts)
 }

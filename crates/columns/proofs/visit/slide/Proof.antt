@@ -1,5 +1,4 @@
 -- `columns::visit::slide` meets its contract. Assumes nothing.
-use Prim.Native.Nat.{_-_}
 use native.Mathlib.Omega.{arith}
 use Rattle.spec.specs.Frame.{frameOf}
 use Rattle.spec.proofs.Plans.{facts}

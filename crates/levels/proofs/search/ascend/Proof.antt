@@ -1,82 +1,170 @@
 -- `levels::search::ascend` meets its contract. Assumes nothing.
-use Prim.Native.Nat.{_+_, _-_, _≤_}
-use mathlib.Core.Path.{_≡_, refl, sym, _∙_}
+use Prim.Native.Nat.{ℕ, _+_, _-_, _≤_}
+use mathlib.Core.Path.{_≡_, sym, _∙_, subst}
 use native.Mathlib.Omega.{arith}
+use lib.IntN.{ℤ, natAbs}
+use lib.ListN.{length, getD}
+use mir.Syntax.{w64}
+use Rattle.ints.specs.Machine.{stored, read-bounded}
+use Rattle.levels.specs.Search.{TallyTo, passes}
+use Rattle.levels.specs.Block.{Light}
 use Rattle.levels.proofs.SearchLaws.{tally, Ascending, tally-next, half-at, fail-next, fail-all, found-at, shifted}
+use Rattle.levels.proofs.BlockLaws.{tally-block, fail-block}
 use Rattle.levels.proofs.search.ascend.Statement.{statement}
 use Rattle.levels.proofs.search.ascend.Tie as tie
 
 abbrev Inv-loop : tie.InvT-loop
-Inv-loop counts sums k shifts levels count₀ sum₀ n₀ i₀ count sum n i = Ascending k counts sums shifts i₀ count sum n i
+Inv-loop counts sums k heaviest shifts levels first count₀ sum₀ i₀ count sum i = Ascending k counts sums first count sum i
 
 abbrev μ-loop : tie.MeasureT-loop
-μ-loop counts sums k shifts levels count₀ sum₀ n₀ i₀ count sum n i = levels - i
+μ-loop counts sums k heaviest shifts levels first count₀ sum₀ i₀ count sum i = levels - i
 
-cast-i : tie.Need-cast-i Inv-loop μ-loop
-cast-i c = omega (arith, c .before .before .before .pre .1 .0 .0, c .before .before .before .pre .0 .cells .levels)
+heaviest-is : (c : tie.Start Inv-loop μ-loop) → stored w64 (c .args .heaviest) ≡ c .args .heaviest
+heaviest-is c = read-bounded w64 240207812100 (c .pre .0 .1 .small) tt
+
+-- a tally is small
+small : (c : tie.Start Inv-loop μ-loop) (i n s : ℕ) → i ≤ length (c .args .counts .now) → TallyTo (c .args .counts .now) (c .args .sums .now) i (tally n s) → (n ≤ 961) × (s ≤ 245055)
+small c i n s h a = let q = c .pre .0 .0 .cells in (omega (arith, a .count, q .count-high i h), omega (arith, a .sum, q .sum-high i h))
+
+-- ---- a block that is passed over
+is-light : (c : tie.Then1 Inv-loop μ-loop) → Light (c .before .before .before .before .before .before .before .args .k) (c .before .before .before .before .before .before .before .args .heaviest) (c .before .before .before .before .before .before .before .args .counts .now) (c .before .before .before .loop .i) (c .before .before .before .loop .count) (c .before .before .before .loop .sum)
+is-light c =
+    let st = c .before .before .before .before .before .before .before in
+    let v = c .before .before .before .loop in
+    subst (λ (w : ℤ). Light (st .args .k) w (st .args .counts .now) (v .i) (v .count) (v .sum)) (heaviest-is st) (c .before .light .ensures (c .if1 .taken))
+
+after-block : (c : tie.After-total2 Inv-loop μ-loop)
+    → TallyTo (c .before .before .before .before .before .before .before .before .before .args .counts .now) (c .before .before .before .before .before .before .before .before .before .args .sums .now) (c .before .before .before .before .before .loop .i + 16) (tally (c .before .before .before .before .before .loop .count + c .before .total .result) (c .before .before .before .before .before .loop .sum + c .total2 .result))
+after-block c = tally-block (c .before .total .result) (c .total2 .result) (c .before .before .before .before .before .loop .inv .tally) (c .before .total .ensures) (c .total2 .ensures)
+
+-- ---- a level
+after-level : (c : tie.In-loop Inv-loop μ-loop)
+    → TallyTo (c .before .before .before .before .before .args .counts .now) (c .before .before .before .before .before .args .sums .now) (c .before .loop .i + 1) (tally (c .before .loop .count + getD (c .before .before .before .before .before .args .counts .now) (c .before .loop .i) 0) (c .before .loop .sum + getD (c .before .before .before .before .before .args .sums .now) (c .before .loop .i) 0))
+after-level c = tally-next (c .before .loop .inv .tally)
+
+level-small : (c : tie.In-loop Inv-loop μ-loop)
+    → (c .before .loop .count + getD (c .before .before .before .before .before .args .counts .now) (c .before .loop .i) 0 ≤ 961) × (c .before .loop .sum + getD (c .before .before .before .before .before .args .sums .now) (c .before .loop .i) 0 ≤ 245055)
+level-small c = small (c .before .before .before .before .before) (c .before .loop .i + 1) _ _ (omega (arith, c .loop-test .taken)) (after-level c)
+
+cast-first : tie.Need-cast-first Inv-loop μ-loop
+cast-first c = let st = c .before .before .before in omega (arith, st .pre .1 .0 .0, st .pre .0 .0 .cells .levels)
 
 loop-holds : tie.Need-loop-holds Inv-loop μ-loop
-loop-holds c = let st = c .before .before .before in record { from-low = omega arith; to = st .pre .1 .0 .0; tally = st .pre .1 .1 .0; fails = st .pre .1 .1 .1; counted = refl }
+loop-holds c = let st = c .before .before .before in record { from-low = omega arith; to = st .pre .1 .0 .0; tally = st .pre .1 .1 .0; fails = st .pre .1 .1 .1 }
 
-mul-count : tie.Need-mul-count Inv-loop μ-loop
-mul-count c = omega (arith, c .loop-test .taken, c .before .before .before .before .before .good)
+light-requires : tie.Need-light-requires Inv-loop μ-loop
+light-requires c κs =
+    let st = c .before .before .before .before .before in
+    let v = c .before .loop in
+    let q = st .pre .0 .0 in
+    let l = small st (v .i) (v .count) (v .sum) (v .inv .to) (v .inv .tally) in
+    ((q .small, subst (λ (w : ℤ). natAbs w ≤ 240207812100) (sym (heaviest-is st)) (st .pre .0 .1 .small), l .0, l .1), (v .inv .to, q .cells .levels, q .cells .count-high))
 
-shared-slice-read-count : tie.Need-shared-slice-read-count Inv-loop μ-loop
-shared-slice-read-count c = c .before .loop-test .taken
-
-cast-count : tie.Need-cast-count Inv-loop μ-loop
-cast-count c = omega (arith, c .shared-slice-known3 .given (c .before .before .loop .i))
+total-requires : tie.Need-total-requires Inv-loop μ-loop
+total-requires c κs =
+    let q = c .before .before .before .before .before .before .before .pre .0 .0 .cells in
+    let h = is-light c .whole in
+    (h, q .levels, omega (arith, q .count-high (c .before .before .before .loop .i + 16) h))
 
 add-count : tie.Need-add-count Inv-loop μ-loop
-add-count c = omega (arith, tally-next (c .before .before .loop .inv .tally) .count, c .before .before .before .before .before .before .pre .0 .cells .count-high (c .before .before .loop .i + 1) (omega (arith, c .before .loop-test .taken)))
+add-count c = let q = c .before .before .before .before .before .before .before .before .pre .0 .0 .cells in let v = c .before .before .before .before .loop in omega (arith, c .total .ensures, v .inv .tally .count, q .count-high (v .i + 16) (is-light (c .before) .whole))
 
-mul-sum : tie.Need-mul-sum Inv-loop μ-loop
-mul-sum c = omega (arith, c .before .loop-test .taken, c .before .before .before .before .before .before .pre .0 .cells .long, c .before .before .before .before .before .before .good)
-
-shared-slice-read-sum : tie.Need-shared-slice-read-sum Inv-loop μ-loop
-shared-slice-read-sum c = omega (arith, c .before .before .loop-test .taken, c .before .before .before .before .before .before .before .pre .0 .cells .long)
-
-cast-sum : tie.Need-cast-sum Inv-loop μ-loop
-cast-sum c = omega (arith, c .shared-slice-known4 .given (c .before .before .before .loop .i))
+total-requires-2 : tie.Need-total-requires-2 Inv-loop μ-loop
+total-requires-2 c κs =
+    let q = c .before .before .before .before .before .before .before .before .pre .0 .0 .cells in
+    let h = is-light (c .before) .whole in
+    (omega (arith, q .long), omega (arith, q .long, q .levels), q .sum-high (c .before .before .before .before .loop .i + 16) h)
 
 add-sum : tie.Need-add-sum Inv-loop μ-loop
-add-sum c = omega (arith, tally-next (c .before .before .before .loop .inv .tally) .sum, c .before .before .before .before .before .before .before .pre .0 .cells .sum-high (c .before .before .before .loop .i + 1) (omega (arith, c .before .before .loop-test .taken)))
-
-reached-requires : tie.Need-reached-requires Inv-loop μ-loop
-reached-requires c κs = let st = c .before .before .before .before .before .before .before in let a = tally-next (c .before .before .before .loop .inv .tally) in (st .pre .0 .small, (omega (arith, a .count, st .pre .0 .cells .count-high (c .before .before .before .loop .i + 1) (omega (arith, c .before .before .loop-test .taken))), omega (arith, a .sum, st .pre .0 .cells .sum-high (c .before .before .before .loop .i + 1) (omega (arith, c .before .before .loop-test .taken)))))
-
-cast-t19 : tie.Need-cast-t19 Inv-loop μ-loop
-cast-t19 c = omega (arith, c .before .before .before .before .loop-test .taken, c .before .before .before .before .before .before .before .before .before .pre .0 .cells .levels)
-
-ended-requires : tie.Need-ended-requires Inv-loop μ-loop
-ended-requires c κs = tt
-
-shifts-of : (c : tie.After-ended Inv-loop μ-loop) → (c .ended .result .shifts + c .before .before .before .before .before .before .before .before .before .before .args .from .0 ≡ c .before .before .before .before .before .before .before .before .before .before .args .shifts + c .ended .result .level .0) × (c .before .before .before .before .before .before .before .before .before .before .args .from .0 ≤ c .ended .result .level .0)
-shifts-of c = let v = c .before .before .before .before .before .before .loop .inv in shifted (c .before .before .before .before .before .before .before .before .before .before .args .shifts) (c .before .before .before .before .before .before .before .before .before .before .args .from .0) (c .ended .ensures) (v .counted) (v .from-low)
-
-returns : tie.Need-returns Inv-loop μ-loop
-returns c = let v = c .before .before .before .before .before .before .loop .inv in let a = tally-next (v .tally) in (found-at (c .ended .ensures) (v .fails) (c .before .before .before .before .before .loop-test .taken) (sym (half-at (c .before .before .before .before .before .before .before .before .before .before .args .k) (c .before .before .before .before .before .before .loop .i) a) ∙ sym (c .before .before .reached .ensures) ∙ c .before .if1 .taken) a, shifts-of c .0, shifts-of c .1)
+add-sum c = let q = c .before .before .before .before .before .before .before .before .before .pre .0 .0 .cells in let v = c .before .before .before .before .before .loop in omega (arith, c .total2 .ensures, v .inv .tally .sum, q .sum-high (v .i + 16) (is-light (c .before .before) .whole))
 
 add-i : tie.Need-add-i Inv-loop μ-loop
-add-i c = omega (arith, c .before .before .before .before .loop-test .taken, c .before .before .before .before .before .before .before .before .before .pre .0 .cells .levels)
-
-add-n : tie.Need-add-n Inv-loop μ-loop
-add-n c = omega (arith, c .before .before .before .before .loop-test .taken, c .before .before .before .before .before .before .before .before .before .pre .0 .cells .levels, c .before .before .before .before .before .loop .inv .counted, c .before .before .before .before .before .before .before .before .before .pre .1 .0 .1)
+add-i c = let q = c .before .before .before .before .before .before .before .before .before .pre .0 .0 .cells in omega (arith, is-light (c .before .before) .whole, q .levels)
 
 loop-less : tie.Need-loop-less Inv-loop μ-loop
 loop-less c = omega (arith, c .before .before .before .before .loop-test .taken)
 
 loop-again : tie.Need-loop-again Inv-loop μ-loop
-loop-again c = let v = c .before .before .before .before .before .loop .inv in let a = tally-next (v .tally) in record { from-low = omega (arith, v .from-low); to = omega (arith, c .before .before .before .before .loop-test .taken); tally = a; fails = fail-next (v .fails) (sym (half-at (c .before .before .before .before .before .before .before .before .before .args .k) (c .before .before .before .before .before .loop .i) a) ∙ sym (c .before .reached .ensures) ∙ c .if1 .left); counted = omega (arith, v .counted) }
+loop-again c =
+    let st = c .before .before .before .before .before .before .before .before .before in
+    let v = c .before .before .before .before .before .loop .inv in
+    let l = is-light (c .before .before) in
+    record { from-low = omega (arith, v .from-low); to = l .whole; tally = after-block c; fails = fail-block (st .pre .0 .1) (v .tally) l (v .fails) }
 
-cast-t21 : tie.Need-cast-t21 Inv-loop μ-loop
-cast-t21 c = omega (arith, c .before .loop .inv .to, c .before .before .before .before .before .pre .0 .cells .levels)
+mul-count : tie.Need-mul-count Inv-loop μ-loop
+mul-count c = omega (arith, c .before .before .loop-test .taken, c .before .before .before .before .before .before .before .good)
+
+shared-slice-read-count : tie.Need-shared-slice-read-count Inv-loop μ-loop
+shared-slice-read-count c = c .before .before .before .loop-test .taken
+
+cast-count : tie.Need-cast-count Inv-loop μ-loop
+cast-count c = omega (arith, c .shared-slice-known3 .given (c .before .before .before .before .loop .i))
+
+add-count-2 : tie.Need-add-count-2 Inv-loop μ-loop
+add-count-2 c = omega (arith, level-small (c .before .before .before) .0)
+
+mul-sum : tie.Need-mul-sum Inv-loop μ-loop
+mul-sum c = omega (arith, c .before .before .before .loop-test .taken, c .before .before .before .before .before .before .before .before .pre .0 .0 .cells .long, c .before .before .before .before .before .before .before .before .good)
+
+shared-slice-read-sum : tie.Need-shared-slice-read-sum Inv-loop μ-loop
+shared-slice-read-sum c = omega (arith, c .before .before .before .before .loop-test .taken, c .before .before .before .before .before .before .before .before .before .pre .0 .0 .cells .long)
+
+cast-sum : tie.Need-cast-sum Inv-loop μ-loop
+cast-sum c = omega (arith, c .shared-slice-known4 .given (c .before .before .before .before .before .loop .i))
+
+add-sum-2 : tie.Need-add-sum-2 Inv-loop μ-loop
+add-sum-2 c = omega (arith, level-small (c .before .before .before .before) .1)
+
+reached-requires : tie.Need-reached-requires Inv-loop μ-loop
+reached-requires c κs = (c .before .before .before .before .before .before .before .before .before .pre .0 .0 .small, level-small (c .before .before .before .before))
+
+passes-is : (c : tie.After-reached Inv-loop μ-loop) → c .reached .result ≡ passes (c .before .before .before .before .before .before .before .before .before .before .args .k) (c .before .before .before .before .before .before .before .before .before .before .args .counts .now) (c .before .before .before .before .before .before .before .before .before .before .args .sums .now) (c .before .before .before .before .before .before .loop .i)
+passes-is c = c .reached .ensures ∙ half-at (c .before .before .before .before .before .before .before .before .before .before .args .k) (c .before .before .before .before .before .before .loop .i) (after-level (c .before .before .before .before .before))
+
+cast-t22 : tie.Need-cast-t22 Inv-loop μ-loop
+cast-t22 c = omega (arith, c .before .before .before .before .before .before .loop-test .taken, c .before .before .before .before .before .before .before .before .before .before .before .pre .0 .0 .cells .levels)
+
+sub-ended : tie.Need-sub-ended Inv-loop μ-loop
+sub-ended c = c .before .before .before .before .before .before .before .loop .inv .from-low
+
+add-ended : tie.Need-add-ended Inv-loop μ-loop
+add-ended c = let st = c .before .before .before .before .before .before .before .before .before .before .before in omega (arith, c .before .before .before .before .before .before .loop-test .taken, st .pre .0 .0 .cells .levels, st .pre .1 .0 .1)
+
+ended-requires : tie.Need-ended-requires Inv-loop μ-loop
+ended-requires c κs = tt
+
+returns : tie.Need-returns Inv-loop μ-loop
+returns c =
+    let st = c .before .before .before .before .before .before .before .before .before .before .before .before in
+    let v = c .before .before .before .before .before .before .before .before .loop .inv in
+    let m = shifted (st .args .shifts) (st .args .from .0) (c .ended .ensures) (omega (arith, v .from-low)) (v .from-low) in
+    (found-at (c .ended .ensures) (v .fails) (c .before .before .before .before .before .before .before .loop-test .taken) (sym (passes-is (c .before .before)) ∙ c .before .if2 .taken) (after-level (c .before .before .before .before .before .before .before)), m .0, m .1)
+
+add-i-2 : tie.Need-add-i-2 Inv-loop μ-loop
+add-i-2 c = omega (arith, c .before .before .before .before .before .before .loop-test .taken, c .before .before .before .before .before .before .before .before .before .before .before .pre .0 .0 .cells .levels)
+
+loop-less-2 : tie.Need-loop-less-2 Inv-loop μ-loop
+loop-less-2 c = omega (arith, c .before .before .before .before .before .before .loop-test .taken)
+
+loop-again-2 : tie.Need-loop-again-2 Inv-loop μ-loop
+loop-again-2 c =
+    let v = c .before .before .before .before .before .before .before .loop .inv in
+    record { from-low = omega (arith, v .from-low); to = omega (arith, c .before .before .before .before .before .before .loop-test .taken); tally = after-level (c .before .before .before .before .before .before); fails = fail-next (v .fails) (sym (passes-is (c .before)) ∙ c .if2 .left) }
+
+cast-t27 : tie.Need-cast-t27 Inv-loop μ-loop
+cast-t27 c = omega (arith, c .before .loop .inv .to, c .before .before .before .before .before .pre .0 .0 .cells .levels)
+
+sub-ended-2 : tie.Need-sub-ended-2 Inv-loop μ-loop
+sub-ended-2 c = c .before .loop .inv .from-low
+
+add-ended-2 : tie.Need-add-ended-2 Inv-loop μ-loop
+add-ended-2 c = let st = c .before .before .before .before .before in omega (arith, c .before .loop .inv .to, st .pre .0 .0 .cells .levels, st .pre .1 .0 .1)
 
 ended-requires-2 : tie.Need-ended-requires-2 Inv-loop μ-loop
 ended-requires-2 c κs = tt
 
 returns-2 : tie.Need-returns-2 Inv-loop μ-loop
-returns-2 c = absurd (fail-all (c .before .before .before .before .before .before .pre .0) (c .before .loop-test .left) (c .before .before .loop .inv .fails))
+returns-2 c = absurd (fail-all (c .before .before .before .before .before .before .pre .0 .0) (c .before .loop-test .left) (c .before .before .loop .inv .fails))
 
 pub ascend-spec : {M : Type 1} → statement M
 ascend-spec =
@@ -84,24 +172,35 @@ ascend-spec =
     (tie.spec
     Inv-loop
     μ-loop
-    cast-i
+    cast-first
     loop-holds
+    light-requires
+    total-requires
+    add-count
+    total-requires-2
+    add-sum
+    add-i
+    loop-less
+    loop-again
     mul-count
     shared-slice-read-count
     cast-count
-    add-count
+    add-count-2
     mul-sum
     shared-slice-read-sum
     cast-sum
-    add-sum
+    add-sum-2
     reached-requires
-    cast-t19
+    cast-t22
+    sub-ended
+    add-ended
     ended-requires
     returns
-    add-i
-    add-n
-    loop-less
-    loop-again
-    cast-t21
+    add-i-2
+    loop-less-2
+    loop-again-2
+    cast-t27
+    sub-ended-2
+    add-ended-2
     ended-requires-2
     returns-2)
