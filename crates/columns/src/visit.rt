@@ -1,11 +1,12 @@
 // Way 2 at a pixel: entered from nothing, or come to from a neighbour. The state goes in and out by value; the store is the caller's.
 use crate::store;
 use levels::answer;
+use levels::tally;
 use levels::tally::Tally;
-use levels::totals;
 use spec::Level;
 use spec::Plan;
 use window::line;
+use window::line::Step;
 use window::sums;
 use window::sums::Sums;
 ghost use mathlib.Core.Path.{_≡_};
@@ -17,7 +18,7 @@ ghost use Rattle.spec.specs.Checks.{Planned};
 ghost use Rattle.spec.specs.Frame.{frameOf};
 ghost use Rattle.window.specs.Line.{Adjacent};
 ghost use Rattle.window.specs.Sums.{SumsAt};
-ghost use Rattle.levels.specs.Tally.{BelowAt};
+ghost use Rattle.levels.specs.Tally.{BelowAt, Carries};
 ghost use Rattle.columns.specs.Visit.{storeAt, Standing, Visited, Arrived};
 
 // The window's sums, its tally of the levels up to the cut point, the cut point, the shift count, and the answer.
@@ -51,22 +52,23 @@ pub fn tally_below(file: &[u8], z: Plan, numbers: &[u32], s: usize, t: usize, en
     )
 }
 
-// The window's answer, its store, its sums and its tally being made.
+// The window's answer, its store and its sums being made; before is the tally of the window that the step d came from.
 pub fn answer_at(
     file: &[u8],
     z: Plan,
     numbers: &[u32],
+    d: Step,
     s: usize,
     t: usize,
     a: Sums,
-    below: Tally,
+    before: Tally,
     cut: Level,
     shifts: u64,
 ) -> Visit
     requires { ⌜ (Planned (now file) z) × (z .kind ≡ 2) ⌝ }
     requires { ⌜ (s < z .width) × (t < z .height) × (cut .0 < z .levels) × (shifts ≤ 4294967296) ⌝ }
     requires { ⌜ now numbers ≡ storeAt (frameOf (now file)) s t (now numbers) ⌝ }
-    requires { ⌜ (SumsAt (frameOf (now file)) s t a) × (BelowAt (frameOf (now file)) s t (cut .0 + 1) below) ⌝ }
+    requires { ⌜ (SumsAt (frameOf (now file)) s t a) × (Carries (now file) z d s t (cut .0 + 1) before) ⌝ }
     ensures { λ v. ⌜ Visited (frameOf (now (file .entry))) s t (cut .0) shifts v ⌝ }
 {
     let l = z.levels;
@@ -78,10 +80,11 @@ pub fn answer_at(
         z,
         &numbers[at..middle],
         &numbers[middle..last],
+        d,
         s,
         t,
         a,
-        below,
+        before,
         cut,
         shifts,
     );
@@ -114,7 +117,8 @@ pub fn enter(
     store::start(file, z, numbers, s, t);
     let a = sums::start(file, z, s, t);
     let below = tally_below(file, z, numbers, s, t, cut.0 as usize + 1);
-    answer_at(file, z, numbers, s, t, a, below, cut, shifts)
+    let still = tally::still();
+    answer_at(file, z, numbers, still, s, t, a, below, cut, shifts)
 }
 
 // From (s, t) to the neighbour (s2, t2).
@@ -137,9 +141,7 @@ pub fn slide(
     let a = v.sums;
     let b = v.below;
     let cut = v.cut;
-    let r = totals::moved(file, z, a, b, step, cut.0 as usize + 1);
-    let sums2 = r.sums;
-    let below = r.below;
+    let sums2 = sums::moved(file, z, a, step);
     store::slide(file, z, numbers, s, t, s2, t2);
-    answer_at(file, z, numbers, s2, t2, sums2, below, cut, v.shifts)
+    answer_at(file, z, numbers, step, s2, t2, sums2, b, cut, v.shifts)
 }

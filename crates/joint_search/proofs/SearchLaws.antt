@@ -246,22 +246,6 @@ module _ {b : List ℕ} {z : Plan} {s t : ℕ} {xs ws row : List ℕ} {w : Formu
   descended-median {c} {r} h e d =
       sym (median-here (frameOf b) s t (monotone-none (spot (rd .counted)) e) r (omega (arith, d .upto)) (d .here) (λ j q. d .below j (q ∙ sym (add-one j))))
 
-  pub zero-median : {r n n′ : ℕ} → Climbed (frameOf b) s t 0 r n n′ → r ≡ median (frameOf b) s t
-  zero-median {r} cl = sym (median-is (frameOf b) s t r (cl .level) (cl .here) (λ i u. cl .before i (omega arith) u))
-
-  pub first-is : (x y v : ℤ) → x ≡ totalWeight (frameOf b) s t → y ≡ levelWeight (frameOf b) s t 0 → v ≡ pos 2 *ℤ toZ w64 (ofZ w64 y) -ℤ toZ w64 (ofZ w64 x) → v ≡ balance (frameOf b) s t 0
-  first-is x y v ex ey e =
-      e ∙ ap₂ (λ (p q : ℤ). pos 2 *ℤ p -ℤ q)
-      (ap (λ (q : ℤ). toZ w64 (ofZ w64 q)) ey ∙ read-bounded w64 {z = levelWeight (frameOf b) s t 0} 173129780571075 (level-abs (spot (rd .counted)) 0) tt)
-      (ap (λ (q : ℤ). toZ w64 (ofZ w64 q)) ex ∙ read-bounded w64 {z = totalWeight (frameOf b) s t} 173129780571075 (total-abs (spot (rd .counted))) tt)
-      ∙ sym (balance-zero (frameOf b) s t)
-
-  pub asks-first : (x y : ℤ) → x ≡ totalWeight (frameOf b) s t → y ≡ levelWeight (frameOf b) s t 0 → (natAbs (toZ w64 (ofZ w64 x)) ≤ 173129780571075) × (natAbs (toZ w64 (ofZ w64 y)) ≤ 173129780571075)
-  asks-first x y ex ey = (
-    rw (ex, read-bounded w64 {z = totalWeight (frameOf b) s t} 173129780571075 (total-abs (spot (rd .counted))) tt) (total-abs (spot (rd .counted))),
-    rw (ey, read-bounded w64 {z = levelWeight (frameOf b) s t 0} 173129780571075 (level-abs (spot (rd .counted)) 0) tt) (level-abs (spot (rd .counted)) 0),
-  )
-
 -- ---- one shift for each level is the distance
 pub climbed-shifts : {p : Frame} {s t c r n n′ : ℕ} → Climbed p s t c r n n′ → n′ ≡ n + distance r c
 climbed-shifts k = omega (arith, k .from, k .shifts)

@@ -3,8 +3,8 @@
 use crate::find;
 use crate::visit::Visit;
 use levels::answer;
+use levels::tally;
 use levels::tally::Tally;
-use levels::totals;
 use spec::Level;
 use spec::Plan;
 use window::line::Step;
@@ -16,7 +16,8 @@ ghost use Rattle.spec.specs.Frame.{frameOf};
 ghost use Rattle.spec.specs.Checks.{Planned};
 ghost use Rattle.spec.specs.Joint.{balanceBox};
 ghost use Rattle.window.specs.Line.{Adjacent, stepOf};
-ghost use Rattle.levels.specs.Tally.{BelowAt};
+ghost use Rattle.window.specs.Sums.{SumsAt};
+ghost use Rattle.levels.specs.Tally.{BelowAt, Carries};
 ghost use Rattle.histogram.specs.Histogram.{Blank, Histogram};
 ghost use Rattle.joint_search.specs.Search.{Counted};
 ghost use Rattle.joint_search.specs.Arrive.{Guided, Answers};
@@ -32,12 +33,13 @@ pub fn tally_below(file: &[u8], z: Plan, numbers: &[u32], s: usize, t: usize, en
     answer::below(file, z, &numbers[0..l], &numbers[l..last], s, t, end)
 }
 
-// The window's answer, and the box moved to it.
+// The window's answer, and the box moved to it; before is the tally of the window that the step d came from.
 pub fn arrive(
     file: &[u8],
     z: Plan,
     a: Sums,
-    below: Tally,
+    before: Tally,
+    d: Step,
     s: usize,
     t: usize,
     cut: Level,
@@ -47,7 +49,8 @@ pub fn arrive(
     words: &[u64],
     numbers: &[u32],
 ) -> Visit
-    requires { ⌜ (Counted (now file) z s t (now counts) (now words)) × (z .kind ≡ 2) × (Guided (frameOf (now file)) s t (cut .0) a below (now numbers)) ⌝ }
+    requires { ⌜ (Counted (now file) z s t (now counts) (now words)) × (z .kind ≡ 2) × (Histogram (frameOf (now file)) s t (now numbers)) ⌝ }
+    requires { ⌜ (SumsAt (frameOf (now file)) s t a) × (Carries (now file) z d s t (cut .0 + 1) before) ⌝ }
     requires { ⌜ (cut .0 < z .levels) × (shifts ≤ 4294967296) × (now cells ≡ balanceBox (frameOf (now file)) s t (cut .0)) ⌝ }
     ensures { λ r. ⌜ Answers (frameOf (now (file .entry))) s t (cut .0) shifts r (now (cells .exit)) (now (numbers .entry)) ⌝ }
 {
@@ -58,10 +61,11 @@ pub fn arrive(
         z,
         &numbers[0..l],
         &numbers[l..last],
+        d,
         s,
         t,
         a,
-        below,
+        before,
         cut,
         shifts,
     );
@@ -97,11 +101,13 @@ pub fn enter(
     histogram::start(file, z, s, t, numbers);
     let a = sums::start(file, z, s, t);
     let below = tally_below(file, z, numbers, s, t, cut.0 as usize + 1);
+    let still = tally::still();
     arrive(
         file,
         z,
         a,
         below,
+        still,
         s,
         t,
         cut,
@@ -136,15 +142,14 @@ pub fn slide(
     let cut = v.cut;
     let before = v.sums;
     let low = v.below;
-    let r = totals::moved(file, z, before, low, d, cut.0 as usize + 1);
-    let a = r.sums;
-    let below = r.below;
+    let a = sums::moved(file, z, before, d);
     histogram::slide(file, z, d, s, t, s2, t2, numbers);
     arrive(
         file,
         z,
         a,
-        below,
+        low,
+        d,
         s2,
         t2,
         cut,

@@ -18,12 +18,12 @@ use Rattle.spec.proofs.Sums.{over-le}
 use Rattle.spec.proofs.Bounds.{pixelCount-high, guideSum-high}
 use Rattle.window.specs.declared.line.Line.{Line}
 use Rattle.window.specs.declared.line.Step.{Step}
-use Rattle.window.specs.Line.{InPlanes, Adjacent, stepOf, pixelOf}
-use Rattle.window.proofs.PixelLaws.{guide-byte}
+use Rattle.window.specs.Line.{InPlanes, Adjacent, stepOf, pixelOf, lineFold}
+use Rattle.window.proofs.PixelLaws.{guide-byte, plan-limits}
 use Rattle.window.proofs.FormLaws.{both-in}
-use Rattle.window.proofs.LineLaws.{line-none, line-more, step-sum}
+use Rattle.window.proofs.LineLaws.{line-none, line-more, lines-in, step-sum}
 use Rattle.levels.specs.declared.tally.Tally.{Tally}
-use Rattle.levels.specs.Tally.{belowSum, BelowAt, oneBelow, guideBelow, LineTally, TallyMovable, TallyMoved}
+use Rattle.levels.specs.Tally.{belowSum, BelowAt, oneBelow, guideBelow, LineTally, TallyMovable, TallyMoved, stillStep, Carries}
 
 abbrev tally : ℕ → ℕ → Tally
 tally n s = record { count = n; sum = s }
@@ -38,7 +38,7 @@ line-start b d n =
 
 module _ {b : List ℕ} {z : Plan} (pl : Planned b z) {d : Line} (ins : InPlanes z d) (n : ℕ) {k i f u v : ℕ} (h : k < d .count)
     (ei : i ≡ pixelLevel b (pixelOf d k)) (ef : f ≡ pixelGuide b (pixelOf d k)) (eu : u ≡ (if ltb i n then 1 else 0)) (ev : v ≡ (if ltb i n then f else 0)) where
-  guide-small : f ≤ 255
+  pub guide-small : f ≤ 255
   guide-small = guide-byte pl (ins .inside k h) ef
 
   pub parts-small : (u ≤ 1) × (v ≤ 255)
@@ -83,3 +83,33 @@ module _ {b : List ℕ} {z : Plan} (pl : Planned b z) {s t s′ t′ : ℕ} (adj
   pub tally-moved : {r : Tally} → TallyMoved b d n a r → BelowAt (frameOf b) s′ t′ n r
   unfolding belowSum
   tally-moved m = record { count = omega (arith, step-sum pl adj ed (oneBelow n), v .count, m .count); sum = omega (arith, step-sum pl adj ed (guideBelow n), v .sum, m .sum) }
+
+-- ---- a tally to be carried over a step, or over none
+pub carries-step : {b : List ℕ} {z : Plan} → Planned b z → {s t s′ t′ : ℕ} → Adjacent z s t s′ t′ → {n : ℕ} {a : Tally} → BelowAt (frameOf b) s t n a → {d : Step} → d ≡ stepOf z s t s′ t′
+    → Carries b z d s′ t′ n a
+carries-step pl adj v ed = record { inside = rw ed (lines-in (plan-limits pl) adj); movable = tally-movable pl adj v ed; moved = λ r m. tally-moved pl adj v ed m }
+
+module _ {b : List ℕ} {z : Plan} (pl : Planned b z) where
+  nothing : (h : ℕ → ℕ → ℕ) → lineFold _+_ 0 b (stillStep .leaving) h ≡ 0
+  nothing h = line-none _+_ 0 b (stillStep .leaving) h
+
+  still-in : InPlanes z (stillStep .leaving)
+  still-in = record { inside = λ i l. absurd (omega arith); near = omega arith; few = omega arith }
+
+  pub carries-still : {s t n : ℕ} {a : Tally} → s < z .width → t < z .height → BelowAt (frameOf b) s t n a → {d : Step} → d ≡ stillStep → Carries b z d s t n a
+  carries-still {s} {t} {n} hs ht v e =
+      let k = pixel-of pl hs ht in
+      rw e
+      (record {
+        inside = record { leaving = still-in; entering = still-in };
+        movable = record {
+          count-high = le-trans (le-of-eq (v .count)) (below-count-high k n);
+          sum-high = le-trans (le-of-eq (v .sum)) (below-guide-high k n);
+          count-enough = omega (arith, nothing (oneBelow n));
+          sum-enough = omega (arith, nothing (guideBelow n));
+        };
+        moved = λ r m. record {
+          count = omega (arith, m .count, v .count, nothing (oneBelow n));
+          sum = omega (arith, m .sum, v .sum, nothing (guideBelow n));
+        };
+      })

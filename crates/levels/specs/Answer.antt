@@ -8,6 +8,7 @@ use Rattle.spec.specs.Frame.{Frame, guide}
 use Rattle.spec.specs.Window.{levelSum}
 use Rattle.spec.specs.Walk.{arrive}
 use Rattle.levels.specs.declared.answer.Arrival.{Arrival}
+use Rattle.levels.specs.declared.search.Found.{Found}
 use Rattle.levels.specs.Tally.{BelowAt}
 
 -- the two lists are those of the window at (s, t)
@@ -16,6 +17,9 @@ pub record Profiled (p : Frame) (s t : ℕ) (counts sums : List ℕ) : Type 0 wh
   pub sum-long : length sums ≡ p .set .levels
   pub count-cell : (i : ℕ) → i < p .set .levels → getD counts i 0 ≡ levelSum p s t (λ x y. 1) i
   pub sum-cell : (i : ℕ) → i < p .set .levels → getD sums i 0 ≡ levelSum p s t (guide p) i
+
+abbrev pub arrivalOf : Found → Arrival
+arrivalOf f = record { below = f .tally; level = f .level; shifts = f .shifts }
 
 -- come to (s, t) with the cut point c and the shift count n: the answer is the new cut point, and the tally is that of the levels up to it
 pub record Answered (p : Frame) (s t c n : ℕ) (r : Arrival) : Type 0 where

@@ -4,12 +4,13 @@ use mathlib.Core.Path.{_≡_}
 use mathlib.Core.List.{List}
 use Prim.Native.Nat.{ℕ, _+_, _*_, _≤_}
 use lib.Dec.{ltb}
+use Rattle.spec.specs.declared.Plan.{Plan}
 use Rattle.spec.specs.Base.{if_then_else_}
-use Rattle.spec.specs.Frame.{Frame, level, guide}
+use Rattle.spec.specs.Frame.{Frame, level, guide, frameOf}
 use Rattle.spec.specs.Window.{Σ}
 use Rattle.window.specs.declared.line.Line.{Line}
 use Rattle.window.specs.declared.line.Step.{Step}
-use Rattle.window.specs.Line.{lineFoldTo, lineFold}
+use Rattle.window.specs.Line.{StepInPlanes, lineFoldTo, lineFold}
 use Rattle.levels.specs.declared.tally.Tally.{Tally}
 
 -- the sum of f over the window's pixels of a level below n
@@ -44,3 +45,13 @@ pub record TallyMovable (b : List ℕ) (d : Step) (n : ℕ) (a : Tally) : Type 0
 pub record TallyMoved (b : List ℕ) (d : Step) (n : ℕ) (a r : Tally) : Type 0 where
   pub count : r .count + lineFold _+_ 0 b (d .leaving) (oneBelow n) ≡ a .count + lineFold _+_ 0 b (d .entering) (oneBelow n)
   pub sum : r .sum + lineFold _+_ 0 b (d .leaving) (guideBelow n) ≡ a .sum + lineFold _+_ 0 b (d .entering) (guideBelow n)
+
+-- a step that moves nothing
+abbrev pub stillStep : Step
+stillStep = record { leaving = record { first = 0; stride = 0; count = 0 }; entering = record { first = 0; stride = 0; count = 0 } }
+
+-- a tally of the window that the step d comes from: carried over d, it is that of the window at (s, t)
+pub record Carries (b : List ℕ) (z : Plan) (d : Step) (s t n : ℕ) (a : Tally) : Type 0 where
+  pub inside : StepInPlanes z d
+  pub movable : TallyMovable b d n a
+  pub moved : (r : Tally) → TallyMoved b d n a r → BelowAt (frameOf b) s t n r

@@ -3,4 +3,3 @@ pub mod answer;
 pub mod block;
 pub mod search;
 pub mod tally;
-pub mod totals;

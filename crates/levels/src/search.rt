@@ -8,7 +8,7 @@ ghost use mathlib.Core.Path.{_≡_};
 ghost use mathlib.Core.Bool.{true};
 ghost use Prim.Native.Nat.{_+_, _<_, _≤_};
 ghost use lib.ListN.{length};
-ghost use Rattle.spec.specs.Base.{distance, if_then_else_};
+ghost use Rattle.spec.specs.Base.{distance};
 ghost use Rattle.window.specs.Coefficients.{CoefficientsSmall};
 ghost use Rattle.levels.specs.Block.{Heaviest};
 ghost use Rattle.levels.specs.Search.{foundAt, TallyTo, half, passes, LevelCells, Searchable, Rising, FoundAt, FailTo};
@@ -157,28 +157,4 @@ pub fn from_cut(
         return descend(counts, sums, k, cut, a, shifts);
     }
     ascend(counts, sums, k, heaviest, Level(cut.0 + 1), a, shifts + 1)
-}
-
-// From the cut point where the window is monotone, else from level 0.
-pub fn find(
-    counts: &[u32],
-    sums: &[u32],
-    k: Coefficients,
-    heaviest: i64,
-    monotone: bool,
-    cut: Level,
-    a: Tally,
-    shifts: u64,
-) -> Found
-    requires { ⌜ (Searchable k (now counts) (now sums)) × (Heaviest k (now counts) (now sums) heaviest) ⌝ }
-    requires { ⌜ (cut .0 < length (now counts)) × (shifts ≤ 4294967296) ⌝ }
-    requires { ⌜ TallyTo (now counts) (now sums) (cut .0 + 1) a ⌝ }
-    requires { ⌜ (monotone ≡ true → Rising k (now counts) (now sums)) ⌝ }
-    ensures { λ f. ⌜ (FoundAt k (now (counts .entry)) (now (sums .entry)) f) × (f .shifts ≡ shifts + (if monotone then distance (f .level .0) (cut .0) else f .level .0)) ⌝ }
-{
-    if monotone {
-        return from_cut(counts, sums, k, heaviest, cut, a, shifts);
-    }
-    let none = Tally { count: 0, sum: 0 };
-    ascend(counts, sums, k, heaviest, Level(0), none, shifts)
 }

@@ -2,6 +2,7 @@
 use Prim.Native.Nat.{_-_}
 use native.Mathlib.Omega.{arith}
 use Rattle.spec.specs.Frame.{frameOf}
+use Rattle.levels.proofs.TallyLaws.{carries-still}
 use Rattle.columns.proofs.VisitLaws.{made, made-self, room-long}
 use borrow.Author.Needs.{needs}
 use Rattle.columns.proofs.visit.enter.Statement.{statement}
@@ -22,14 +23,35 @@ add-tally-below c = search needs
 tally-below-requires : tie.Need-tally-below-requires
 tally-below-requires c κs = let st = c .before .before .before .before .before .before .before .before .before in (st .pre .0 .0, ((st .pre .1 .0 .0, st .pre .1 .0 .1, omega (arith, st .pre .1 .0 .2)), made-self (frameOf (st .args .file .now)) (st .args .s) (st .args .t) _ _ (c .before .before .before .before .before .start .ensures)))
 
+still-requires : tie.Need-still-requires
+still-requires c κs = tt
+
 answer-at-requires : tie.Need-answer-at-requires
-answer-at-requires c κs = let st = c .before .before .before .before .before .before .before .before .before .before .before in (st .pre .0, (st .pre .1 .0, (made-self (frameOf (st .args .file .now)) (st .args .s) (st .args .t) _ _ (c .before .before .before .before .before .before .before .start .ensures), (c .before .before .before .before .start2 .ensures, c .before .tally-below .ensures))))
+answer-at-requires c κs =
+    let w = c .before .before in
+    let a = w .before .before .before in
+    let k = a .before .before .before in
+    let st = k .before .before .before .before in
+    let hs = st .pre .1 .0 .0 in
+    let ht = st .pre .1 .0 .1 in (
+      st .pre .0,
+      (
+        st .pre .1 .0,
+        (
+          made-self (frameOf (st .args .file .now)) (st .args .s) (st .args .t) _ _ (k .start .ensures),
+          (a .start2 .ensures, carries-still (st .pre .0 .0) hs ht (w .tally-below .ensures) (c .before .still .ensures)),
+        ),
+      ),
+    )
 
 same-length : tie.Need-same-length
 same-length c = search needs
 
 returns : tie.Need-returns
-returns c = let st = c .before .before .before .before .before .before .before .before .before .before .before .before in record { visited = c .answer-at .ensures; store = made (frameOf (st .args .file .now)) (st .args .s) (st .args .t) _ _ (c .before .before .before .before .before .before .before .before .start .ensures) }
+returns c =
+    let k = c .before .before .before .before .before .before .before .before .before in
+    let st = k .before .before .before .before in
+    record { visited = c .answer-at .ensures; store = made (frameOf (st .args .file .now)) (st .args .s) (st .args .t) _ _ (k .start .ensures) }
 
 pub enter-spec : {M : Type 1} → statement M
 enter-spec =
@@ -40,6 +62,7 @@ enter-spec =
     cast-tally-below
     add-tally-below
     tally-below-requires
+    still-requires
     answer-at-requires
     same-length
     returns)

@@ -10,7 +10,7 @@ use Rattle.joint_search.proofs.guided.arrive.Statement.{statement}
 use Rattle.joint_search.proofs.guided.arrive.Tie as tie
 
 long : (at : tie.Start) → at .args .z .levels + at .args .z .levels ≤ length (at .args .numbers .now)
-long at = numbers-long (at .pre .0 .0 .planned) (at .pre .0 .2 .histogram) refl refl
+long at = numbers-long (at .pre .0 .0 .planned) (at .pre .0 .2) refl refl
 
 abbrev start : tie.After-answer → tie.Start
 start r = r .before .before .before .before .before .before .before
@@ -43,15 +43,15 @@ answer-requires : tie.Need-answer-requires
 answer-requires c κs =
     let at = c .before .before .before .before .before .before in
     let k = at .pre .0 .0 in
-    let g = at .pre .0 .2 in
-    ((k .planned, at .pre .0 .1), ((k .column, k .row, at .pre .1 .0, at .pre .1 .1), (profiled (k .planned) (g .histogram) refl refl, (g .sums, g .below))))
+    let g = at .pre .1 .1 in
+    ((k .planned, at .pre .0 .1), ((k .column, k .row, g .0, g .1), (profiled (k .planned) (at .pre .0 .2) refl refl, at .pre .1 .0)))
 
 move-to-requires : tie.Need-move-to-requires
 move-to-requires c κs =
     let r = c .before .before .before in
     let at = start r in
     let k = at .pre .0 .0 in
-    (k, (level-in (k .planned) (at .pre .1 .0), answer-low (k .planned) (k .column) (k .row) (at .pre .0 .1) (r .answer .ensures), at .pre .1 .2))
+    (k, (level-in (k .planned) (at .pre .1 .1 .0), answer-low (k .planned) (k .column) (k .row) (at .pre .0 .1) (r .answer .ensures), at .pre .1 .1 .2))
 
 returns : tie.Need-returns
 returns c =
@@ -60,7 +60,7 @@ returns c =
     let h = r .answer .ensures in
     record {
       same = record { answer = h .said; cut = h .cut; shifts = h .shifts; box = c .move-to .ensures };
-      guided = record { sums = at .pre .0 .2 .sums; below = h .below; histogram = at .pre .0 .2 .histogram };
+      guided = record { sums = at .pre .1 .0 .0; below = h .below; histogram = at .pre .0 .2 };
     }
 
 pub arrive-spec : {M : Type 1} → statement M

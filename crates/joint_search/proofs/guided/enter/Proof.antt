@@ -1,6 +1,7 @@
 -- `enter` meets its contract: histogram, sums and tally are made, then the window answers. Assumes nothing.
 use borrow.Author.Needs.{needs}
 use native.Mathlib.Omega.{arith}
+use Rattle.levels.proofs.TallyLaws.{carries-still}
 use Rattle.joint_search.proofs.guided.enter.Statement.{statement}
 use Rattle.joint_search.proofs.guided.enter.Tie as tie
 
@@ -29,13 +30,18 @@ tally-below-requires c κs =
     let k = at .pre .0 .0 in
     ((k .planned, k .column, k .row, omega (arith, at .pre .1 .0)), h .start .ensures)
 
+still-requires : tie.Need-still-requires
+still-requires c κs = tt
+
 arrive-requires : tie.Need-arrive-requires
 arrive-requires c κs =
-    let w = c .before .before in
+    let e = c .before .before in
+    let w = e .before in
     let a = w .before .before .before in
     let h = a .before .before .before in
     let at = begin h in
-    ((at .pre .0 .0, at .pre .0 .1, record { sums = a .start2 .ensures; below = w .tally-below .ensures; histogram = h .start .ensures }), at .pre .1)
+    let k = at .pre .0 .0 in
+    ((k, at .pre .0 .1, h .start .ensures), ((a .start2 .ensures, carries-still (k .planned) (k .column) (k .row) (w .tally-below .ensures) (e .still .ensures)), at .pre .1))
 
 same-length : tie.Need-same-length
 same-length c = search needs
@@ -52,6 +58,7 @@ enter-spec =
     cast-tally-below
     add-tally-below
     tally-below-requires
+    still-requires
     arrive-requires
     same-length
     returns)

@@ -1,7 +1,7 @@
--- `slide` meets its contract: sums, tally and histogram are carried on, then the window answers. Assumes nothing.
+-- `slide` meets its contract: sums and histogram are carried on, then the window answers. Assumes nothing.
 use borrow.Author.Needs.{needs}
 use Rattle.window.proofs.SumLaws.{movable, moved-at}
-use Rattle.levels.proofs.TallyLaws.{tally-movable, tally-moved}
+use Rattle.levels.proofs.TallyLaws.{carries-step}
 use Rattle.joint_search.proofs.VisitLaws.{step-in}
 use Rattle.joint_search.proofs.guided.slide.Statement.{statement}
 use Rattle.joint_search.proofs.guided.slide.Tie as tie
@@ -9,42 +9,29 @@ use Rattle.joint_search.proofs.guided.slide.Tie as tie
 abbrev begin : tie.After-low → tie.Start
 begin l = l .before .before .before .before .before .before .before
 
-cast-moved : tie.Need-cast-moved
-cast-moved c = search needs
-
-add-moved : tie.Need-add-moved
-add-moved c = search needs
-
 moved-requires : tie.Need-moved-requires
 moved-requires c κs =
-    let at = begin (c .before) in
+    let at = begin c in
     let pl = at .pre .0 .0 .planned in
     let adj = at .pre .0 .2 in
     let e = at .pre .0 .3 in
-    (pl, (step-in pl adj e, (movable pl adj (at .pre .1 .0 .sums) e, tally-movable pl adj (at .pre .1 .0 .below) e)))
+    (pl, (step-in pl adj e, movable pl adj (at .pre .1 .0 .sums) e))
 
 slide-requires : tie.Need-slide-requires
 slide-requires c κs =
-    let at = begin (c .before .before .before .before .before) in
+    let at = begin (c .before .before) in
     ((at .pre .0 .0 .planned, at .pre .0 .2, at .pre .0 .3), at .pre .1 .0 .histogram)
 
 arrive-requires : tie.Need-arrive-requires
 arrive-requires c κs =
     let h = c .before .before .before .before in
-    let m = h .before .before .before .before in
-    let at = begin (m .before .before) in
+    let m = h .before .before in
+    let at = begin (m .before) in
     let pl = at .pre .0 .0 .planned in
     let adj = at .pre .0 .2 in
     let e = at .pre .0 .3 in
     let was = at .pre .1 .0 in
-    (
-      (
-        at .pre .0 .0,
-        at .pre .0 .1,
-        record { sums = moved-at pl adj (was .sums) e (m .moved .ensures .0); below = tally-moved pl adj (was .below) e (m .moved .ensures .1); histogram = h .slide .ensures },
-      ),
-      at .pre .1 .1,
-    )
+    ((at .pre .0 .0, at .pre .0 .1, h .slide .ensures), ((moved-at pl adj (was .sums) e (m .moved .ensures), carries-step pl adj (was .below) e), at .pre .1 .1))
 
 same-length : tie.Need-same-length
 same-length c = search needs
@@ -54,5 +41,4 @@ returns c = c .arrive .ensures
 
 pub slide-spec : {M : Type 1} → statement M
 slide-spec =
-    tie.close
-    (tie.spec cast-moved add-moved moved-requires slide-requires arrive-requires same-length returns)
+    tie.close (tie.spec moved-requires slide-requires arrive-requires same-length returns)
