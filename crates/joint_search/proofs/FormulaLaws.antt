@@ -40,18 +40,9 @@ module _ (w : Formula) (sm : Small w) where
   level-value r d a hd ha s e =
       toZ-ofZ (record { sfits = s }) ∙ (rw (slope-back, offset-back, natural d hd, natural a (omega arith)) at e)
 
-  wide : (x : ℤ) → natAbs x ≤ 62979135 → toZ w64 (ofZ w64 (toZ w32 (ofZ w32 x))) ≡ x
-  wide x h = ap (λ (q : ℤ). toZ w64 (ofZ w64 q)) (read-bounded w32 {z = x} 62979135 h tt) ∙ read-bounded w64 {z = x} 62979135 h tt
-
-  pub box-asks : (d a : ℤ) → natAbs d ≤ 62979135 → natAbs a ≤ 961
-      → (natAbs (toZ w64 (ofZ w64 (w .slope))) ≤ 235497855) × (natAbs (toZ w64 (ofZ w64 (w .offset))) ≤ 180155859075) × (natAbs (toZ w64 (ofZ w64 (toZ w32 (ofZ w32 d)))) ≤ 62979135)
-      × (natAbs (toZ w64 (ofZ w64 (toZ w32 (ofZ w32 a)))) ≤ 961)
-  box-asks d a hd ha = (rw slope-back (sm .slope), rw offset-back (sm .offset), rw (wide d hd) hd, rw (wide a (omega arith)) ha)
-
-  pub box-value : (r d a : ℤ) → natAbs d ≤ 62979135 → natAbs a ≤ 961 → mag r < 2 ^ hbits w64
-      → r ≡ toZ w64 (ofZ w64 (w .slope)) *ℤ toZ w64 (ofZ w64 (toZ w32 (ofZ w32 d))) +ℤ toZ w64 (ofZ w64 (w .offset)) *ℤ toZ w64 (ofZ w64 (toZ w32 (ofZ w32 a)))
-      → toZ w64 (ofZ w64 r) ≡ w .slope *ℤ d +ℤ w .offset *ℤ a
-  box-value r d a hd ha s e = toZ-ofZ (record { sfits = s }) ∙ (rw (slope-back, offset-back, wide d hd, wide a (omega arith)) at e)
+-- ---- from 32 bits to 64
+pub wide : (x : ℤ) → natAbs x ≤ 62979135 → toZ w64 (ofZ w64 (toZ w32 (ofZ w32 x))) ≡ x
+wide x h = ap (λ (q : ℤ). toZ w64 (ofZ w64 q)) (read-bounded w32 {z = x} 62979135 h tt) ∙ read-bounded w64 {z = x} 62979135 h tt
 
 pub narrow : (d : ℤ) → natAbs d ≤ 62979135 → SFits w64 (toZ w32 (ofZ w32 d))
 narrow d h = rw (read-bounded w32 {z = d} 62979135 h tt) (sfits-abs 62979135 h tt)

@@ -1,6 +1,6 @@
 pub mod ScanLaws
 pub mod ShiftLaws
-pub mod SumLaws
+pub mod BoxLaws
 pub mod FormulaLaws
 pub mod FewLaws
 pub mod SearchLaws

@@ -1,6 +1,6 @@
 // One form for the weights of both kinds: guide f weighs slope times its number in a row of 16-bit numbers, and offset. Kind 1: the table's row with
 // slope 1 and offset 0; kind 2: the numbers 0 1 2 .. with the window's two coefficients.
-use crate::box_sums;
+use crate::box_dot;
 use crate::level;
 use spec::Level;
 ghost use mathlib.Core.Path.{_≡_};
@@ -40,13 +40,12 @@ pub fn level_weight(
     combine(w.slope, w.offset, e.dot as i64, e.pixels as i64)
 }
 
-// The balance at the box's cut point.
+// The balance at the box's cut point, by a row of the table.
 pub fn box_balance(cells: &[i16; 256], weights: &[u16], w: Formula, m: usize) -> i64
-    requires { ⌜ (m ≤ 256) × (Row m (w .row) (now weights)) × (BoxLow (now cells)) × (Small w) ⌝ }
+    requires { ⌜ (m ≤ 256) × (Row m (w .row) (now weights)) × (BoxLow (now cells)) × (w .slope ≡ pos 1) × (w .offset ≡ pos 0) ⌝ }
     ensures { λ r. ⌜ r ≡ w .slope *ℤ boxDot (now (cells .entry)) (now (weights .entry)) (w .row) m +ℤ w .offset *ℤ boxAll (now (cells .entry)) m ⌝ }
 {
-    let e = box_sums::box_sums(cells, weights, w.row, m);
-    combine(w.slope, w.offset, e.dot as i64, e.all as i64)
+    box_dot::box_dot(cells, weights, w.row, m) as i64
 }
 
 // A balance with a level's weight more or less on both sides: by is 2 or -2.

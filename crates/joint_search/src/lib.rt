@@ -2,7 +2,7 @@
 pub mod answer;
 pub mod arrive;
 pub mod balance;
-pub mod box_sums;
+pub mod box_dot;
 pub mod find;
 pub mod formula;
 pub mod guided;

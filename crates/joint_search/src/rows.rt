@@ -8,6 +8,7 @@ ghost use mathlib.Core.Path.{_≡_};
 ghost use mathlib.Core.List.{_++_};
 ghost use Prim.Native.Nat.{_<_, _≤_};
 ghost use lib.ListN.{length, drop};
+ghost use lib.IntN.{pos};
 ghost use Rattle.spec.specs.Frame.{frameOf};
 ghost use Rattle.spec.specs.Checks.{Planned};
 ghost use Rattle.frame.specs.Weights.{weightCount, tableList};
@@ -41,7 +42,7 @@ pub fn decode_rows(file: &[u8], z: Plan, out: &mut [u16])
 pub fn table_formula(file: &[u8], z: Plan, weights: &[u16], s: usize, t: usize) -> Formula
     requires { ⌜ (Planned (now file) z) × (z .kind ≡ 1) × (s < z .width) × (t < z .height) ⌝ }
     requires { ⌜ now weights ≡ tableList (now file) ++ drop (weightCount (now file)) (now weights) ⌝ }
-    ensures { λ r. ⌜ Weighs (frameOf (now (file .entry))) s t (now (weights .entry)) r ⌝ }
+    ensures { λ r. ⌜ (Weighs (frameOf (now (file .entry))) s t (now (weights .entry)) r) × (r .slope ≡ pos 1) × (r .offset ≡ pos 0) ⌝ }
 {
     let centre = pixel::guide_at(file, z, t * z.width + s);
     Formula {

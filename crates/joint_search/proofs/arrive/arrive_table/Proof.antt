@@ -18,7 +18,7 @@ abbrev start : tie.After-table-formula → tie.Start
 start e = e .before .before .before .before .before
 
 ready : (e : tie.After-table-formula) → Ready ((start e) .args .file .now) ((start e) .args .z) ((start e) .args .s) ((start e) .args .t) ((start e) .args .counts .now) ((start e) .args .words .now) ((start e) .args .weights .now) (e .table-formula .result)
-ready e = record { counted = (start e) .pre .0 .0; weighs = e .table-formula .ensures }
+ready e = record { counted = (start e) .pre .0 .0; weighs = e .table-formula .ensures .0 }
 
 here : (r : tie.After-box-balance) → toZ w64 (ofZ w64 (r .box-balance .result)) ≡ balance (frameOf ((start (r .before .before)) .args .file .now)) ((start (r .before .before)) .args .s) ((start (r .before .before)) .args .t) ((start (r .before .before)) .args .cut .0)
 here r =
@@ -33,7 +33,11 @@ table-formula-requires c κs =
     ((k .planned, at .pre .0 .2, k .column, k .row), at .pre .0 .1 .table (at .pre .0 .2))
 
 box-balance-requires : tie.Need-box-balance-requires
-box-balance-requires c κs = let e = c .before in let at = start e in asks-balance (ready e) (at .args .cut .0) _ (at .pre .1 .2)
+box-balance-requires c κs =
+    let e = c .before in
+    let at = start e in
+    let q = asks-balance (ready e) (at .args .cut .0) _ (at .pre .1 .2) in
+    (q .0, q .1, q .2, e .table-formula .ensures .1, e .table-formula .ensures .2)
 
 is-weightless-requires : tie.Need-is-weightless-requires
 is-weightless-requires c κs =

@@ -1,5 +1,6 @@
 -- `table_formula` meets its contract: the centre's guide chooses the row. Assumes nothing.
 use borrow.Author.Needs.{needs}
+use mathlib.Core.Path.{refl}
 use native.Mathlib.Omega.{arith}
 use Rattle.window.proofs.PixelLaws.{place-small}
 use Rattle.joint_search.proofs.RowLaws.{centre-place, row-small, row-weighs}
@@ -28,7 +29,7 @@ returns : tie.Need-returns
 returns c =
     let g = c .before .before in
     let at = g .before .before .before .before in
-    row-weighs (at .pre .0 .0) (at .pre .0 .2) (at .pre .0 .3) (g .guide-at .ensures) (at .pre .0 .1) (at .pre .1)
+    (row-weighs (at .pre .0 .0) (at .pre .0 .2) (at .pre .0 .3) (g .guide-at .ensures) (at .pre .0 .1) (at .pre .1), refl, refl)
 
 pub table-formula-spec : {M : Type 1} → statement M
 table-formula-spec =
