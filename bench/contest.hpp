@@ -13,7 +13,7 @@ enum Contest { JOINT_TABLE, JOINT_GUIDED, COLUMNS, CHAIN, CONTESTS };
 inline constexpr const char *NAMES[CONTESTS] = {"joint, kind 1", "joint, kind 2", "columns", "chain"};
 inline constexpr double NOT_TIMED = 0;
 // Every contestant has so many turns, and its best counts.
-inline constexpr int ROUNDS = 4;
+inline constexpr int ROUNDS = 6;
 
 // Processor time of this thread: all contestants run on it alone, and what the machine does for others
 // between is not theirs.
