@@ -5,7 +5,7 @@ use mathlib.Core.Logic.{_⊎_, inl, inr, ⊎-elim}
 use mathlib.Core.Bool.{Bool, true, false}
 use mathlib.Core.List.{List}
 use Prim.Native.Nat.{ℕ, zero, suc, _+_, _-_, _*_, _≤_, _<_}
-use native.Mathlib.Nat.{le-trans, add-zero, add-suc, add-assoc}
+use native.Mathlib.Nat.{add-zero, add-suc, add-assoc}
 use native.Mathlib.Numerals.{add-one}
 use native.Mathlib.Omega.{arith}
 use lib.Dec.{eqb, ltb}
@@ -13,7 +13,7 @@ use lib.ListN.{length, getD, set, length-set}
 use lib.Seq.{getD-set-same, getD-set-other}
 use borrow.Author.Tests.{eq-eqb, ne-eqb, eqb-true, eqb-false, lt-ltb, le-ltb}
 use Rattle.spec.specs.declared.Plan.{Plan}
-use Rattle.spec.specs.Base.{if_then_else_, sum, fold}
+use Rattle.spec.specs.Base.{if_then_else_, sum}
 use Rattle.spec.specs.Frame.{Frame, level, guide, pixelLevel, pixelGuide, frameOf}
 use Rattle.spec.specs.Checks.{Planned}
 use Rattle.spec.specs.Window.{Σ, span, levelSum}
@@ -24,7 +24,7 @@ use Rattle.window.specs.Line.{columnLine, InPlanes, StepInPlanes, Adjacent, ste
 use Rattle.window.proofs.PixelLaws.{plan-limits, place-small, level-low, guide-byte, levels-high}
 use Rattle.window.proofs.LineLaws.{line-none, line-more, fold-none, fold-more, columns-law, column-in, lines-in, step-sum}
 use Rattle.window.proofs.FormLaws.{both-in}
-use Rattle.window.proofs.SumLaws.{in-span, few-columns}
+use Rattle.window.proofs.SumLaws.{few-columns}
 use Rattle.histogram.specs.Histogram.{share, changed, Fits, Changed, Room, Passed, Blank, Filled, Histogram}
 
 eq-or-ne : (a b : ℕ) → (a ≡ b) ⊎ (a ≡ b → ⊥)

@@ -2,40 +2,38 @@
 -- Assumes nothing.
 use Prim.Native.Nat.{ℕ, _+_, _*_, _≤_, _<_}
 use mathlib.Core.Path.{_≡_, refl, ap, ap₂, sym, _∙_, subst}
-use mathlib.Core.Bool.{Bool, true, false}
+use mathlib.Core.Bool.{true, false}
 use mathlib.Core.Logic.{_⊎_, inl, inr}
 use mathlib.Core.List.{List, _++_}
 use native.Mathlib.Nat.{mul-le-mul}
 use native.Mathlib.Omega.{arith}
-use lib.IntN.{ℤ, pos}
+use lib.IntN.{pos}
 use lib.ListN.{length, take, drop, replicate, length-replicate, getD-replicate, take-append-drop}
 use Rattle.spec.specs.declared.Settings.{Settings}
 use Rattle.spec.specs.declared.Plan.{Plan}
-use Rattle.spec.specs.declared.Room.{Room}
 use Rattle.spec.specs.declared.Verdict.{Verdict}
 use Rattle.spec.specs.declared.Way.{Way}
 use Rattle.spec.specs.declared.Way.the-variants.{Joint, Columns, Chain}
 use Rattle.spec.specs.Refusal.{Outcome, accepted, fires, numbered, _▷_}
-use Rattle.spec.specs.Frame.{Frame, settingsOf, planOf, pixels, frameOf}
+use Rattle.spec.specs.Frame.{Frame, settingsOf, pixels, frameOf}
 use Rattle.spec.specs.Checks.{verdict, Planned}
 use Rattle.spec.specs.Walk.{State, walkEnd, walkAnswers}
 use Rattle.spec.specs.Filter.{filtered, filterEnd}
 use Rattle.spec.specs.Median.{balance}
-use Rattle.spec.specs.Calls.{wayOf, roomOf, countsOf, wordsOf, NumbersOf, walkChecks, walkOutcome, filterChecks, filterOutcome, balanceOutcome}
-use Rattle.spec.proofs.Limits.{Pixel}
-use Rattle.spec.proofs.Plans.{Facts, facts}
-use Rattle.spec.proofs.Calls.{way-serves, Fits, WalkAccepted, walk-accepted, FilterAccepted, filter-accepted, BalanceAccepted, balance-accepted}
+use Rattle.spec.specs.Calls.{wayOf, roomOf, countsOf, wordsOf, NumbersOf, walkOutcome, filterOutcome, balanceOutcome}
+use Rattle.spec.proofs.Plans.{facts}
+use Rattle.spec.proofs.Calls.{way-serves, Fits, walk-accepted, filter-accepted, balance-accepted}
 use Rattle.frame.specs.declared.plan.Opened.{Opened}
 use Rattle.frame.specs.Parts.{openedPlan}
 use Rattle.ice.specs.declared.Walked.{Walked}
 use Rattle.ice.specs.declared.Balanced.{Balanced}
 use Rattle.frame.specs.Weights.{weightCount}
-use Rattle.ways.specs.Visit.{settingsIn, Stores, stores, lent, Fit, Left, usedOf, Cleared, Serves}
+use Rattle.ways.specs.Visit.{settingsIn, Stores, stores, lent, Fit, Left, usedOf, Serves}
 use Rattle.ice.specs.Result.{Finished, Zeroed, isJoint}
 use Rattle.ice.specs.Contract.{Untouched, Ended, Walks, Filters, Balances}
 use Rattle.histogram.specs.Histogram.{Blank}
 use Rattle.ways.proofs.EachLaws.{settings-same, left-same}
-use Rattle.ice.proofs.OutcomeLaws.{set-of, stopped, passed-on, fires-not, quiet}
+use Rattle.ice.proofs.OutcomeLaws.{set-of, stopped, fires-not, quiet}
 
 -- an opened file that no check refuses has its plan
 pub planned-of : {b : List ℕ} (h : Opened) → (numbered (h .verdict) ≡ verdict b) × (h .plan ≡ openedPlan b) → fires (numbered (h .verdict)) ≡ false → Planned b (h .plan)

@@ -28,7 +28,8 @@ use Rattle.spec.proofs.Serpentine.{At, at-arrive, at-turn, columnAfter, visited
 use Rattle.ways.specs.declared.Visit.{Visit}
 use Rattle.ways.specs.Visit.{Stores, Left, Kept, stateOf, AtWindow, Visited}
 use Rattle.ice.proofs.WalkLoop.{held-first}
-use Rattle.ice.proofs.Laws.{left-same, left-trans, left-set, Going, going-start, going-more, going-end}
+use Rattle.ways.proofs.EachLaws.{left-same}
+use Rattle.ice.proofs.Laws.{left-trans, left-set, Going, going-start, going-more, going-end}
 
 -- ---- the plane, pixel by pixel, when i moves are done
 unfoldable pub Plane : Frame → List ℕ → ℕ → Type 0

@@ -1,40 +1,33 @@
 -- Stores over several calls, one byte of a walk, and the two loops: each loop's invariant and what a turn does to it, over plain values.
 -- Assumes nothing.
-use Prim.Native.Nat.{ℕ, zero, suc, _+_, _-_, _*_, _/_, _%_, _≤_, _<_}
+use Prim.Native.Nat.{ℕ, suc, _+_, _-_, _≤_, _<_}
 use mathlib.Core.Path.{_≡_, refl, ap, sym, _∙_, subst}
 use mathlib.Core.Bool.{Bool, true, false}
-use mathlib.Core.Logic.{_⊎_, inl, inr}
 use mathlib.Core.List.{List, [], _∷_, _++_, append-assoc}
 use native.Mathlib.Omega.{arith}
 use native.Mathlib.Numerals.{add-one}
-use lib.ListN.{length, getD, take, drop, set, length-append, length-take, length-drop, length-set}
-use lib.Seq.{take-suc, take-length, drop-cons, set-at, set-split, drop-set-lt}
+use lib.ListN.{length, getD, take, drop, set, length-set}
+use lib.Seq.{take-suc, take-length, drop-cons, set-at, drop-set-lt}
 use lib.IntN.{ℤ}
 use lib.Dec.{ltb, eqb}
-use borrow.Author.Tests.{ltb-true, eqb-true}
+use borrow.Author.Tests.{ltb-true}
 use Rattle.spec.specs.declared.Settings.{Settings}
 use Rattle.spec.specs.declared.Plan.{Plan}
 use Rattle.spec.specs.declared.Way.{Way}
-use Rattle.spec.specs.declared.Move.{Move}
 use Rattle.spec.specs.declared.Move.the-variants.{To, Nowhere}
 use Rattle.spec.specs.Base.{if_then_else_}
 use Rattle.spec.specs.Frame.{Frame, frameOf}
 use Rattle.spec.specs.Checks.{Planned}
-use Rattle.spec.specs.Walk.{State, arrive, toIf, move, follow, step, after, answers}
-use Rattle.spec.specs.Calls.{roomOf}
-use Rattle.spec.proofs.Limits.{FrameLimits, Pixel}
-use Rattle.spec.proofs.Plans.{Facts, facts}
-use Rattle.spec.proofs.Steps.{after-one, length-answers}
+use Rattle.spec.specs.Walk.{State, arrive, toIf, move, step, after, answers}
+use Rattle.spec.proofs.Plans.{facts}
+use Rattle.spec.proofs.Steps.{after-one}
 use Rattle.spec.proofs.Walks.{Held, held-step, step-to, step-nowhere}
 use Rattle.window.specs.Line.{Adjacent, right, left, down, up}
 use Rattle.ways.specs.declared.Visit.{Visit}
-use Rattle.ways.specs.Visit.{settingsIn, Stores, Fit, Left, usedOf, Kept, stateOf, Within, AtWindow, Visited, Carried}
-use Rattle.ways.proofs.EachLaws.{settings-same}
+use Rattle.ways.specs.Visit.{settingsIn, Stores, Fit, Left, usedOf, Kept, stateOf, Within, AtWindow, Visited}
+use Rattle.ways.proofs.EachLaws.{settings-same, left-same}
 
 -- ---- stores over several calls
-pub left-same : (n : ℕ) (a : List ℕ) → Left n a a
-left-same n a = record { long = refl; beyond = refl }
-
 pub left-trans : (n : ℕ) (a b c : List ℕ) → Left n a b → Left n b c → Left n a c
 left-trans n a b c x y = record { long = y .long ∙ x .long; beyond = y .beyond ∙ x .beyond }
 

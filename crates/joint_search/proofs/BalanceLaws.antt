@@ -16,7 +16,7 @@ use mir.Val.{hbits, toZ, ofZ}
 use mir.Facts.{toZ-ofZ, toZ-pos}
 use Rattle.ints.specs.Bound.{abs-add-le, abs-mul-le}
 use Rattle.ints.specs.Machine.{read-bounded}
-use Rattle.ints.specs.Polynomial.{Expr, Equation, _⊕_, _⊖_, _⊗_, opposite, #_, _≐_, solve2}
+use Rattle.ints.specs.Polynomial.{_⊕_, _⊖_, _⊗_, opposite, #_, _≐_, solve2}
 use Rattle.ints.specs.Ring.{mul-one, one-mul}
 use Rattle.spec.specs.declared.Plan.{Plan}
 use Rattle.spec.specs.Base.{sumℤ}

@@ -9,12 +9,12 @@ use native.Mathlib.Nat.{zero-add, le-trans, le-refl, mul-le-mul, suc-mul}
 use native.Mathlib.Numerals.{add-one}
 use native.Mathlib.Omega.{arith}
 use lib.ListN.{length, getD}
-use lib.IntN.{ℤ, pos, negsuc, natAbs, _+ℤ_, _-ℤ_, _*ℤ_}
+use lib.IntN.{ℤ, pos, negsuc, natAbs, _+ℤ_, _*ℤ_}
 use lib.Signed.{_<ℤ_, mag, clashℤ}
 use mir.Syntax.{w64}
 use mir.Val.{hbits, toZ, ofZ}
 use mir.Facts.{toZ-ofZ}
-use Rattle.ints.specs.Polynomial.{Expr, Equation, _⊕_, _⊗_, opposite, #_, _≐_, solve2, solve6}
+use Rattle.ints.specs.Polynomial.{_⊕_, _⊗_, opposite, #_, _≐_, solve2, solve6}
 use Rattle.ints.specs.Order.{≤-<-trans}
 use Rattle.ints.specs.Machine.{read-bounded}
 use Rattle.spec.specs.declared.Plan.{Plan}
@@ -22,7 +22,7 @@ use Rattle.spec.specs.Base.{fold, sum, sumℤ, distance}
 use Rattle.spec.specs.Frame.{Frame, frameOf}
 use Rattle.spec.specs.Window.{count}
 use Rattle.spec.specs.Weight.{monotone}
-use Rattle.spec.specs.Median.{balance, totalWeight, median}
+use Rattle.spec.specs.Median.{balance, median}
 use Rattle.spec.specs.Joint.{jointCounts, occupancyWords, balanceBox}
 use Rattle.spec.proofs.Ranges.{fold-same, intSums, natSums}
 use Rattle.spec.proofs.Sums.{sum-pos}
@@ -30,8 +30,8 @@ use Rattle.spec.proofs.Limits.{Pixel}
 use Rattle.spec.proofs.Plans.{facts, pixel-of}
 use Rattle.spec.proofs.Levels.{levelWeight, level-joint, balance-list, box-cell}
 use Rattle.spec.proofs.Totals.{total-low, balance-last, median-is}
-use Rattle.spec.proofs.Monotone.{balance-next, balance-zero, cell-next, cell-beyond, monotone-none, balance-mono, median-here}
-use Rattle.spec.proofs.Bounds.{balance-abs, level-abs, total-abs}
+use Rattle.spec.proofs.Monotone.{balance-next, cell-next, cell-beyond, monotone-none, balance-mono, median-here}
+use Rattle.spec.proofs.Bounds.{balance-abs, level-abs}
 use Rattle.joint.specs.Store.{cellAt, Rep}
 use Rattle.joint.proofs.BitLaws.{lt-or-le}
 use Rattle.joint.proofs.ListLaws.{begun-long, rep-own, lists-rep, counts-long, bits-long}

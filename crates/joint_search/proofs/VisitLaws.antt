@@ -9,21 +9,18 @@ use lib.IntN.{ℤ}
 use lib.ListN.{length, getD, take, drop, length-drop}
 use lib.Seq.{getD-take, getD-drop, length-take-le}
 use Rattle.spec.specs.declared.Plan.{Plan}
-use Rattle.spec.specs.Frame.{Frame, frameOf}
+use Rattle.spec.specs.Frame.{frameOf}
 use Rattle.spec.specs.Checks.{Planned}
 use Rattle.spec.specs.Median.{median}
 use Rattle.spec.specs.Walk.{arrive}
-use Rattle.spec.proofs.Limits.{Pixel}
 use Rattle.spec.proofs.Plans.{facts, pixel-of}
 use Rattle.spec.proofs.Totals.{median-low}
 use Rattle.spec.proofs.Climb.{guided-full}
 use Rattle.window.specs.declared.sums.Sums.{Sums}
 use Rattle.window.specs.declared.line.Step.{Step}
 use Rattle.window.specs.Line.{Adjacent, StepInPlanes, stepOf}
-use Rattle.window.specs.Sums.{Movable, Moved, SumsAt}
 use Rattle.window.proofs.PixelLaws.{plan-limits}
 use Rattle.window.proofs.LineLaws.{lines-in}
-use Rattle.window.proofs.SumLaws.{movable, moved-at}
 use Rattle.levels.specs.declared.answer.Arrival.{Arrival}
 use Rattle.levels.specs.declared.tally.Tally.{Tally}
 use Rattle.levels.specs.Answer.{Profiled, Answered}

@@ -1,6 +1,6 @@
 -- What a way's own call leaves, as what every visit leaves.
 -- Assumes nothing.
-use Prim.Native.Nat.{ℕ, zero, suc, _+_, _*_, _/_, _%_, _≤_, _<_}
+use Prim.Native.Nat.{ℕ, _+_, _*_, _/_, _%_, _≤_, _<_}
 use mathlib.Core.Path.{_≡_, refl, ap, sym, _∙_, subst}
 use mathlib.Core.List.{List, [], _++_}
 use native.Mathlib.Omega.{arith}
@@ -12,15 +12,15 @@ use Rattle.spec.specs.declared.Plan.{Plan}
 use Rattle.spec.specs.declared.Room.{Room}
 use Rattle.spec.specs.declared.Way.{Way}
 use Rattle.spec.specs.declared.Way.the-variants.{Joint, Columns, Chain}
-use Rattle.spec.specs.Frame.{Frame, planOf, frameOf}
+use Rattle.spec.specs.Frame.{Frame, frameOf}
 use Rattle.spec.specs.Checks.{Planned}
-use Rattle.spec.specs.Walk.{State, arrive}
+use Rattle.spec.specs.Walk.{arrive}
 use Rattle.spec.specs.Window.{count}
 use Rattle.spec.specs.Joint.{jointCounts, wordsPerLevel, occupancyWord, occupancyWords}
 use Rattle.spec.specs.Columns.{columnStore}
 use Rattle.spec.specs.Calls.{roomOf, countsOf, wordsOf, NumbersOf, boxOf, zeros}
 use Rattle.spec.proofs.First.{length-tabulate}
-use Rattle.spec.proofs.Plans.{Facts, facts}
+use Rattle.spec.proofs.Plans.{facts}
 use Rattle.spec.proofs.Walks.{arrive-column, arrive-row}
 use Rattle.joint.specs.Window.{Fresh, Held}
 use Rattle.joint_search.specs.declared.visit.Visit as joint

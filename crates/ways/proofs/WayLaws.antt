@@ -1,7 +1,7 @@
 -- The way, found by the dispatch: what its own call asks is a part of what is known, and the stores that it does not use are put back.
 -- Assumes nothing.
 use Prim.Native.Nat.{ℕ, _≤_}
-use mathlib.Core.Path.{_≡_, refl, sym, _∙_, subst}
+use mathlib.Core.Path.{_≡_, refl, sym, _∙_}
 use mathlib.Core.Logic.{_⊎_, inl, inr}
 use mathlib.Core.List.{List, []}
 use lib.ListN.{length}
@@ -11,10 +11,9 @@ use Rattle.spec.specs.declared.Plan.{Plan}
 use Rattle.spec.specs.declared.Way.{Way}
 use Rattle.spec.specs.declared.Way.the-variants.{Joint, Columns, Chain}
 use Rattle.spec.specs.Walk.{State}
-use Rattle.spec.specs.Frame.{frameOf}
 use Rattle.spec.specs.Calls.{roomOf, countsOf, wordsOf, boxOf, zeros}
 use Rattle.ways.specs.declared.Visit.{Visit}
-use Rattle.ways.specs.Visit.{settingsIn, Stores, stores, Fit, Left, usedOf, Serves, AtWindow, Visited}
+use Rattle.ways.specs.Visit.{Stores, stores, Fit, usedOf, Serves, AtWindow, Visited}
 use Rattle.ways.proofs.EachLaws.{left-same}
 
 -- ---- a way that is not joint serves kind 2

@@ -1,13 +1,10 @@
 -- A way's own visit as the common one, and back.
 -- Assumes nothing.
 use Prim.Native.Nat.{ℕ}
-use Rattle.chain.specs.declared.FreeList.{FreeList}
-use Rattle.levels.specs.declared.tally.Tally.{Tally}
 use Rattle.joint_search.specs.declared.visit.Visit as joint
 use Rattle.columns.specs.declared.visit.Visit as columns
 use Rattle.chain_search.specs.declared.visit.Visit as chain
 use Rattle.ways.specs.declared.Visit.{Visit}
-use Rattle.ways.specs.declared.Carry.{Carry}
 
 abbrev pub ofJoint : joint.Visit → ℕ → ℕ → Visit
 ofJoint v s t =

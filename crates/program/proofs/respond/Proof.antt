@@ -5,13 +5,10 @@ use Prim.Native.Nat.{_≤_}
 use native.Mathlib.Omega.{arith}
 use lib.ListN.{length}
 use Rattle.spec.specs.Refusal.{accepted}
-use Rattle.spec.specs.declared.Plan.{Plan}
 use Rattle.spec.specs.Frame.{planOf}
-use Rattle.spec.specs.Checks.{Planned}
 use Rattle.spec.specs.Program.{programOutcome, printed}
 use Rattle.frame.proofs.Outcomes.{quiet}
 use Rattle.frame.proofs.Planning.{plan-opened}
-use Rattle.text.specs.Text.{Puts}
 use Rattle.text.proofs.Putting.{called, from-start}
 use Rattle.program.specs.Admitted.{Admitted}
 use Rattle.program.proofs.Admission.{admitted}

@@ -1,6 +1,5 @@
 -- `walk_on` meets its contract: by the way, with a histogram or with the caller's numbers. Assumes nothing.
 use mathlib.Core.Path.{_≡_, refl, sym, _∙_}
-use mathlib.Core.Bool.{true, false}
 use borrow.Author.Needs.{needs}
 use Rattle.spec.specs.declared.Way.the-variants.{Joint}
 use Rattle.ice.proofs.CallLaws.{weights-fit, joint-is, joint-not, histogram-fit, histogram-blank, numbers-back}

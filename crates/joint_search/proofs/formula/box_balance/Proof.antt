@@ -1,8 +1,8 @@
 -- `box_balance` meets its contract: with slope 1 and offset 0 the products are the balance. Assumes nothing.
-use mathlib.Core.Path.{_≡_, refl, _∙_}
+use mathlib.Core.Path.{refl, _∙_}
 use native.Mathlib.Omega.{arith}
 use Prim.Native.Nat.{_≤_}
-use lib.IntN.{natAbs, _+ℤ_, _*ℤ_}
+use lib.IntN.{natAbs}
 use Rattle.ints.specs.Polynomial.{_⊕_, _⊗_, #_, _≐_, solve2}
 use Rattle.joint_search.specs.Box.{boxAll, boxDot}
 use Rattle.joint_search.proofs.BoxLaws.{dot-low}

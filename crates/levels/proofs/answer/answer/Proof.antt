@@ -1,6 +1,6 @@
 -- `levels::answer::answer` meets its contract: from the cut point where the window is monotone, else from level 0. Assumes nothing.
 use Prim.Native.Nat.{_+_, _*_, _<_}
-use mathlib.Core.Path.{_≡_, refl, sym, _∙_}
+use mathlib.Core.Path.{_≡_, sym, _∙_}
 use native.Mathlib.Omega.{arith}
 use Rattle.spec.specs.Frame.{frameOf}
 use Rattle.spec.specs.Weight.{monotone}

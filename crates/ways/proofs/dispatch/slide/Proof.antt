@@ -1,5 +1,5 @@
 use mathlib.Core.List.{[]}
-use Rattle.ways.proofs.WayLaws.{guided-columns, guided-chain, fit-joint, fit-columns, fit-chain, at-joint, at-columns, at-chain, lift-joint, lift-columns, lift-chain}
+use Rattle.ways.proofs.WayLaws.{guided-columns, guided-chain, fit-joint, fit-columns, at-joint, at-columns, at-chain, lift-joint, lift-columns, lift-chain}
 use borrow.Author.Needs.{needs}
 use Rattle.ways.proofs.dispatch.slide.Statement.{statement}
 use Rattle.ways.proofs.dispatch.slide.Tie as tie
