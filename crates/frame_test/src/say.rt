@@ -8,11 +8,11 @@ use joint_search::table;
 use spec::Refusal;
 use spec::Verdict;
 
-pub fn text(s: &[u8]) {
+pub(crate) fn text(s: &[u8]) {
     let _done = io::write_all(1, s);
 }
 
-pub fn number(n: usize) {
+pub(crate) fn number(n: usize) {
     text(b" ");
     let _done = io::print_decimal(1, n as u64);
 }
@@ -34,14 +34,14 @@ fn verdict(v: Verdict) {
 }
 
 // What the checks say of a file, and then its name, which ends the line.
-pub fn checked(name: &[u8], file: &[u8]) {
+pub(crate) fn checked(name: &[u8], file: &[u8]) {
     verdict(frame::check::check(file));
     text(b": ");
     text(name);
 }
 
 // What the checks of the trailer say of it, and its plan.
-pub fn planned(name: &[u8], file: &[u8]) {
+pub(crate) fn planned(name: &[u8], file: &[u8]) {
     text(name);
     text(b": trailer ");
     verdict(frame::check::check_trailer(file));
@@ -66,7 +66,7 @@ fn wide(n: u16) -> usize {
 }
 
 // The first 16 weights of the decoded table of an accepted file; 9 stands behind it.
-pub fn weights(name: &[u8], file: &[u8]) {
+pub(crate) fn weights(name: &[u8], file: &[u8]) {
     let o = plan::open_plan(file);
     let v = o.verdict;
     if frame::check::stops(v) {
@@ -85,7 +85,7 @@ pub fn weights(name: &[u8], file: &[u8]) {
 }
 
 // The 16-bit numbers of a list of bytes.
-pub fn numbers(name: &[u8], part: &[u8]) {
+pub(crate) fn numbers(name: &[u8], part: &[u8]) {
     text(name);
     let mut k = 0;
     while 1 < part.len() - k {
@@ -96,14 +96,14 @@ pub fn numbers(name: &[u8], part: &[u8]) {
 }
 
 // The parts that the opened frame shows.
-pub fn parts(file: &[u8]) {
+pub(crate) fn parts(file: &[u8]) {
     numbers(b"  values", open::plane_of(Plane::Values, file));
     numbers(b"  guides", open::plane_of(Plane::Guides, file));
     numbers(b"  table", open::plane_of(Plane::Table, file));
 }
 
 // What the writer answered; where it wrote, what opening the file gives back; and the rest of the output.
-pub fn written(name: &[u8], answer: Written, output: &[u8]) {
+pub(crate) fn written(name: &[u8], answer: Written, output: &[u8]) {
     text(name);
     text(b": ");
     match answer {
