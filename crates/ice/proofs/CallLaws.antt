@@ -203,11 +203,11 @@ pub balances-done : (b : List ℕ) (s t i : ℕ) (r : Balanced) → numbered (r 
     → r .balance ≡ balance (frameOf b) s t i → Balances b s t i r
 balances-done b s t i r e o q = record { verdict = e; refused = λ n. absurd (n o); balanced = λ _. q }
 
-pub balance-granted : {b : List ℕ} {z : Plan} → Planned b z → (s t i : ℕ) → balanceOutcome b s t i ≡ accepted → (s < z .width) × (t < z .height)
+pub balance-granted : {b : List ℕ} {z : Plan} → Planned b z → (s t i : ℕ) → balanceOutcome b s t i ≡ accepted → (s < z .width) × (t < z .height) × (i < z .levels) × (z .levels ≤ 1024)
 balance-granted {b} k s t i o =
     let h = balance-accepted b s t i o in
     let f = facts k in
-    (rw (f .width) (h .pixel .in-column), rw (f .height) (h .pixel .in-row))
+    (rw (f .width) (h .pixel .in-column), rw (f .height) (h .pixel .in-row), rw (f .levels) (rw (sym (set-of b)) at (h .level)), rw (f .levels) (f .limits .sound .levels-high))
 
 -- ---- room for the weights of any table
 pub weights-fit : {b : List ℕ} {z : Plan} → Planned b z → weightCount b ≤ 65536

@@ -112,7 +112,7 @@ fn walk_on(
 // Walks from a pixel along a list of moves; what it promises is one record, for refusals too.
 pub fn walk(
     file: &[u8],
-    way: u8,
+    way: u32,
     column: usize,
     row: usize,
     moves: &[u8],
@@ -203,7 +203,7 @@ fn filter_on(
 // Filters a frame by a way into an output plane; what it promises is one record, for refusals too.
 pub fn filter(
     file: &[u8],
-    way: u8,
+    way: u32,
     counts: &mut [u16],
     words: &mut [u64],
     numbers: &mut [u32],
@@ -230,9 +230,9 @@ pub fn filter(
     filter_on(file, z, y, counts, words, numbers, output)
 }
 
-// The balance of the window at a pixel, at a level.
-pub fn balance(file: &[u8], column: usize, row: usize, level: Level) -> Balanced
-    ensures { λ r. ⌜ Balances (now (file .entry)) column row (level .0) r ⌝ }
+// The balance of the window at a pixel, at a level. The level is a number like the column and the row until check 9 has passed.
+pub fn balance(file: &[u8], column: usize, row: usize, level: usize) -> Balanced
+    ensures { λ r. ⌜ Balances (now (file .entry)) column row level r ⌝ }
 {
     let opened = open_plan(file);
     let v = opened.verdict;
@@ -250,7 +250,7 @@ pub fn balance(file: &[u8], column: usize, row: usize, level: Level) -> Balanced
             balance: 0,
         };
     }
-    let b = balance_at(file, z, column, row, level);
+    let b = balance_at(file, z, column, row, Level(level as u16));
     Balanced {
         verdict: w,
         balance: b,

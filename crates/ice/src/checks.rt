@@ -1,5 +1,4 @@
 // Checks 8 to 11, after those of the file, in document 01's order.
-use spec::Level;
 use spec::Plan;
 use spec::Refusal;
 use spec::Room;
@@ -12,7 +11,7 @@ ghost use Rattle.spec.proofs.Limits.{SettingsLimits};
 ghost use Rattle.ways.specs.Visit.{settingsIn};
 
 // The way that a number names, where check 8 lets it pass.
-pub fn way_of(way: u8) -> Way
+pub fn way_of(way: u32) -> Way
     ensures { λ r. ⌜ r ≡ wayOf way ⌝ }
 {
     if way == 1 {
@@ -24,7 +23,7 @@ pub fn way_of(way: u8) -> Way
     Way::Chain
 }
 
-fn bad_way(z: Plan, way: u8) -> bool
+fn bad_way(z: Plan, way: u32) -> bool
     ensures { λ r. ⌜ r ≡ badWay (settingsIn z) way ⌝ }
 {
     if way < 1 {
@@ -91,7 +90,7 @@ fn lacking(need: Room, have: Room) -> bool
 }
 
 // Check 11: a store of the way, or an output that is to take n numbers, is too short.
-fn short(z: Plan, way: u8, have: Room, out: usize, n: usize) -> bool
+fn short(z: Plan, way: u32, have: Room, out: usize, n: usize) -> bool
     requires { ⌜ SettingsLimits (settingsIn z) ⌝ }
     ensures { λ r. ⌜ r ≡ short (settingsIn z) way have out n ⌝ }
 {
@@ -105,7 +104,7 @@ fn short(z: Plan, way: u8, have: Room, out: usize, n: usize) -> bool
 
 pub fn walk_verdict(
     z: Plan,
-    way: u8,
+    way: u32,
     column: usize,
     row: usize,
     n: usize,
@@ -130,7 +129,7 @@ pub fn walk_verdict(
     Verdict::Accepted
 }
 
-pub fn filter_verdict(z: Plan, way: u8, have: Room, out: usize) -> Verdict
+pub fn filter_verdict(z: Plan, way: u32, have: Room, out: usize) -> Verdict
     requires { ⌜ SettingsLimits (settingsIn z) ⌝ }
     ensures { λ r. ⌜ numbered r ≡ filterChecks (settingsIn z) way have out ⌝ }
 {
@@ -143,13 +142,13 @@ pub fn filter_verdict(z: Plan, way: u8, have: Room, out: usize) -> Verdict
     Verdict::Accepted
 }
 
-pub fn balance_verdict(z: Plan, column: usize, row: usize, level: Level) -> Verdict
-    ensures { λ r. ⌜ numbered r ≡ balanceChecks (settingsIn z) column row (level .0) ⌝ }
+pub fn balance_verdict(z: Plan, column: usize, row: usize, level: usize) -> Verdict
+    ensures { λ r. ⌜ numbered r ≡ balanceChecks (settingsIn z) column row level ⌝ }
 {
     if bad_pixel(z, column, row) {
         return Verdict::Refused(Refusal::Start);
     }
-    if z.levels <= level.0 as usize {
+    if z.levels <= level {
         return Verdict::Refused(Refusal::Start);
     }
     Verdict::Accepted

@@ -25,7 +25,7 @@ const WORDS: usize = 64;
 const NUMBERS: usize = 8320;
 
 // Filters by a way, with stores of its own; gives the shift count.
-fn filter_by(input: &[u8], z: Plan, way: u8, plane: &mut [u16; PIXELS]) -> u64
+fn filter_by(input: &[u8], z: Plan, way: u32, plane: &mut [u16; PIXELS]) -> u64
     requires { ⌜ (Admitted (now input) z) × (Serving way z) ⌝ }
     ensures { λ r. ⌜ Filtered (now (input .entry)) (now (plane .entry)) (now (plane .exit)) r ⌝ }
 {

@@ -1,4 +1,5 @@
 use mir.Facts.{toZ-ofZ}
+use native.Mathlib.Omega.{arith}
 use mathlib.Core.Path.{_≡_, refl, sym, _∙_}
 use Rattle.spec.specs.declared.Settings.{Settings}
 use Rattle.spec.specs.Refusal.{Outcome, accepted, numbered}
@@ -18,13 +19,13 @@ use Rattle.ice.proofs.checks.balance_verdict.Reads as balance-verdict-r
 use Rattle.joint_search.proofs.balance.balance_at.Reads as balance-at-reads
 
 abbrev own : tie.Start → Settings → Outcome
-own at k = balanceChecks k (at .args .column) (at .args .row) (at .args .level .0)
+own at k = balanceChecks k (at .args .column) (at .args .row) (at .args .level)
 
 -- where all checks have passed: the plan is the file's, and the outcome is accepted
 plan-at : (c : tie.Else2) → Planned (c .before .before .before .before .before .before .before .before .args .file .now) (c .before .before .before .before .before .before .open-plan .result .plan)
 plan-at c = planned-of (c .before .before .before .before .before .before .open-plan .result) (c .before .before .before .before .before .before .open-plan .ensures) (known (c .before .before .before .before .before .stops .ensures) (c .before .before .before .before .if1 .left))
 
-outcome-at : (c : tie.Else2) → let at = c .before .before .before .before .before .before .before .before in balanceOutcome (at .args .file .now) (at .args .column) (at .args .row) (at .args .level .0) ≡ accepted
+outcome-at : (c : tie.Else2) → let at = c .before .before .before .before .before .before .before .before in balanceOutcome (at .args .file .now) (at .args .column) (at .args .row) (at .args .level) ≡ accepted
 unfolding balanceOutcome
 outcome-at c =
     sym (own-decides (plan-at c) (own (c .before .before .before .before .before .before .before .before))) ∙ sym (c .before .before .balance-verdict .ensures)
@@ -64,6 +65,9 @@ returns-2 c =
     balances-refused _ _ _ _ _ _ refl refl f (c .before .before .balance-verdict .ensures ∙ own-decides k (own at))
 
 -- src/calls.rt:209:9
+cast-t12 : tie.Need-cast-t12
+cast-t12 c = let q = balance-granted (plan-at c) _ _ _ (outcome-at c) in omega (arith, q .2, q .3)
+
 balance-at-requires : tie.Need-balance-at-requires
 balance-at-requires c κs = let k = plan-at c in let q = balance-granted k _ _ _ (outcome-at c) in (k, q .0, q .1)
 
@@ -82,5 +86,6 @@ balance-spec =
     balance-verdict-requires
     stops-requires-2
     returns-2
+    cast-t12
     balance-at-requires
     returns-3)

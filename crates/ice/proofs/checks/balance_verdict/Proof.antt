@@ -17,18 +17,15 @@ returns : tie.Need-returns
 unfolding balanceChecks
 returns c = simp (known (c .before .bad-pixel .ensures) (c .if1 .taken))
 
-cast-if2 : tie.Need-cast-if2
-cast-if2 c = search needs
-
 -- src/checks.rt:149:9
 returns-2 : tie.Need-returns-2
 unfolding balanceChecks
-returns-2 c = simp (known (c .before .before .before .before .bad-pixel .ensures) (c .before .before .before .if1 .left), le-ltb _ _ (c .if2 .taken))
+returns-2 c = simp (known (c .before .before .before .bad-pixel .ensures) (c .before .before .if1 .left), le-ltb _ _ (c .if2 .taken))
 
 -- src/checks.rt:142:1
 returns-3 : tie.Need-returns-3
 unfolding balanceChecks
-returns-3 c = simp (known (c .before .before .before .before .bad-pixel .ensures) (c .before .before .before .if1 .left), lt-ltb _ _ (c .if2 .left))
+returns-3 c = simp (known (c .before .before .before .bad-pixel .ensures) (c .before .before .if1 .left), lt-ltb _ _ (c .if2 .left))
 
 pub balance-verdict-spec : {M : Type 1} → statement M
-balance-verdict-spec = tie.close (tie.spec bad-pixel-requires returns cast-if2 returns-2 returns-3)
+balance-verdict-spec = tie.close (tie.spec bad-pixel-requires returns returns-2 returns-3)
