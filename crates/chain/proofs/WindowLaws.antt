@@ -12,11 +12,11 @@ use Rattle.spec.specs.declared.Plan.{Plan}
 use Rattle.spec.specs.Base.{if_then_else_, fold, foldRect, sum}
 use Rattle.spec.specs.Frame.{Frame, level, guide, frameOf, pixelLevel, pixelGuide}
 use Rattle.spec.specs.Checks.{Planned}
-use Rattle.spec.specs.Window.{span, over, inRow, Σ, levelSum}
+use Rattle.spec.specs.Window.{span, over, inRow, Σ, levelSum, InWindow}
 use Rattle.spec.proofs.Limits.{Pixel}
 use Rattle.spec.proofs.Plans.{facts}
 use Rattle.spec.proofs.Ranges.{natSums, fold-same, foldRect-turn}
-use Rattle.spec.proofs.Sums.{sum-const, sum-term, InWindow, in-window}
+use Rattle.spec.proofs.Sums.{sum-const, sum-term, in-window}
 use Rattle.spec.proofs.Histogram.{turn, fold-pick, over-fold, over-same}
 use Rattle.window.specs.declared.line.Line.{Line}
 use Rattle.window.specs.Line.{columnLine, rowLine, shift, advance, columnStep, rowStep, reverse, stepOf, Adjacent, right, left, down, up, pixelOf, InPlanes, lineFoldTo, lineFold}

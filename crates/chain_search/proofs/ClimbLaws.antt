@@ -13,8 +13,10 @@ use Rattle.ints.specs.Auto.{quote, ring! }
 use Rattle.spec.specs.Frame.{Frame, guide}
 use Rattle.spec.specs.Window.{levelSum}
 use Rattle.spec.specs.Median.{totalWeight, cumulative, median}
-use Rattle.spec.proofs.First.{First, First-unique}
-use Rattle.spec.proofs.Levels.{slope, offset, cumulative-zero, cumulative-next, level-linear}
+use Rattle.spec.specs.Base.{First}
+use Rattle.spec.proofs.First.{First-unique}
+use Rattle.spec.specs.Weight.{slope, offset}
+use Rattle.spec.proofs.Levels.{cumulative-zero, cumulative-next, level-linear}
 use Rattle.spec.proofs.Totals.{lt-leZ, median-first}
 use Rattle.window.specs.declared.coefficients.Coefficients.{Coefficients}
 use Rattle.window.specs.Coefficients.{WeighsAt}

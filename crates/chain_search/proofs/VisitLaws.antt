@@ -8,14 +8,13 @@ use native.Mathlib.Omega.{arith}
 use lib.IntN.{ℤ, pos}
 use lib.Signed.{_<ℤ_}
 use Rattle.spec.specs.declared.Plan.{Plan}
-use Rattle.spec.specs.Base.{if_then_else_, distance}
+use Rattle.spec.specs.Base.{if_then_else_, distance, First}
 use Rattle.spec.specs.Frame.{guide, pixelGuide, frameOf}
 use Rattle.spec.specs.Checks.{Planned}
 use Rattle.spec.specs.Weight.{monotone}
 use Rattle.spec.specs.Window.{pixelCount, guideSum}
 use Rattle.spec.specs.Median.{median}
 use Rattle.spec.specs.Walk.{State, arrive}
-use Rattle.spec.proofs.First.{First}
 use Rattle.spec.proofs.Plans.{facts, pixel-of, place-low}
 use Rattle.spec.proofs.Climb.{guided-full}
 use Rattle.spec.proofs.Bounds.{pixelCount-high, guideSum-high}

@@ -7,7 +7,7 @@ ghost use mathlib.Core.Path.{_≡_};
 ghost use Prim.Native.Nat.{_≤_};
 ghost use lib.IntN.{pos};
 ghost use lib.Signed.{_<ℤ_};
-ghost use Rattle.spec.proofs.First.{First};
+ghost use Rattle.spec.specs.Base.{First};
 ghost use Rattle.window.specs.Coefficients.{CoefficientsSmall};
 ghost use Rattle.chain_search.specs.Climb.{reach, reachAt, Climbs};
 

@@ -15,7 +15,7 @@ use Rattle.spec.specs.declared.Verdict.{Verdict}
 use Rattle.spec.specs.declared.Way.{Way}
 use Rattle.spec.specs.declared.Way.the-variants.{Joint, Columns, Chain}
 use Rattle.spec.specs.Refusal.{Outcome, accepted, fires, numbered, _▷_}
-use Rattle.spec.specs.Frame.{Frame, settingsOf, pixels, frameOf}
+use Rattle.spec.specs.Frame.{Frame, settingsOf, pixels, frameOf, settingsIn}
 use Rattle.spec.specs.Checks.{verdict, Planned}
 use Rattle.spec.specs.Walk.{State, walkEnd, walkAnswers}
 use Rattle.spec.specs.Filter.{filtered, filterEnd}
@@ -28,7 +28,7 @@ use Rattle.frame.specs.Parts.{openedPlan}
 use Rattle.ice.specs.declared.Walked.{Walked}
 use Rattle.ice.specs.declared.Balanced.{Balanced}
 use Rattle.frame.specs.Weights.{weightCount}
-use Rattle.ways.specs.Visit.{settingsIn, Stores, stores, lent, Fit, Left, usedOf, Serves}
+use Rattle.ways.specs.Visit.{Stores, stores, lent, Fit, Left, usedOf, Serves}
 use Rattle.ice.specs.Result.{Finished, Zeroed, isJoint}
 use Rattle.ice.specs.Contract.{Untouched, Ended, Walks, Filters, Balances}
 use Rattle.histogram.specs.Histogram.{Blank}

@@ -19,13 +19,13 @@ use Rattle.spec.specs.declared.Verdict.the-variants.{Accepted, Refused}
 use Rattle.spec.specs.Base.{if_then_else_}
 use Rattle.spec.specs.Refusal.{Outcome, accepted, refused, fires, numbered, number, valuesOf, _▷_, refuse}
 use Rattle.spec.specs.Frame.{Frame, level, pixels, frameOf, settingsOf}
-use Rattle.spec.specs.Checks.{verdict}
+use Rattle.spec.specs.Checks.{verdict, SettingsLimits}
 use Rattle.spec.specs.Median.{totalWeight, cumulative, weightless, median, answer, differences}
 use Rattle.spec.specs.Walk.{State, arrive, move, start, step, walkEnd, walkAnswers}
 use Rattle.spec.specs.Filter.{filtered, filterEnd}
 use Rattle.spec.specs.Calls.{wayOf, walkOutcome, filterOutcome}
 use Rattle.spec.proofs.Checks.{not-refused}
-use Rattle.spec.proofs.Limits.{SettingsLimits, FrameLimits, Pixel, limits-of, in-plane}
+use Rattle.spec.proofs.Limits.{FrameLimits, Pixel, limits-of, in-plane}
 use Rattle.spec.proofs.Calls.{WalkAccepted, walk-accepted, FilterAccepted, filter-accepted}
 use Rattle.spec.proofs.Totals.{weightless-total, total-weightless, median-at, median-before, balance-le, balance-lt, answer-low}
 use Rattle.spec.proofs.Minimum.{minimum, answer-median, answer-weightless}

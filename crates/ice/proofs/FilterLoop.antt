@@ -20,8 +20,8 @@ use Rattle.spec.specs.Median.{answer}
 use Rattle.spec.specs.Walk.{State, arrive, start, step, after, walkEnd}
 use Rattle.spec.specs.Filter.{turn, serpentine, filtered, filterEnd}
 use Rattle.spec.proofs.First.{length-tabulate, getD-tabulate}
-use Rattle.spec.specs.Checks.{Planned}
-use Rattle.spec.proofs.Limits.{SettingsLimits, FrameLimits}
+use Rattle.spec.specs.Checks.{Planned, SettingsLimits}
+use Rattle.spec.proofs.Limits.{FrameLimits}
 use Rattle.spec.proofs.Plans.{Facts, facts}
 use Rattle.spec.proofs.Walks.{Held}
 use Rattle.spec.proofs.Serpentine.{At, at-arrive, at-turn, columnAfter, visited, visited-is, visited-div, visited-mod, visited-twice, visited-low, serpentine-length, serpentine-byte, serpentine-begins}

@@ -16,7 +16,7 @@ use Rattle.spec.specs.declared.Plan.{Plan}
 use Rattle.spec.specs.declared.Way.{Way}
 use Rattle.spec.specs.declared.Move.the-variants.{To, Nowhere}
 use Rattle.spec.specs.Base.{if_then_else_}
-use Rattle.spec.specs.Frame.{Frame, frameOf}
+use Rattle.spec.specs.Frame.{Frame, frameOf, settingsIn}
 use Rattle.spec.specs.Checks.{Planned}
 use Rattle.spec.specs.Walk.{State, arrive, toIf, move, step, after, answers}
 use Rattle.spec.proofs.Plans.{facts}
@@ -24,7 +24,7 @@ use Rattle.spec.proofs.Steps.{after-one}
 use Rattle.spec.proofs.Walks.{Held, held-step, step-to, step-nowhere}
 use Rattle.window.specs.Line.{Adjacent, right, left, down, up}
 use Rattle.ways.specs.declared.Visit.{Visit}
-use Rattle.ways.specs.Visit.{settingsIn, Stores, Fit, Left, usedOf, Kept, stateOf, Within, AtWindow, Visited}
+use Rattle.ways.specs.Visit.{Stores, Fit, Left, usedOf, Kept, stateOf, Within, AtWindow, Visited}
 use Rattle.ways.proofs.EachLaws.{settings-same, left-same}
 
 -- ---- stores over several calls

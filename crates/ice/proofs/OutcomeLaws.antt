@@ -14,11 +14,10 @@ use Rattle.spec.specs.declared.Verdict.{Verdict}
 use Rattle.spec.specs.declared.Way.{Way}
 use Rattle.spec.specs.Calls.{wayOf, roomOf, lacks}
 use Rattle.spec.specs.Refusal.{Outcome, accepted, refused, fires, numbered, _▷_}
-use Rattle.spec.specs.Frame.{settingsOf, frameOf}
-use Rattle.spec.specs.Checks.{verdict, Planned}
-use Rattle.spec.proofs.Limits.{SettingsLimits, FrameLimits}
+use Rattle.spec.specs.Frame.{settingsOf, frameOf, settingsIn}
+use Rattle.spec.specs.Checks.{verdict, Planned, SettingsLimits}
+use Rattle.spec.proofs.Limits.{FrameLimits}
 use Rattle.spec.proofs.Plans.{Facts, facts}
-use Rattle.ways.specs.Visit.{settingsIn}
 use Rattle.ways.proofs.EachLaws.{settings-same}
 
 -- what a call said of a test, and how the branch went

@@ -11,7 +11,7 @@ use lib.IntN.{ℤ}
 use Rattle.spec.specs.declared.Settings.{Settings}
 use Rattle.spec.specs.declared.Plan.{Plan}
 use Rattle.spec.specs.declared.Way.{Way}
-use Rattle.spec.specs.Frame.{Frame, frameOf}
+use Rattle.spec.specs.Frame.{Frame, frameOf, settingsIn}
 use Rattle.spec.specs.Checks.{Planned}
 use Rattle.spec.specs.Walk.{State, arrive, start, step, after, answers, walkEnd, walkAnswers}
 use Rattle.spec.proofs.Plans.{pixel-of}
@@ -20,7 +20,7 @@ use Rattle.spec.proofs.Walks.{Held, held-start}
 use Rattle.ways.specs.declared.Visit.{Visit}
 use Rattle.ice.specs.declared.Walked.{Walked}
 use Rattle.spec.specs.declared.Verdict.the-variants.{Accepted}
-use Rattle.ways.specs.Visit.{settingsIn, Stores, Kept, Holds, stateOf, AtWindow, Visited}
+use Rattle.ways.specs.Visit.{Stores, Kept, Holds, stateOf, AtWindow, Visited}
 use Rattle.ice.specs.Result.{Finished}
 use Rattle.ice.proofs.Laws.{Going, going-start, going-more, going-end, answers-one, told-more}
 

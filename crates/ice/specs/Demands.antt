@@ -17,13 +17,12 @@ use Rattle.spec.specs.declared.Verdict.the-variants.{Accepted}
 use Rattle.spec.specs.Base.{sum}
 use Rattle.spec.specs.Refusal.{Outcome, accepted, refused, numbered, _▷_, refuse}
 use Rattle.spec.specs.Frame.{Frame, level, guide, pixels, frameOf}
-use Rattle.spec.specs.Window.{over}
+use Rattle.spec.specs.Window.{over, InWindow}
 use Rattle.spec.specs.Weight.{weight}
 use Rattle.spec.specs.Median.{totalWeight, cumulative, differences}
 use Rattle.spec.specs.Walk.{State, move, start, walkEnd, walkAnswers, adds, addedAt}
 use Rattle.spec.specs.Filter.{filtered, filterEnd}
 use Rattle.spec.specs.Calls.{wayOf, walkOutcome, filterOutcome, balanceOutcome}
-use Rattle.spec.proofs.Sums.{InWindow}
 use Rattle.ice.specs.declared.Walked.{Walked}
 use Rattle.ice.specs.declared.Balanced.{Balanced}
 use Rattle.frame_write.specs.declared.Written.the-variants.{Length}

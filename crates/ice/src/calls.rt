@@ -19,11 +19,11 @@ ghost use mathlib.Core.Path.{_≡_};
 ghost use mathlib.Core.List.{_++_};
 ghost use Prim.Native.Nat.{ℕ, _+_, _*_, _<_, _≤_};
 ghost use lib.ListN.{length, drop};
-ghost use Rattle.spec.specs.Frame.{frameOf, pixels};
+ghost use Rattle.spec.specs.Frame.{frameOf, pixels, settingsIn};
 ghost use Rattle.spec.specs.Checks.{Planned};
 ghost use Rattle.spec.specs.Walk as definitions;
 ghost use Rattle.spec.specs.Filter.{filtered, filterEnd};
-ghost use Rattle.ways.specs.Visit.{settingsIn, stores, Fit, Serves};
+ghost use Rattle.ways.specs.Visit.{stores, Fit, Serves};
 ghost use Rattle.ice.specs.Result.{Finished, Zeroed, isJoint};
 ghost use Rattle.ice.specs.Contract.{Walks, Filters, Balances};
 

@@ -7,8 +7,8 @@ use spec::Way;
 ghost use mathlib.Core.Path.{_≡_};
 ghost use Rattle.spec.specs.Refusal.{numbered};
 ghost use Rattle.spec.specs.Calls.{wayOf, badWay, badPixel, roomOf, lacks, short, walkChecks, filterChecks, balanceChecks};
-ghost use Rattle.spec.proofs.Limits.{SettingsLimits};
-ghost use Rattle.ways.specs.Visit.{settingsIn};
+ghost use Rattle.spec.specs.Checks.{SettingsLimits};
+ghost use Rattle.spec.specs.Frame.{settingsIn};
 
 // The way that a number names, where check 8 lets it pass.
 pub fn way_of(way: u32) -> Way

@@ -9,12 +9,12 @@ ghost use mathlib.Core.Path.{_≡_};
 ghost use mathlib.Core.List.{_++_};
 ghost use Prim.Native.Nat.{ℕ, _+_, _*_, _<_, _≤_};
 ghost use lib.ListN.{length, drop};
-ghost use Rattle.spec.specs.Frame.{frameOf, pixels};
+ghost use Rattle.spec.specs.Frame.{frameOf, pixels, settingsIn};
 ghost use Rattle.spec.specs.Checks.{Planned};
 ghost use Rattle.spec.specs.Filter.{turn, filtered, filterEnd};
 ghost use Rattle.spec.specs.Calls.{zeros};
 ghost use Rattle.joint_search.specs.Arrive.{WeightRows};
-ghost use Rattle.ways.specs.Visit.{settingsIn, stores, Fit, Cleared, Serves};
+ghost use Rattle.ways.specs.Visit.{stores, Fit, Cleared, Serves};
 ghost use Rattle.ice.specs.Result.{Finished};
 
 // Byte i of the filter's list, in pictures w wide.

@@ -11,13 +11,12 @@ ghost use mathlib.Core.Path.{_≡_};
 ghost use mathlib.Core.List.{_++_};
 ghost use Prim.Native.Nat.{ℕ, _+_, _<_, _≤_};
 ghost use lib.ListN.{length, drop};
-ghost use Rattle.spec.specs.Frame.{frameOf};
-ghost use Rattle.spec.specs.Checks.{Planned};
+ghost use Rattle.spec.specs.Frame.{frameOf, settingsIn};
+ghost use Rattle.spec.specs.Checks.{Planned, SettingsLimits};
 ghost use Rattle.spec.specs.Walk as definitions;
 ghost use Rattle.spec.specs.Calls.{zeros};
-ghost use Rattle.spec.proofs.Limits.{SettingsLimits};
 ghost use Rattle.joint_search.specs.Arrive.{WeightRows};
-ghost use Rattle.ways.specs.Visit.{settingsIn, stateOf, stores, Fit, Cleared, Serves, Within, AtWindow, Visited};
+ghost use Rattle.ways.specs.Visit.{stateOf, stores, Fit, Cleared, Serves, Within, AtWindow, Visited};
 ghost use Rattle.ice.specs.Result.{Finished};
 
 // Where a byte leads.

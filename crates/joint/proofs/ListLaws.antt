@@ -13,11 +13,11 @@ use lib.Seq.{length-take-le, getD-take, ext-getD}
 use borrow.Author.Tests.{ne-eqb, lt-ltb}
 use Rattle.spec.specs.Base.{indicator, fold, sum}
 use Rattle.spec.specs.Frame.{Frame, level, guide}
-use Rattle.spec.specs.Window.{inCell, count, pixelCount}
+use Rattle.spec.specs.Window.{inCell, count, pixelCount, InWindow}
 use Rattle.spec.specs.Joint.{jointCounts, wordsPerLevel, occupancyWord, occupancyWords}
 use Rattle.spec.proofs.Ranges.{natSums}
 use Rattle.spec.proofs.First.{getD-tabulate, length-tabulate}
-use Rattle.spec.proofs.Sums.{InWindow, over-inWindow, over-constant}
+use Rattle.spec.proofs.Sums.{over-inWindow, over-constant}
 use Rattle.spec.proofs.Limits.{Pixel}
 use Rattle.joint.specs.Bit.{bit}
 use Rattle.joint.specs.Store.{cellAt, wordAt, wordsPer, countIn, Rep}

@@ -21,7 +21,7 @@ use Rattle.spec.specs.Base.{if_then_else_, distance}
 use Rattle.spec.specs.Frame.{Frame, level, guide, frameOf}
 use Rattle.spec.specs.Checks.{Planned}
 use Rattle.spec.specs.Window.{levelSum}
-use Rattle.spec.specs.Weight.{weight, monotone}
+use Rattle.spec.specs.Weight.{weight, monotone, slope, offset}
 use Rattle.spec.specs.Median.{totalWeight, cumulative, median}
 use Rattle.spec.specs.Walk.{arrive}
 use Rattle.spec.proofs.First.{first-unique}
@@ -29,7 +29,7 @@ use Rattle.spec.proofs.Ranges.{natSums}
 use Rattle.spec.proofs.Sums.{over-inWindow, over-both, over-constant, over-mono, over-scale, over-pos}
 use Rattle.spec.proofs.Limits.{Pixel}
 use Rattle.spec.proofs.Plans.{facts}
-use Rattle.spec.proofs.Levels.{slope, offset, levelWeight, weight-linear, level-linear}
+use Rattle.spec.proofs.Levels.{levelWeight, weight-linear, level-linear}
 use Rattle.spec.proofs.Totals.{le-leZ, leZ-le, le-balance, balance-le, median-first, median-low}
 use Rattle.spec.proofs.Monotone.{monotone-none, balance-mono}
 use Rattle.spec.proofs.Climb.{cumulativeBelow, cumulativeBelow-zero, cumulativeBelow-suc, cumulativeBelow-next, guided-full}

@@ -16,12 +16,12 @@ use Rattle.spec.specs.declared.Verdict.{Verdict}
 use Rattle.spec.specs.declared.Verdict.the-variants.{Accepted, Refused}
 use Rattle.spec.specs.Refusal.{Outcome, accepted, refused, fires, number, offsetOf, numbered}
 use Rattle.spec.specs.Frame.{Frame, frameOf, pixels}
-use Rattle.spec.specs.Checks.{Planned}
+use Rattle.spec.specs.Checks.{Planned, SettingsLimits}
 use Rattle.spec.specs.Median.{answer}
 use Rattle.spec.specs.Walk.{State}
 use Rattle.spec.specs.Filter.{filtered, filterEnd}
 use Rattle.spec.specs.Program.{rows, ways, jointWord, columnsWord, chainWord, programOutcome, outputText, printed}
-use Rattle.spec.proofs.Limits.{SettingsLimits, FrameLimits}
+use Rattle.spec.proofs.Limits.{FrameLimits}
 use Rattle.spec.proofs.Totals.{answer-low}
 use Rattle.spec.proofs.Plans.{Facts, facts}
 use Rattle.text.specs.Text.{planeText, sizeText, wayText, refusalText}

@@ -14,11 +14,11 @@ use Rattle.spec.specs.declared.Room.{Room}
 use Rattle.spec.specs.declared.Plan.{Plan}
 use Rattle.spec.specs.Refusal.{Outcome, accepted, _▷_, refuse}
 use Rattle.spec.specs.Frame.{Frame, frameOf, settingsOf, pixels}
-use Rattle.spec.specs.Checks.{Planned}
+use Rattle.spec.specs.Checks.{Planned, SettingsLimits}
 use Rattle.spec.specs.Joint.{wordsPerLevel}
 use Rattle.spec.specs.Chain.{nodeCount}
 use Rattle.spec.specs.Calls.{wayOf, roomOf, badWay, lacks, short, filterChecks, filterOutcome}
-use Rattle.spec.proofs.Limits.{SettingsLimits, FrameLimits}
+use Rattle.spec.proofs.Limits.{FrameLimits}
 use Rattle.spec.proofs.Plans.{Facts, facts}
 use Rattle.program.specs.Admitted.{Admitted, Serving}
 use Rattle.program.proofs.Admission.{pixels-few}

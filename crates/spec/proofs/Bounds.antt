@@ -14,13 +14,14 @@ use Rattle.ints.specs.Bound.{abs-add-le, abs-sub-le, abs-mul-le, abs-mul, abs-l
 use Rattle.spec.specs.Base.{if_then_else_, indicator, sum, sumℤ}
 use Rattle.spec.specs.declared.Settings.{Settings}
 use Rattle.spec.specs.Frame.{Frame, level, guide}
-use Rattle.spec.specs.Window.{span, Σ, Σℤ, pixelCount, guideSum, squareSum, inCell, count}
-use Rattle.spec.specs.Weight.{scaledVariance, guidedWeight, weight}
+use Rattle.spec.specs.Window.{span, Σ, Σℤ, pixelCount, guideSum, squareSum, inCell, count, InWindow}
+use Rattle.spec.specs.Weight.{scaledVariance, guidedWeight, weight, variance, deviation, slope, offset}
 use Rattle.spec.specs.Median.{totalWeight, cumulative, balance}
 use Rattle.spec.specs.Window.{levelSum}
-use Rattle.spec.proofs.Sums.{InWindow, over-le, over-abs, over-constant, pixelCount-is, sum-abs, sum-const}
-use Rattle.spec.proofs.Limits.{SettingsLimits, FrameLimits, Pixel}
-use Rattle.spec.proofs.Levels.{levelWeight, weight-table, weight-guided, variance, deviation, slope, offset, cell, balance-signed}
+use Rattle.spec.proofs.Sums.{over-le, over-abs, over-constant, pixelCount-is, sum-abs, sum-const}
+use Rattle.spec.specs.Checks.{SettingsLimits}
+use Rattle.spec.proofs.Limits.{FrameLimits, Pixel}
+use Rattle.spec.proofs.Levels.{levelWeight, weight-table, weight-guided, cell, balance-signed}
 use Rattle.spec.proofs.Totals.{variance-pos}
 
 span-high : (r c n : ℕ) → span r c n ≤ 2 * r + 1

@@ -18,8 +18,10 @@ use Rattle.spec.specs.Frame.{Frame, guide}
 use Rattle.spec.specs.Median.{totalWeight, cumulative, balance, weightless, median}
 use Rattle.spec.specs.Window.{levelSum}
 use Rattle.spec.specs.Chain.{Entry, entries, entryOf}
-use Rattle.spec.proofs.Limits.{SettingsLimits, FrameLimits, Pixel}
-use Rattle.spec.proofs.Levels.{levelWeight, cumulative-zero, cumulative-next, slope, offset, level-linear}
+use Rattle.spec.specs.Checks.{SettingsLimits}
+use Rattle.spec.proofs.Limits.{FrameLimits, Pixel}
+use Rattle.spec.specs.Weight.{slope, offset}
+use Rattle.spec.proofs.Levels.{levelWeight, cumulative-zero, cumulative-next, level-linear}
 use Rattle.spec.proofs.Totals.{leZ-le, leZ-lt, median-at, median-low, median-is, total-guided-pos, pos-weightless, le-balance, lt-balance, balance-lt}
 use Rattle.spec.proofs.Monotone.{median-down}
 use Rattle.spec.proofs.Present.{levelCount, absent-weight}

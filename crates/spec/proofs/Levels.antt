@@ -14,16 +14,17 @@ use Rattle.ints.specs.Polynomial.{_⊕_, _⊖_, _⊗_, opposite, #_, _≐_, sol
 use Rattle.spec.specs.Base.{if_then_else_, sumℤ}
 use Rattle.spec.specs.declared.Settings.{Settings}
 use Rattle.spec.specs.Frame.{Frame, level, guide, table}
-use Rattle.spec.specs.Window.{Σℤ, pixelCount, guideSum, squareSum, count}
-use Rattle.spec.specs.Weight.{scaledVariance, guidedWeight, weight}
+use Rattle.spec.specs.Window.{Σℤ, pixelCount, guideSum, squareSum, count, InWindow}
+use Rattle.spec.specs.Weight.{scaledVariance, guidedWeight, weight, variance, deviation, slope, offset}
 use Rattle.spec.specs.Median.{totalWeight, cumulative, balance}
 use Rattle.spec.specs.Joint.{balanceBox}
 use Rattle.spec.specs.Window.{levelSum}
 use Rattle.spec.proofs.Ranges.{Sums, fold-same, intSums}
 use Rattle.spec.proofs.Histogram.{times, pick-inner, fold-pick, over-fold, over-count}
 use Rattle.spec.proofs.First.{getD-tabulate}
-use Rattle.spec.proofs.Sums.{InWindow, over-inWindow, over-add, over-scale, over-pos}
-use Rattle.spec.proofs.Limits.{SettingsLimits, FrameLimits, Pixel}
+use Rattle.spec.proofs.Sums.{over-inWindow, over-add, over-scale, over-pos}
+use Rattle.spec.specs.Checks.{SettingsLimits}
+use Rattle.spec.proofs.Limits.{FrameLimits, Pixel}
 
 -- the weight of level i in the window at (s, t)
 unfoldable pub levelWeight : Frame → ℕ → ℕ → ℕ → ℤ
@@ -88,19 +89,6 @@ pub weight-guided : (p : Frame) (s t g : ℕ) → p .set .kind ≡ 2
     → weight p s t g ≡ guidedWeight (pixelCount p s t) (guideSum p s t) (squareSum p s t) (p .set .smoothing) (guide p s t) g
 unfolding weight
 weight-guided p s t g e = rw (ne-eqb (p .set .kind) 1 (λ d. omega arith)) refl
-
--- ---- kind 2: by the level's count and guide sum. V, n·g(x) − S, and the two coefficients
-unfoldable pub variance : Frame → ℕ → ℕ → ℤ
-variance p s t = scaledVariance (pixelCount p s t) (guideSum p s t) (squareSum p s t) (p .set .smoothing)
-
-unfoldable pub deviation : Frame → ℕ → ℕ → ℤ
-deviation p s t = pos (pixelCount p s t * guide p s t) -ℤ pos (guideSum p s t)
-
-unfoldable pub slope : Frame → ℕ → ℕ → ℤ
-slope p s t = pos (pixelCount p s t) *ℤ deviation p s t
-
-unfoldable pub offset : Frame → ℕ → ℕ → ℤ
-offset p s t = variance p s t -ℤ pos (guideSum p s t) *ℤ deviation p s t
 
 -- the weight is linear in the guide
 pub weight-linear : (p : Frame) (s t g : ℕ) → p .set .kind ≡ 2 → weight p s t g ≡ slope p s t *ℤ pos g +ℤ offset p s t

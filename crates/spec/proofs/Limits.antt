@@ -16,22 +16,8 @@ use Rattle.spec.specs.declared.Plan.{Plan}
 use Rattle.spec.specs.Base.{if_then_else_, distance}
 use Rattle.spec.specs.Refusal.{accepted, _▷_, refuse}
 use Rattle.spec.specs.Frame.{Frame, level, guide, table, pixels, ownWeights, settingsOf, trailerOf, planOf, plane, pixelLevel, pixelGuide, builtIn, frameOf}
-use Rattle.spec.specs.Checks.{heaviest, outside, badSize, badCounts, badKind, badRadius, settingsOutcome, scanFile, valueScan, guideScan, tableScan, verdict}
+use Rattle.spec.specs.Checks.{heaviest, outside, badSize, badCounts, badKind, badRadius, settingsOutcome, scanFile, valueScan, guideScan, tableScan, verdict, SettingsLimits}
 use Rattle.spec.proofs.Checks.{both-accepted, not-fired, neither, inside, scan-accepted, Passed, passed}
-
--- the settings that checks 2 to 5 let through
-pub record SettingsLimits (k : Settings) : Type 0 where
-  pub width-low : 1 ≤ k .width
-  pub width-high : k .width ≤ 1024
-  pub height-low : 1 ≤ k .height
-  pub height-high : k .height ≤ 1024
-  pub pixels-high : k .width * k .height ≤ 262144
-  pub levels-low : 2 ≤ k .levels
-  pub levels-high : k .levels ≤ 1024
-  pub guides-low : 2 ≤ k .guides
-  pub guides-high : k .guides ≤ 256
-  pub radius-high : k .radius ≤ 15
-  pub kinds : ((k .kind ≡ 1) × (k .smoothing ≡ 0)) ⊎ ((k .kind ≡ 2) × (1 ≤ k .smoothing) × (k .smoothing ≤ 65025))
 
 pub record FrameLimits (p : Frame) : Type 0 where
   pub sound : SettingsLimits (p .set)

@@ -19,8 +19,10 @@ use Rattle.spec.specs.Frame.{Frame, level, guide}
 use Rattle.spec.specs.Weight.{weight}
 use Rattle.spec.specs.Median.{totalWeight, balance, weightless, median, answer, differences}
 use Rattle.spec.proofs.Ranges.{intSums}
-use Rattle.spec.proofs.Sums.{InWindow, over-inWindow, over-add, over-termℤ}
-use Rattle.spec.proofs.Limits.{SettingsLimits, FrameLimits, Pixel}
+use Rattle.spec.specs.Window.{InWindow}
+use Rattle.spec.proofs.Sums.{over-inWindow, over-add, over-termℤ}
+use Rattle.spec.specs.Checks.{SettingsLimits}
+use Rattle.spec.proofs.Limits.{FrameLimits, Pixel}
 use Rattle.spec.proofs.Levels.{balance-signed}
 use Rattle.spec.proofs.Totals.{median-at, median-before, weightless-total}
 use Rattle.spec.proofs.Monotone.{NoneNegative, balance-mono}

@@ -17,14 +17,15 @@ use Rattle.ints.specs.Polynomial.{_⊕_, _⊖_, _⊗_, #_, _≐_, solve3, solve
 use Rattle.spec.specs.Base.{if_then_else_, indicator}
 use Rattle.spec.specs.declared.Settings.{Settings}
 use Rattle.spec.specs.Frame.{Frame, level, guide}
-use Rattle.spec.specs.Window.{pixelCount, inCell, count}
-use Rattle.spec.specs.Weight.{weight, monotone}
+use Rattle.spec.specs.Window.{pixelCount, inCell, count, InWindow}
+use Rattle.spec.specs.Weight.{weight, monotone, slope, offset}
 use Rattle.spec.specs.Median.{totalWeight, cumulative, balance, median}
 use Rattle.spec.proofs.Ranges.{intSums}
-use Rattle.spec.proofs.Sums.{InWindow, over-inWindow, over-add, over-scale, over-pos, over-nonneg, over-constantℤ}
+use Rattle.spec.proofs.Sums.{over-inWindow, over-add, over-scale, over-pos, over-nonneg, over-constantℤ}
 use Rattle.spec.proofs.Checks.{both}
-use Rattle.spec.proofs.Limits.{SettingsLimits, FrameLimits, Pixel}
-use Rattle.spec.proofs.Levels.{levelWeight, cumulative-zero, cumulative-next, weight-table, weight-linear, slope, offset, cell}
+use Rattle.spec.specs.Checks.{SettingsLimits}
+use Rattle.spec.proofs.Limits.{FrameLimits, Pixel}
+use Rattle.spec.proofs.Levels.{levelWeight, cumulative-zero, cumulative-next, weight-table, weight-linear, cell}
 use Rattle.spec.proofs.Totals.{nonNeg-le, median-at, median-before, median-is}
 
 -- no pixel of the window weighs less than 0

@@ -16,9 +16,9 @@ use Rattle.spec.specs.declared.Plan.{Plan}
 use Rattle.spec.specs.Base.{if_then_else_}
 use Rattle.spec.specs.Refusal.{accepted}
 use Rattle.spec.specs.Frame.{Frame, level, guide, table, tableSize, ownWeights, settingsOf, trailerOf, trailerAt, planOf, plane, pixelLevel, pixelGuide, builtIn, frameOf}
-use Rattle.spec.specs.Checks.{verdict, Planned}
+use Rattle.spec.specs.Checks.{verdict, Planned, SettingsLimits}
 use Rattle.spec.proofs.Checks.{Near, Passed, passed}
-use Rattle.spec.proofs.Limits.{SettingsLimits, FrameLimits, Pixel, limits-of}
+use Rattle.spec.proofs.Limits.{FrameLimits, Pixel, limits-of}
 
 pub record Facts (b : List ℕ) (z : Plan) : Type 0 where
   pub limits : FrameLimits (frameOf b)

@@ -15,13 +15,14 @@ use Rattle.ints.specs.Linear.{ints}
 use Rattle.spec.specs.Base.{if_then_else_, indicator, sum}
 use Rattle.spec.specs.declared.Settings.{Settings}
 use Rattle.spec.specs.Frame.{Frame, level, guide}
-use Rattle.spec.specs.Window.{pixelCount, inCell, count}
+use Rattle.spec.specs.Window.{pixelCount, inCell, count, InWindow}
 use Rattle.spec.specs.Median.{totalWeight, cumulative, balance, median}
 use Rattle.spec.specs.Window.{levelSum}
 use Rattle.spec.proofs.Ranges.{intSums, natSums}
 use Rattle.spec.proofs.Histogram.{pick-inner, over-fold}
-use Rattle.spec.proofs.Sums.{InWindow, over-inWindow, over-term, over-constantℤ}
-use Rattle.spec.proofs.Limits.{SettingsLimits, FrameLimits, Pixel}
+use Rattle.spec.proofs.Sums.{over-inWindow, over-term, over-constantℤ}
+use Rattle.spec.specs.Checks.{SettingsLimits}
+use Rattle.spec.proofs.Limits.{FrameLimits, Pixel}
 use Rattle.spec.proofs.Levels.{levelWeight, cumulative-next}
 use Rattle.spec.proofs.Totals.{median-at, median-before}
 use Rattle.spec.proofs.Monotone.{balance-next, balance-zero, median-down}

@@ -21,7 +21,8 @@ use Rattle.spec.specs.Filter.{turn, serpentine, filtered}
 use Rattle.spec.proofs.First.{length-tabulate, getD-tabulate}
 use Rattle.spec.proofs.Steps.{getD-answers}
 use Rattle.spec.proofs.Walks.{step-to, after-next, arrive-column, arrive-row, arrive-said}
-use Rattle.spec.proofs.Limits.{SettingsLimits, FrameLimits}
+use Rattle.spec.specs.Checks.{SettingsLimits}
+use Rattle.spec.proofs.Limits.{FrameLimits}
 
 -- the column of the d-th pixel of row q that the walk visits, from 0
 unfoldable pub columnIn : ℕ → ℕ → ℕ → ℕ

@@ -14,7 +14,7 @@ use Rattle.ints.specs.Bound.{abs-add}
 use Rattle.spec.specs.Base.{fold, foldRect, sum, sumℤ}
 use Rattle.spec.specs.declared.Settings.{Settings}
 use Rattle.spec.specs.Frame.{Frame}
-use Rattle.spec.specs.Window.{span, over, Σ, Σℤ, pixelCount}
+use Rattle.spec.specs.Window.{span, over, Σ, Σℤ, pixelCount, InWindow}
 use Rattle.spec.proofs.Ranges.{Sums, fold-both, fold-same, natSums, intSums}
 
 -- ---- ranges
@@ -82,14 +82,6 @@ sum-termℤ f a (suc n) k h x y =
     go (inr l) ih u v = let q : f k ≤ℤ sumℤ f a n = ih l in omega (arith, ints, add-parts (sumℤ f a n) (f (a + n)))
 
 -- ---- the window's pixels
-pub record InWindow (p : Frame) (s t x y : ℕ) : Type 0 where
-  pub left : s ≤ x + p .set .radius
-  pub right : x ≤ s + p .set .radius
-  pub wide : x < p .set .width
-  pub top : t ≤ y + p .set .radius
-  pub bottom : y ≤ t + p .set .radius
-  pub high : y < p .set .height
-
 pub in-window : (p : Frame) (s t x y : ℕ) → s - p .set .radius ≤ x → x < s - p .set .radius + span (p .set .radius) s (p .set .width)
     → t - p .set .radius ≤ y → y < t - p .set .radius + span (p .set .radius) t (p .set .height) → InWindow p s t x y
 unfolding span

@@ -20,7 +20,8 @@ use Rattle.spec.specs.Walk.{State, arrive, toIf, move, follow, step, aft
 use Rattle.spec.specs.declared.Move.{Move}
 use Rattle.spec.specs.declared.Move.the-variants.{To, Nowhere}
 use Rattle.spec.proofs.Steps.{after-one, length-answers, getD-answers}
-use Rattle.spec.proofs.Limits.{SettingsLimits, FrameLimits, Pixel}
+use Rattle.spec.specs.Checks.{SettingsLimits}
+use Rattle.spec.proofs.Limits.{FrameLimits, Pixel}
 use Rattle.spec.proofs.Totals.{median-low, answer-low}
 use Rattle.spec.proofs.Minimum.{answer-median, answer-weightless}
 

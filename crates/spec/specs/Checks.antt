@@ -1,7 +1,8 @@
 -- Checks 1 to 7, which every call on a file makes first.
 -- Assumes nothing.
+use mathlib.Core.Logic.{_⊎_}
 use mathlib.Core.Path.{_≡_}
-use Prim.Native.Nat.{ℕ, _+_, _*_}
+use Prim.Native.Nat.{ℕ, _+_, _*_, _≤_}
 use mathlib.Core.Bool.{Bool, true, not, _&&_, _||_}
 use mathlib.Core.List.{List, [], _∷_}
 use lib.Dec.{leb, ltb, eqb}
@@ -39,6 +40,20 @@ badRadius k = ltb 15 (k .radius)
 -- checks 2 to 5, which the writer shares
 unfoldable pub settingsOutcome : Settings → Outcome
 settingsOutcome k = refuse 2 (badSize k) ▷ refuse 3 (badCounts k) ▷ refuse 4 (badKind k) ▷ refuse 5 (badRadius k)
+
+-- document 01's limits, as checks 2 to 5 leave them (`settings-limits` of proofs/Limits)
+pub record SettingsLimits (k : Settings) : Type 0 where
+  pub width-low : 1 ≤ k .width
+  pub width-high : k .width ≤ 1024
+  pub height-low : 1 ≤ k .height
+  pub height-high : k .height ≤ 1024
+  pub pixels-high : k .width * k .height ≤ 262144
+  pub levels-low : 2 ≤ k .levels
+  pub levels-high : k .levels ≤ 1024
+  pub guides-low : 2 ≤ k .guides
+  pub guides-high : k .guides ≤ 256
+  pub radius-high : k .radius ≤ 15
+  pub kinds : ((k .kind ≡ 1) × (k .smoothing ≡ 0)) ⊎ ((k .kind ≡ 2) × (1 ≤ k .smoothing) × (k .smoothing ≤ 65025))
 
 -- check 6, of a file whose trailer begins at an offset
 unfoldable pub badDistance : ℕ → Trailer → Bool

@@ -108,6 +108,19 @@ planOf b =
       weights = ownWeights t;
     }
 
+-- the settings that a plan holds
+abbrev pub settingsIn : Plan → Settings
+settingsIn z =
+    record {
+      width = z .width;
+      height = z .height;
+      levels = z .levels;
+      guides = z .guides;
+      kind = z .kind;
+      radius = z .radius;
+      smoothing = z .smoothing;
+    }
+
 -- number q of a plane that begins at a byte
 abbrev pub plane : List ℕ → ℕ → ℕ → ℕ
 plane b start q = be16 b (start + 2 * q)

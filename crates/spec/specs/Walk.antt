@@ -6,12 +6,18 @@ use mathlib.Core.List.{List, [], _∷_}
 use lib.Dec.{ltb, eqb}
 use lib.ListN.{getD, take}
 use Rattle.spec.specs.declared.Settings.{Settings}
+use Rattle.spec.specs.declared.Answer.{Answer}
 use Rattle.spec.specs.declared.Move.{Move}
 use Rattle.spec.specs.declared.Move.the-variants.{To, Nowhere}
 use Rattle.spec.specs.Base.{if_then_else_, distance}
 use Rattle.spec.specs.Frame.{Frame, level}
 use Rattle.spec.specs.Weight.{monotone}
 use Rattle.spec.specs.Median.{weightless, median}
+
+-- the number that an answer is lent as, for each case of the code's enum
+abbrev pub answerNumber : Answer → ℕ
+answerNumber (Answer.Level level) = level .0
+answerNumber (Answer.Mark mark) = mark
 
 -- the walk after some bytes: its pixel, its cut point, its shift count, and its last answer
 pub record State : Type 0 where

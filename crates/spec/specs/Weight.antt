@@ -27,3 +27,16 @@ weight p s t g =
 -- document 01: steady. No guide can weigh less than 0, so the cumulative weight never falls
 unfoldable pub monotone : Frame → ℕ → ℕ → Bool
 monotone p s t = eqb (p .set .kind) 1 || (nonNeg (weight p s t 0) && nonNeg (weight p s t (p .set .guides - 1)))
+
+-- ---- kind 2, linear in the pixel's guide: V, n·g(x) − S, and the weight as slope · g + offset
+unfoldable pub variance : Frame → ℕ → ℕ → ℤ
+variance p s t = scaledVariance (pixelCount p s t) (guideSum p s t) (squareSum p s t) (p .set .smoothing)
+
+unfoldable pub deviation : Frame → ℕ → ℕ → ℤ
+deviation p s t = pos (pixelCount p s t * guide p s t) -ℤ pos (guideSum p s t)
+
+unfoldable pub slope : Frame → ℕ → ℕ → ℤ
+slope p s t = pos (pixelCount p s t) *ℤ deviation p s t
+
+unfoldable pub offset : Frame → ℕ → ℕ → ℤ
+offset p s t = variance p s t -ℤ pos (guideSum p s t) *ℤ deviation p s t

@@ -1,6 +1,6 @@
 -- The window: the picture's pixels at most r columns and r rows away from its centre, in column s and row t; and its sums.
 -- Assumes nothing.
-use Prim.Native.Nat.{ℕ, _+_, _-_, _*_, min}
+use Prim.Native.Nat.{ℕ, _+_, _-_, _*_, min, _≤_, _<_}
 use mathlib.Core.Bool.{_&&_}
 use lib.Dec.{eqb}
 use lib.IntN.{ℤ, pos, _+ℤ_}
@@ -11,6 +11,15 @@ use Rattle.spec.specs.Frame.{Frame, level, guide}
 -- how many of the numbers below size are at most r away from c: they begin at c − r, or at 0
 unfoldable pub span : ℕ → ℕ → ℕ → ℕ
 span r c size = min size (c + r + 1) - (c - r)
+
+-- the pixel in column x and row y is one of the window's
+pub record InWindow (p : Frame) (s t x y : ℕ) : Type 0 where
+  pub left : s ≤ x + p .set .radius
+  pub right : x ≤ s + p .set .radius
+  pub wide : x < p .set .width
+  pub top : t ≤ y + p .set .radius
+  pub bottom : y ≤ t + p .set .radius
+  pub high : y < p .set .height
 
 -- ---- the sum of f over the window's pixels
 module _ {A : Type 0} (_⊕_ : A → A → A) (z : A) where

@@ -2,6 +2,7 @@
 ghost use mathlib.Core.Path.{_≡_};
 ghost use Rattle.spec.specs.Frame.{newSettings};
 ghost use Rattle.spec.specs.Refusal.{number, offsetOf};
+ghost use Rattle.spec.specs.Walk.{answerNumber};
 
 // A level index counts temperature steps.
 pub struct Level(pub u16);
@@ -105,6 +106,22 @@ pub struct Room {
 pub enum Move {
     To(usize, usize),
     Nowhere(u16),
+}
+
+// What a walk answers: a window's level, or the mark of a byte that moves nothing.
+pub enum Answer {
+    Level(Level),
+    Mark(u16),
+}
+
+// The number that an answer is lent as.
+pub fn answer_number(answer: Answer) -> u16
+    ensures { λ r. ⌜ r ≡ answerNumber answer ⌝ }
+{
+    match answer {
+        Answer::Level(level) => level.0,
+        Answer::Mark(mark) => mark,
+    }
 }
 
 // Document 01's number of a refusal, and the byte offset beside number 7 (0 for the others).

@@ -12,7 +12,7 @@ use Rattle.spec.specs.declared.Plan.{Plan}
 use Rattle.spec.specs.declared.Room.{Room}
 use Rattle.spec.specs.declared.Way.{Way}
 use Rattle.spec.specs.declared.Way.the-variants.{Joint, Columns, Chain}
-use Rattle.spec.specs.Frame.{Frame, frameOf}
+use Rattle.spec.specs.Frame.{Frame, frameOf, settingsIn}
 use Rattle.spec.specs.Checks.{Planned}
 use Rattle.spec.specs.Walk.{arrive}
 use Rattle.spec.specs.Window.{count}
@@ -32,7 +32,7 @@ use Rattle.chain.specs.Moves.{Listed}
 use Rattle.chain_search.specs.declared.visit.Visit as chain
 use Rattle.chain_search.specs.Visit as chain-visit
 use Rattle.ways.specs.declared.Visit.{Visit}
-use Rattle.ways.specs.Visit.{settingsIn, stores, Left, usedOf, Carried, Within, stateOf, AtWindow, Visited}
+use Rattle.ways.specs.Visit.{stores, Left, usedOf, Carried, Within, stateOf, AtWindow, Visited}
 use Rattle.ways.specs.Each.{ofJoint, toJoint, ofColumns, toColumns, ofChain, toChain}
 
 -- the plan's settings are the file's

@@ -23,19 +23,6 @@ use Rattle.spec.specs.Calls.{roomOf, countsOf, wordsOf, NumbersOf, boxOf}
 use Rattle.ways.specs.declared.Visit.{Visit}
 use Rattle.ways.specs.declared.Carry.{Carry}
 
--- the settings that a plan holds
-abbrev pub settingsIn : Plan → Settings
-settingsIn z =
-    record {
-      width = z .width;
-      height = z .height;
-      levels = z .levels;
-      guides = z .guides;
-      kind = z .kind;
-      radius = z .radius;
-      smoothing = z .smoothing;
-    }
-
 pub record Stores : Type 0 where
   pub counts : List ℕ
   pub words : List ℕ

@@ -5,13 +5,13 @@ use spec::Plan;
 use spec::Way;
 ghost use mathlib.Core.Path.{_≡_};
 ghost use Prim.Native.Nat.{ℕ, _<_};
-ghost use Rattle.spec.specs.Frame.{frameOf};
+ghost use Rattle.spec.specs.Frame.{frameOf, settingsIn};
 ghost use Rattle.spec.specs.Checks.{Planned};
 ghost use Rattle.spec.specs.Walk.{arrive};
 ghost use Rattle.spec.specs.Calls.{zeros};
 ghost use Rattle.window.specs.Line.{Adjacent};
 ghost use Rattle.joint_search.specs.Arrive.{WeightRows};
-ghost use Rattle.ways.specs.Visit.{settingsIn, stores, Fit, Cleared, Serves, Within, AtWindow, Visited};
+ghost use Rattle.ways.specs.Visit.{stores, Fit, Cleared, Serves, Within, AtWindow, Visited};
 
 // An empty box.
 pub fn blank() -> [i16; 256]

@@ -14,9 +14,9 @@ use Rattle.ints.specs.Polynomial.{_⊕_, _⊗_, #_, _≐_, solve2}
 use Rattle.spec.specs.declared.Plan.{Plan}
 use Rattle.spec.specs.Frame.{Frame, guide, frameOf}
 use Rattle.spec.specs.Checks.{Planned}
-use Rattle.spec.specs.Weight.{scaledVariance, monotone}
+use Rattle.spec.specs.Weight.{scaledVariance, monotone, variance, deviation, slope, offset}
 use Rattle.spec.proofs.Plans.{facts, pixel-of, smoothing-of}
-use Rattle.spec.proofs.Levels.{variance, deviation, slope, offset, weight-linear}
+use Rattle.spec.proofs.Levels.{weight-linear}
 use Rattle.spec.proofs.Totals.{total-guided}
 use Rattle.spec.proofs.Bounds.{slope-abs, offset-abs, total-abs}
 use Rattle.window.specs.declared.sums.Sums.{Sums}

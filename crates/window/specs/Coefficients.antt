@@ -7,7 +7,7 @@ use lib.IntN.{ℤ, pos, natAbs, _+ℤ_, _-ℤ_, _*ℤ_}
 use lib.Signed.{nonNeg}
 use Rattle.spec.specs.Frame.{Frame}
 use Rattle.spec.specs.Median.{totalWeight}
-use Rattle.spec.proofs.Levels.{slope, offset}
+use Rattle.spec.specs.Weight.{slope, offset}
 use Rattle.window.specs.declared.sums.Sums.{Sums}
 use Rattle.window.specs.declared.coefficients.Coefficients.{Coefficients}
 

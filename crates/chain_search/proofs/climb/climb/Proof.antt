@@ -7,7 +7,7 @@ use Prim.Native.Nat.{ℕ, _≤_, _<_, _-_, _+_, _*_}
 use native.Mathlib.Omega.{arith}
 use borrow.Author.Needs.{needs}
 use lib.ListN.{length, getD}
-use Rattle.spec.proofs.First.{First}
+use Rattle.spec.specs.Base.{First}
 use Rattle.chain.specs.Chain.{levelIn, countIn, guidesIn}
 use Rattle.chain_search.specs.Climb.{reach, reachAt, Climbs}
 use Rattle.chain_search.proofs.ClimbLaws.{ahead, Climbing, climb-start, climb-end, cur-in, cur-level, count-small, sum-small, climb-here, climb-next, ahead-less}
