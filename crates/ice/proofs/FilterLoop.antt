@@ -17,7 +17,7 @@ use Rattle.spec.specs.declared.Way.{Way}
 use Rattle.spec.specs.Base.{tabulate}
 use Rattle.spec.specs.Frame.{Frame, pixels, frameOf}
 use Rattle.spec.specs.Median.{answer}
-use Rattle.spec.specs.Walk.{State, arrive, start, step, after, walkEnd}
+use Rattle.spec.specs.Walk.{State, answerNumber, arrive, start, step, after, walkEnd}
 use Rattle.spec.specs.Filter.{turn, serpentine, filtered, filterEnd}
 use Rattle.spec.proofs.First.{length-tabulate, getD-tabulate}
 use Rattle.spec.specs.Checks.{Planned, SettingsLimits}
@@ -108,15 +108,15 @@ module _ (way : Way) (b : List ℕ) (g : FrameLimits (frameOf b)) where
   sweep-place v i l a = subst (λ (n : ℕ). n < pixels (p .set)) (sym (place v i a)) (visited-low (p .set) (g .sound .width-low) i l)
 
   pub sweep-start : (z : Stores) (O : List ℕ) (d : List ℤ) (v : Visit) → pixels (p .set) ≤ length O → stateOf v ≡ start p 0 0 → AtWindow way b z d v
-      → Held p (stateOf v) 1 → Sweeping way b (stateOf v) z (set O 0 (v .answer .0)) z (set O 0 (v .answer .0)) d v 0
-  sweep-start z O d v long e h on =
+      → Held p (stateOf v) 1 → (m : ℕ) → m ≡ answerNumber (v .answer) → Sweeping way b (stateOf v) z (set O 0 m) z (set O 0 m) d v 0
+  sweep-start z O d v long e h on m em =
       let k : At p (stateOf v) (columnAfter (p .set .width) 0) (0 / p .set .width) =
       subst (λ (q : State). At p q (columnAfter (p .set .width) 0) (0 / p .set .width)) (sym e) (serpentine-begins g) in
       let o : visited (p .set .width) 0 ≡ 0 = sym (place v 0 k) ∙ zero-place in
       record {
         going = going-start way b (serpentine (p .set)) z d v h on;
         at = k;
-        plane = rw o at (plane-first p g O long (v .answer .0) pixels-some (k .said));
+        plane = rw o at (plane-first p g O long m pixels-some (em ∙ k .said));
         rest = left-same _ _;
         inside = pixels-some;
       }
@@ -130,16 +130,16 @@ module _ (way : Way) (b : List ℕ) (g : FrameLimits (frameOf b)) where
 
   pub sweep-more : (x : State) (a : Stores) (O₀ : List ℕ) (z : Stores) (O : List ℕ) (d : List ℤ) (v : Visit) (i : ℕ) → Sweeping way b x a O₀ z O d v i
       → i + 1 < pixels (p .set) → pixels (p .set) ≤ length O₀ → (byte : ℕ) → byte ≡ turn (p .set .width) i → (z′ : Stores) (d′ : List ℤ) (v′ : Visit)
-      → Visited way b (step p (stateOf v) byte) z z′ d′ v′
-      → Sweeping way b x a O₀ z′ (set O (v′ .row * p .set .width + v′ .column) (v′ .answer .0)) d′ v′ (i + 1)
-  sweep-more x a O₀ z O d v i w l long byte eb z′ d′ v′ h =
+      → Visited way b (step p (stateOf v) byte) z z′ d′ v′ → (m : ℕ) → m ≡ answerNumber (v′ .answer)
+      → Sweeping way b x a O₀ z′ (set O (v′ .row * p .set .width + v′ .column) m) d′ v′ (i + 1)
+  sweep-more x a O₀ z O d v i w l long byte eb z′ d′ v′ h m em =
       let k = sweep-goes x a O₀ z O d v i w l byte eb z′ d′ v′ h in
       let e : v′ .row * p .set .width + v′ .column ≡ visited (p .set .width) (i + 1) = place v′ (i + 1) k in
       let lo : length O ≡ length O₀ = w .rest .long in
       record {
         going = going-more way b (serpentine (p .set)) x a z d v i (w .going) (omega (arith, serpentine-length (p .set))) byte (eb ∙ sym (serpentine-byte (p .set) i l)) z′ d′ v′ h;
         at = k;
-        plane = rw e (plane-more p g O (omega arith) i _ l (k .said) (w .plane));
+        plane = rw e (plane-more p g O (omega arith) i m l (em ∙ k .said) (w .plane));
         rest = rw e (left-trans _ O₀ O _ (w .rest) (left-set O (visited (p .set .width) (i + 1)) _ _ (visited-low (p .set) (g .sound .width-low) (i + 1) l)));
         inside = l;
       }
@@ -169,9 +169,9 @@ module _ (way : Way) {b : List ℕ} {z : Plan} (k : Planned b z) where
   first-in = let f = facts k in (rw (f .width) (f .limits .sound .width-low), rw (f .height) (f .limits .sound .height-low))
 
   pub sweeping-start : (s : Stores) (O : List ℕ) (d : List ℤ) (v : Visit) → n ≤ length O → stateOf v ≡ start (frameOf b) 0 0 → AtWindow way b s d v
-      → Sweeping way b (stateOf v) s (set O 0 (v .answer .0)) s (set O 0 (v .answer .0)) d v 0
-  sweeping-start s O d v long e h =
-      sweep-start way b (facts k .limits) s O d v (rw count-is at long) e h (held-first k 0 0 v (first-in .0) (first-in .1) e)
+      → (m : ℕ) → m ≡ answerNumber (v .answer) → Sweeping way b (stateOf v) s (set O 0 m) s (set O 0 m) d v 0
+  sweeping-start s O d v long e h m em =
+      sweep-start way b (facts k .limits) s O d v (rw count-is at long) e h (held-first k 0 0 v (first-in .0) (first-in .1) e) m em
 
   module _ (x : State) (a : Stores) (O₀ : List ℕ) (s : Stores) (O : List ℕ) (d : List ℤ) (v : Visit) (i : ℕ) (w : Sweeping way b x a O₀ s O d v i) where
     pub sweeping-low : i < 262144
@@ -190,8 +190,10 @@ module _ (way : Way) {b : List ℕ} {z : Plan} (k : Planned b z) where
           rw (count-is, facts k .width)
           (sweep-place way b (facts k .limits) v′ (i + 1) inside (sweep-goes way b (facts k .limits) x a O₀ s O d v i w inside byte byte-is s′ d′ v′ h))
 
-      pub sweeping-more : n ≤ length O₀ → Sweeping way b x a O₀ s′ (set O (v′ .row * z .width + v′ .column) (v′ .answer .0)) d′ v′ (i + 1)
-      sweeping-more long = rw (facts k .width) (sweep-more way b (facts k .limits) x a O₀ s O d v i w inside (rw count-is at long) byte byte-is s′ d′ v′ h)
+      pub sweeping-more : n ≤ length O₀ → (m : ℕ) → m ≡ answerNumber (v′ .answer)
+          → Sweeping way b x a O₀ s′ (set O (v′ .row * z .width + v′ .column) m) d′ v′ (i + 1)
+      sweeping-more long m em =
+          rw (facts k .width) (sweep-more way b (facts k .limits) x a O₀ s O d v i w inside (rw count-is at long) byte byte-is s′ d′ v′ h m em)
 
     pub sweeping-end : (a₀ : Stores) (O₁ : List ℕ) → n ≤ i + 1 → n ≤ length O₀ → x ≡ start (frameOf b) 0 0 → Kept way (frameOf b .set) a₀ a → (q : ℕ) → O₀ ≡ set O₁ 0 q
         → Visited way b (filterEnd (frameOf b)) a₀ s d v × (O ≡ filtered (frameOf b) ++ drop (pixels (frameOf b .set)) O₁)

@@ -3,4 +3,3 @@ pub mod Laws
 pub mod WalkLoop
 pub mod FilterLoop
 pub mod CallLaws
-pub mod Demands

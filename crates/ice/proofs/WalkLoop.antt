@@ -1,7 +1,7 @@
 -- The walk's loop: its invariant and what a turn does to it, over plain values.
 -- Assumes nothing.
 use Prim.Native.Nat.{ℕ, zero, suc, _+_, _*_, _≤_, _<_}
-use mathlib.Core.Path.{_≡_, refl, ap, sym, _∙_, subst}
+use mathlib.Core.Path.{_≡_, refl, ap, ap₂, sym, _∙_, subst}
 use mathlib.Core.List.{List, [], _∷_, _++_}
 use native.Mathlib.Omega.{arith}
 use native.Mathlib.Numerals.{add-one}
@@ -13,7 +13,7 @@ use Rattle.spec.specs.declared.Plan.{Plan}
 use Rattle.spec.specs.declared.Way.{Way}
 use Rattle.spec.specs.Frame.{Frame, frameOf, settingsIn}
 use Rattle.spec.specs.Checks.{Planned}
-use Rattle.spec.specs.Walk.{State, arrive, start, step, after, answers, walkEnd, walkAnswers}
+use Rattle.spec.specs.Walk.{State, answerNumber, arrive, start, step, answers, walkEnd, walkAnswers}
 use Rattle.spec.proofs.Plans.{pixel-of}
 use Rattle.spec.proofs.Steps.{length-answers}
 use Rattle.spec.proofs.Walks.{Held, held-start}
@@ -42,13 +42,13 @@ finished {way} {b} {x} {a} {z} {d} v r h e s c k =
     (record { verdict = e; shifts = s; cut = c; holds = rw k (h .here .holds); kept = h .kept })
 
 module _ (way : Way) (b ms : List ℕ) where
-  pub walking-start : (z : Stores) (A : List ℕ) (d : List ℤ) (v : Visit) → 0 < length A → AtWindow way b z d v → Held (frameOf b) (stateOf v) 1
-      → Walking way b ms (stateOf v) z (set A 0 (v .answer .0)) z (set A 0 (v .answer .0)) d v 0
+  pub walking-start : (z : Stores) (A : List ℕ) (d : List ℤ) (v : Visit) → 0 < length A → AtWindow way b z d v → Held (frameOf b) (stateOf v) 1 → (m : ℕ) → m ≡ answerNumber (v .answer)
+      → Walking way b ms (stateOf v) z (set A 0 m) z (set A 0 m) d v 0
   unfolding answers
-  walking-start z A d v l h on =
+  walking-start z A d v l h on m em =
       record {
         going = going-start way b ms z d v h on;
-        told = set-split A 0 (v .answer .0) l ∙ ap (λ (q : List ℕ). v .answer .0 ∷ q) (sym (drop-set-lt 1 A 0 (v .answer .0) (omega arith)));
+        told = set-split A 0 m l ∙ ap₂ (λ (n : ℕ) (q : List ℕ). n ∷ q) em (sym (drop-set-lt 1 A 0 m (omega arith)));
       }
 
   pub walking-long : (x : State) (a : Stores) (A₀ : List ℕ) (z : Stores) (A : List ℕ) (d : List ℤ) (v : Visit) (i : ℕ)
@@ -60,13 +60,13 @@ module _ (way : Way) (b ms : List ℕ) where
 
   pub walking-more : (x : State) (a : Stores) (A₀ : List ℕ) (z : Stores) (A : List ℕ) (d : List ℤ) (v : Visit) (i : ℕ) → Walking way b ms x a A₀ z A d v i
       → i < length ms → length ms + 1 ≤ length A₀ → (z′ : Stores) (d′ : List ℤ) (v′ : Visit)
-      → Visited way b (step (frameOf b) (stateOf v) (getD ms i 0)) z z′ d′ v′
-      → Walking way b ms x a A₀ z′ (set A (i + 1) (v′ .answer .0)) d′ v′ (i + 1)
-  walking-more x a A₀ z A d v i w l long z′ d′ v′ h =
+      → Visited way b (step (frameOf b) (stateOf v) (getD ms i 0)) z z′ d′ v′ → (m : ℕ) → m ≡ answerNumber (v′ .answer)
+      → Walking way b ms x a A₀ z′ (set A (i + 1) m) d′ v′ (i + 1)
+  walking-more x a A₀ z A d v i w l long z′ d′ v′ h m em =
       let p = frameOf b in
       let front = answers p x (take i ms) in
-      let said : v′ .answer .0 ≡ step p (stateOf v) (getD ms i 0) .said = ap (λ (q : State). q .said) (h .state) in
-      let g : answers p x (take (i + 1) ms) ≡ front ++ (v′ .answer .0 ∷ []) =
+      let said : m ≡ step p (stateOf v) (getD ms i 0) .said = em ∙ ap (λ (q : State). q .said) (h .state) in
+      let g : answers p x (take (i + 1) ms) ≡ front ++ (m ∷ []) =
       rw (add-one i, take-suc ms i 0 l)
       (answers-one p x (take i ms) (getD ms i 0)
       ∙ ap (λ (q : State). front ++ (step p q (getD ms i 0) .said ∷ [])) (sym (w .going .visited .state))

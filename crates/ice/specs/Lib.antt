@@ -1,3 +1,2 @@
 pub mod Result
 pub mod Contract
-pub mod Demands

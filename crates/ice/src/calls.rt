@@ -2,7 +2,6 @@
 // fires.
 use crate::Balanced;
 use crate::Walked;
-use crate::checks;
 use crate::filter::sweep;
 use crate::walk::travel;
 use frame::check::stops;
@@ -28,7 +27,7 @@ ghost use Rattle.ice.specs.Result.{Finished, Zeroed, isJoint};
 ghost use Rattle.ice.specs.Contract.{Walks, Filters, Balances};
 
 // The result of a refused call.
-pub fn refused(verdict: Verdict) -> Walked
+fn refused(verdict: Verdict) -> Walked
     ensures { λ r. ⌜ Zeroed verdict r ⌝ }
 {
     let cells = dispatch::blank();

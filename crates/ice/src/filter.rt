@@ -1,9 +1,11 @@
 // The filter: the walk through the whole picture, each answer at its pixel's place.
 use crate::Walked;
 use crate::walk;
+use checks::moves::turn_at;
 use spec::Plan;
 use spec::Verdict;
 use spec::Way;
+use spec::answer_number;
 use ways::dispatch;
 ghost use mathlib.Core.Path.{_≡_};
 ghost use mathlib.Core.List.{_++_};
@@ -11,25 +13,11 @@ ghost use Prim.Native.Nat.{ℕ, _+_, _*_, _<_, _≤_};
 ghost use lib.ListN.{length, drop};
 ghost use Rattle.spec.specs.Frame.{frameOf, pixels, settingsIn};
 ghost use Rattle.spec.specs.Checks.{Planned};
-ghost use Rattle.spec.specs.Filter.{turn, filtered, filterEnd};
+ghost use Rattle.spec.specs.Filter.{filtered, filterEnd};
 ghost use Rattle.spec.specs.Calls.{zeros};
 ghost use Rattle.joint_search.specs.Arrive.{WeightRows};
 ghost use Rattle.ways.specs.Visit.{stores, Fit, Cleared, Serves};
 ghost use Rattle.ice.specs.Result.{Finished};
-
-// Byte i of the filter's list, in pictures w wide.
-fn turn_at(w: usize, i: usize) -> u8
-    requires { ⌜ (0 < w) × (i < 262144) ⌝ }
-    ensures { λ r. ⌜ r ≡ turn w i ⌝ }
-{
-    if (i + 1) % w == 0 {
-        return 2;
-    }
-    if (i / w) % 2 == 0 {
-        return 0;
-    }
-    1
-}
 
 // The filter's work, after the checks. The box comes and goes by value, and is lent inside.
 pub fn sweep(
@@ -65,7 +53,8 @@ pub fn sweep(
         words,
         numbers,
     );
-    output[0] = visit.answer.0;
+    let first = visit.answer;
+    output[0] = answer_number(first);
     let mut i = 0;
     while i + 1 < n {
         let then = walk::step(
@@ -83,12 +72,14 @@ pub fn sweep(
         visit = then;
         i += 1;
         let at = then.row * width + then.column;
-        output[at] = then.answer.0;
+        let answer = then.answer;
+        output[at] = answer_number(answer);
     }
     let cut = visit.cut;
+    let shifts = visit.shifts;
     Walked {
         verdict: Verdict::Accepted,
-        shifts: visit.shifts,
+        shifts,
         cut,
         cells: held,
     }

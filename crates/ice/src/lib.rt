@@ -1,8 +1,7 @@
 // The public calls: walk, filter and balance.
 pub mod calls;
-pub mod checks;
-pub mod filter;
-pub mod walk;
+mod filter;
+mod walk;
 
 use spec::Level;
 use spec::Verdict;

@@ -1,10 +1,12 @@
 // The walk: its checks, its loop, one byte of its list.
 use crate::Walked;
-use spec::Level;
+use checks::moves::next;
+use spec::Answer;
 use spec::Move;
 use spec::Plan;
 use spec::Verdict;
 use spec::Way;
+use spec::answer_number;
 use ways::Visit;
 use ways::dispatch;
 ghost use mathlib.Core.Path.{_≡_};
@@ -12,45 +14,12 @@ ghost use mathlib.Core.List.{_++_};
 ghost use Prim.Native.Nat.{ℕ, _+_, _<_, _≤_};
 ghost use lib.ListN.{length, drop};
 ghost use Rattle.spec.specs.Frame.{frameOf, settingsIn};
-ghost use Rattle.spec.specs.Checks.{Planned, SettingsLimits};
+ghost use Rattle.spec.specs.Checks.{Planned};
 ghost use Rattle.spec.specs.Walk as definitions;
 ghost use Rattle.spec.specs.Calls.{zeros};
 ghost use Rattle.joint_search.specs.Arrive.{WeightRows};
 ghost use Rattle.ways.specs.Visit.{stateOf, stores, Fit, Cleared, Serves, Within, AtWindow, Visited};
 ghost use Rattle.ice.specs.Result.{Finished};
-
-// Where a byte leads.
-pub fn next(z: Plan, column: usize, row: usize, byte: u8) -> Move
-    requires { ⌜ SettingsLimits (settingsIn z) ⌝ }
-    requires { ⌜ (column < z .width) × (row < z .height) ⌝ }
-    ensures { λ r. ⌜ r ≡ definitions.move (settingsIn z) column row byte ⌝ }
-{
-    if byte == 0 {
-        if column + 1 < z.width {
-            return Move::To(column + 1, row);
-        }
-        return Move::Nowhere(65534);
-    }
-    if byte == 1 {
-        if 0 < column {
-            return Move::To(column - 1, row);
-        }
-        return Move::Nowhere(65534);
-    }
-    if byte == 2 {
-        if row + 1 < z.height {
-            return Move::To(column, row + 1);
-        }
-        return Move::Nowhere(65534);
-    }
-    if byte == 3 {
-        if 0 < row {
-            return Move::To(column, row - 1);
-        }
-        return Move::Nowhere(65534);
-    }
-    Move::Nowhere(65533)
-}
 
 // One byte of the list: the window that it leads to, or the mark.
 pub fn step(
@@ -94,7 +63,7 @@ pub fn step(
                 row: visit.row,
                 cut,
                 shifts: visit.shifts,
-                answer: Level(mark),
+                answer: Answer::Mark(mark),
                 carry,
             }
         }
@@ -138,7 +107,8 @@ pub fn travel(
         words,
         numbers,
     );
-    answers[0] = visit.answer.0;
+    let start = visit.answer;
+    answers[0] = answer_number(start);
     let mut i = 0;
     while i < moves.len() {
         let then = step(
@@ -155,12 +125,14 @@ pub fn travel(
         );
         visit = then;
         i += 1;
-        answers[i] = visit.answer.0;
+        let answer = then.answer;
+        answers[i] = answer_number(answer);
     }
     let cut = visit.cut;
+    let shifts = visit.shifts;
     Walked {
         verdict: Verdict::Accepted,
-        shifts: visit.shifts,
+        shifts,
         cut,
         cells: held,
     }

@@ -14,7 +14,7 @@ use Rattle.spec.specs.declared.Way.{Way}
 use Rattle.spec.specs.declared.Way.the-variants.{Joint, Columns, Chain}
 use Rattle.spec.specs.Frame.{Frame, frameOf, settingsIn}
 use Rattle.spec.specs.Checks.{Planned}
-use Rattle.spec.specs.Walk.{arrive}
+use Rattle.spec.specs.Walk.{arrive, answerNumber}
 use Rattle.spec.specs.Window.{count}
 use Rattle.spec.specs.Joint.{jointCounts, wordsPerLevel, occupancyWord, occupancyWords}
 use Rattle.spec.specs.Columns.{columnStore}
@@ -51,7 +51,7 @@ settings-same {b} {z} k =
 
 -- a visit's state, field by field
 state-is : (p : Frame) (s t c n : ℕ) (v : Visit) → v .column ≡ s → v .row ≡ t → v .cut .0 ≡ arrive p s t c n .cut → v .shifts ≡ arrive p s t c n .shifts
-    → v .answer .0 ≡ arrive p s t c n .said → stateOf v ≡ arrive p s t c n
+    → answerNumber (v .answer) ≡ arrive p s t c n .said → stateOf v ≡ arrive p s t c n
 state-is p s t c n v col row cut sh said =
     λ i. record {
       column = (col ∙ sym (arrive-column p s t c n)) i;

@@ -1,6 +1,7 @@
--- A way's own visit as the common one, and back.
+-- A way's own visit as the common one, and back: a move needs no former answer, and the cut point stands in its place.
 -- Assumes nothing.
 use Prim.Native.Nat.{ℕ}
+use Rattle.spec.specs.declared.Answer.{Answer}
 use Rattle.joint_search.specs.declared.visit.Visit as joint
 use Rattle.columns.specs.declared.visit.Visit as columns
 use Rattle.chain_search.specs.declared.visit.Visit as chain
@@ -13,12 +14,12 @@ ofJoint v s t =
       row = t;
       cut = v .cut;
       shifts = v .shifts;
-      answer = v .answer;
+      answer = Answer.Level (v .answer);
       carry = record { sums = v .sums; below = v .below; free = record { head = 0; count = 0 } };
     }
 
 abbrev pub toJoint : Visit → joint.Visit
-toJoint v = record { sums = v .carry .sums; below = v .carry .below; cut = v .cut; shifts = v .shifts; answer = v .answer }
+toJoint v = record { sums = v .carry .sums; below = v .carry .below; cut = v .cut; shifts = v .shifts; answer = v .cut }
 
 abbrev pub ofColumns : columns.Visit → ℕ → ℕ → Visit
 ofColumns v s t =
@@ -27,12 +28,12 @@ ofColumns v s t =
       row = t;
       cut = v .cut;
       shifts = v .shifts;
-      answer = v .answer;
+      answer = Answer.Level (v .answer);
       carry = record { sums = v .sums; below = v .below; free = record { head = 0; count = 0 } };
     }
 
 abbrev pub toColumns : Visit → columns.Visit
-toColumns v = record { sums = v .carry .sums; below = v .carry .below; cut = v .cut; shifts = v .shifts; answer = v .answer }
+toColumns v = record { sums = v .carry .sums; below = v .carry .below; cut = v .cut; shifts = v .shifts; answer = v .cut }
 
 abbrev pub ofChain : chain.Visit → ℕ → ℕ → Visit
 ofChain v s t =
@@ -41,9 +42,9 @@ ofChain v s t =
       row = t;
       cut = v .cut;
       shifts = v .shifts;
-      answer = v .answer;
+      answer = Answer.Level (v .answer);
       carry = record { sums = v .sums; below = record { count = 0; sum = 0 }; free = v .free };
     }
 
 abbrev pub toChain : Visit → chain.Visit
-toChain v = record { sums = v .carry .sums; free = v .carry .free; cut = v .cut; shifts = v .shifts; answer = v .answer }
+toChain v = record { sums = v .carry .sums; free = v .carry .free; cut = v .cut; shifts = v .shifts; answer = v .cut }

@@ -18,7 +18,7 @@ use Rattle.histogram.specs.Histogram.{Blank}
 use Rattle.joint_search.specs.Arrive as joint
 use Rattle.levels.specs.Tally.{BelowAt}
 use Rattle.chain.specs.Moves.{Listed}
-use Rattle.spec.specs.Walk.{State}
+use Rattle.spec.specs.Walk.{State, answerNumber}
 use Rattle.spec.specs.Calls.{roomOf, countsOf, wordsOf, NumbersOf, boxOf}
 use Rattle.ways.specs.declared.Visit.{Visit}
 use Rattle.ways.specs.declared.Carry.{Carry}
@@ -88,7 +88,7 @@ pub record Within (z : Plan) (v : Visit) : Type 0 where
 
 -- the state of the definitions that a visit stands for
 abbrev pub stateOf : Visit → State
-stateOf v = record { column = v .column; row = v .row; cut = v .cut .0; shifts = v .shifts; said = v .answer .0 }
+stateOf v = record { column = v .column; row = v .row; cut = v .cut .0; shifts = v .shifts; said = answerNumber (v .answer) }
 
 -- the stores, the box and what is carried are those of the visit's window in the file b
 pub record AtWindow (way : Way) (b : List ℕ) (z : Stores) (d : List ℤ) (v : Visit) : Type 0 where

@@ -3,6 +3,7 @@ use crate::Carry;
 use crate::Visit;
 use chain::FreeList;
 use levels::tally::Tally;
+use spec::Answer;
 use spec::Level;
 use spec::Plan;
 use spec::Way;
@@ -28,7 +29,8 @@ fn of_joint(v: joint_search::visit::Visit, column: usize, row: usize) -> Visit
     let free = FreeList { head: 0, count: 0 };
     let carry = Carry { sums, below, free };
     let cut = v.cut;
-    let answer = v.answer;
+    let level = v.answer;
+    let answer = Answer::Level(level);
     Visit {
         column,
         row,
@@ -39,6 +41,7 @@ fn of_joint(v: joint_search::visit::Visit, column: usize, row: usize) -> Visit
     }
 }
 
+// A move needs no former answer, which may be a mark: the cut point stands in its place, as in the other ways.
 fn to_joint(v: Visit) -> joint_search::visit::Visit
     ensures { λ r. ⌜ r ≡ toJoint v ⌝ }
 {
@@ -46,13 +49,12 @@ fn to_joint(v: Visit) -> joint_search::visit::Visit
     let sums = carry.sums;
     let below = carry.below;
     let cut = v.cut;
-    let answer = v.answer;
     joint_search::visit::Visit {
         sums,
         below,
         cut,
         shifts: v.shifts,
-        answer,
+        answer: cut,
     }
 }
 
@@ -64,7 +66,8 @@ fn of_columns(v: columns::visit::Visit, column: usize, row: usize) -> Visit
     let free = FreeList { head: 0, count: 0 };
     let carry = Carry { sums, below, free };
     let cut = v.cut;
-    let answer = v.answer;
+    let level = v.answer;
+    let answer = Answer::Level(level);
     Visit {
         column,
         row,
@@ -82,13 +85,12 @@ fn to_columns(v: Visit) -> columns::visit::Visit
     let sums = carry.sums;
     let below = carry.below;
     let cut = v.cut;
-    let answer = v.answer;
     columns::visit::Visit {
         sums,
         below,
         cut,
         shifts: v.shifts,
-        answer,
+        answer: cut,
     }
 }
 
@@ -100,7 +102,8 @@ fn of_chain(v: chain_search::visit::Visit, column: usize, row: usize) -> Visit
     let free = v.free;
     let carry = Carry { sums, below, free };
     let cut = v.cut;
-    let answer = v.answer;
+    let level = v.answer;
+    let answer = Answer::Level(level);
     Visit {
         column,
         row,
@@ -118,13 +121,12 @@ fn to_chain(v: Visit) -> chain_search::visit::Visit
     let sums = carry.sums;
     let free = carry.free;
     let cut = v.cut;
-    let answer = v.answer;
     chain_search::visit::Visit {
         sums,
         free,
         cut,
         shifts: v.shifts,
-        answer,
+        answer: cut,
     }
 }
 

@@ -4,6 +4,7 @@ pub mod each;
 
 use chain::FreeList;
 use levels::tally::Tally;
+use spec::Answer;
 use spec::Level;
 use window::sums::Sums;
 
@@ -20,6 +21,6 @@ pub struct Visit {
     pub row: usize,
     pub cut: Level,
     pub shifts: u64,
-    pub answer: Level,
+    pub answer: Answer,
     pub carry: Carry,
 }

@@ -6,7 +6,8 @@ use Rattle.spec.specs.Refusal.{Outcome, accepted, numbered}
 use Rattle.spec.specs.Frame.{settingsOf}
 use Rattle.spec.specs.Checks.{Planned}
 use Rattle.spec.specs.Calls.{balanceChecks, balanceOutcome}
-use Rattle.ice.proofs.OutcomeLaws.{known, quiet}
+use Rattle.checks.proofs.Laws.{known}
+use Rattle.ice.proofs.OutcomeLaws.{quiet}
 use Rattle.ice.proofs.CallLaws.{planned-of, file-decides, own-decides, balances-refused, balances-done, balance-granted}
 use borrow.Author.Needs.{needs}
 use Rattle.ice.proofs.calls.balance.Statement.{statement}
@@ -15,7 +16,7 @@ use Rattle.ice.proofs.calls.balance.Reads as reads
 use Rattle.ice.proofs.calls.balance.Lts as lts
 use Rattle.frame.proofs.check.stops.Reads as stops-reads
 use Rattle.frame.proofs.plan.open_plan.Reads as open-plan-reads
-use Rattle.ice.proofs.checks.balance_verdict.Reads as balance-verdict-reads
+use Rattle.checks.proofs.balance_verdict.Reads as balance-verdict-reads
 use Rattle.joint_search.proofs.balance.balance_at.Reads as balance-at-reads
 
 abbrev own : tie.Start → Settings → Outcome

@@ -6,7 +6,8 @@ use Rattle.spec.specs.Frame.{settingsOf}
 use Rattle.spec.specs.Checks.{Planned}
 use Rattle.spec.specs.Calls.{filterChecks, filterOutcome}
 use Rattle.ways.specs.Visit.{Stores, stores, lent}
-use Rattle.ice.proofs.OutcomeLaws.{known, quiet, settings-limits-in}
+use Rattle.checks.proofs.Laws.{known}
+use Rattle.ice.proofs.OutcomeLaws.{quiet, settings-limits-in}
 use Rattle.ice.proofs.CallLaws.{planned-of, file-decides, own-decides, filters-refused, filters-done, filter-granted}
 use borrow.Author.Needs.{needs}
 use Rattle.ice.proofs.calls.filter.Statement.{statement}
@@ -17,8 +18,8 @@ use Rattle.frame.proofs.check.stops.Reads as stops-reads
 use Rattle.frame.proofs.plan.open_plan.Reads as open-plan-reads
 use Rattle.ice.proofs.calls.filter_on.Reads as filter-on-reads
 use Rattle.ice.proofs.calls.refused.Reads as refused-reads
-use Rattle.ice.proofs.checks.filter_verdict.Reads as filter-verdict-reads
-use Rattle.ice.proofs.checks.way_of.Reads as way-of-reads
+use Rattle.checks.proofs.filter_verdict.Reads as filter-verdict-reads
+use Rattle.checks.proofs.way_of.Reads as way-of-reads
 
 abbrev held : tie.Start → Stores
 held at = stores (at .args .counts .now) (at .args .words .now) (at .args .numbers .now)

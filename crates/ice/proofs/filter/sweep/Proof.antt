@@ -1,6 +1,7 @@
 use Prim.Native.Nat.{_+_, _*_, _-_, _<_, _≤_}
 use mathlib.Core.Path.{_≡_, refl, _∙_}
 use native.Mathlib.Omega.{arith}
+use borrow.Author.Needs.{needs}
 use lib.ListN.{length, length-set}
 use Rattle.ways.specs.Visit.{stateOf, stores}
 use Rattle.spec.proofs.Plans.{plane-small}
@@ -11,8 +12,9 @@ use Rattle.ice.proofs.filter.sweep.Statement.{statement}
 use Rattle.ice.proofs.filter.sweep.Tie as tie
 use Rattle.ice.proofs.filter.sweep.Reads as reads
 use Rattle.ice.proofs.filter.sweep.Lts as lts
-use Rattle.ice.proofs.filter.turn_at.Reads as turn-at-reads
+use Rattle.checks.proofs.moves.turn_at.Reads as turn-at-reads
 use Rattle.ice.proofs.walk.step.Reads as step-reads
+use Rattle.spec.proofs.answer_number.Reads as answer-number-reads
 use Rattle.ways.proofs.dispatch.enter.Reads as enter-reads
 
 abbrev Inv-loop : tie.InvT-loop
@@ -23,10 +25,10 @@ abbrev μ-loop : tie.MeasureT-loop
 μ-loop file z way weights counts₀ words₀ numbers₀ output₀ width n held₀ visit₀ i₀ counts words numbers output held visit i = n - i
 
 -- the way back from the loop to the function's entry
-entry : (c : tie.After-slice-known7 Inv-loop μ-loop) → tie.Start Inv-loop μ-loop
-entry c = c .before .before .before .before .before .before .before .before .before .before .before .before .before .before .before .before .before .before
+entry : (c : tie.After-answer-number Inv-loop μ-loop) → tie.Start Inv-loop μ-loop
+entry c = c .before .before .before .before .before .before .before .before .before .before .before .before .before .before .before .before .before .before .before
 
-room : (c : tie.After-slice-known7 Inv-loop μ-loop) → entry c .args .z .width * entry c .args .z .height ≤ length (entry c .args .output .now)
+room : (c : tie.After-answer-number Inv-loop μ-loop) → entry c .args .z .width * entry c .args .z .height ≤ length (entry c .args .output .now)
 unfolding entry
 room c = entry c .pre .1 .1 .0
 
@@ -36,6 +38,9 @@ mul-n c = omega (arith, plane-small (c .before .before .before .before .before .
 enter-requires : tie.Need-enter-requires Inv-loop μ-loop
 enter-requires c κs = let at = c .before .before .before .before .before .before .before .before .before .before .before in (at .pre .0, (first-in (at .args .way) (at .pre .0 .0), (at .pre .1 .0, at .pre .1 .1 .1)))
 
+answer-number-requires : tie.Need-answer-number-requires Inv-loop μ-loop
+answer-number-requires c κs = search needs
+
 slice-write-output : tie.Need-slice-write-output Inv-loop μ-loop
 unfolding entry
 slice-write-output c = omega (arith, room c, some (entry c .args .way) (entry c .pre .0 .0))
@@ -44,8 +49,8 @@ loop-holds : tie.Need-loop-holds Inv-loop μ-loop
 unfolding entry
 loop-holds c =
     let at = entry c in
-    let v = c .before .before .before .before .before .before .enter in
-    sweeping-start _ (at .pre .0 .0) _ (at .args .output .now) _ (v .result) (room c) (v .ensures .state) (v .ensures .here)
+    let v = c .before .before .before .before .before .before .before .enter in
+    sweeping-start _ (at .pre .0 .0) _ (at .args .output .now) _ (v .result) (room c) (v .ensures .state) (v .ensures .here) _ (c .answer-number .ensures)
 
 add-loop : tie.Need-add-loop Inv-loop μ-loop
 unfolding entry
@@ -67,7 +72,7 @@ step-requires c κs =
       at .pre .0,
       (
         within-of (at .pre .0 .0) _ _ (w .held) (omega (arith, sweeping-low _ (at .pre .0 .0) _ _ _ _ _ _ _ _ (l .loop .inv))),
-        (fit-going _ (at .pre .0 .0) _ _ _ (at .pre .1 .0) (b .before .before .before .before .before .before .enter .ensures .kept) (w .visited .kept), w .visited .here),
+        (fit-going _ (at .pre .0 .0) _ _ _ (at .pre .1 .0) (b .before .before .before .before .before .before .before .enter .ensures .kept) (w .visited .kept), w .visited .here),
       ),
     )
 
@@ -98,31 +103,34 @@ add-at : tie.Need-add-at Inv-loop μ-loop
 unfolding entry
 add-at c = omega (arith, placed (c .before .before), small (c .before .before))
 
+answer-number-requires-2 : tie.Need-answer-number-requires-2 Inv-loop μ-loop
+answer-number-requires-2 c κs = search needs
+
 mul-output : tie.Need-mul-output Inv-loop μ-loop
 unfolding entry
-mul-output c = omega (arith, placed (c .before .before), small (c .before .before))
+mul-output c = omega (arith, placed (c .before .before .before), small (c .before .before .before))
 
 slice-write-output-2 : tie.Need-slice-write-output-2 Inv-loop μ-loop
 unfolding entry
-slice-write-output-2 c = omega (arith, placed (c .before .before), long (c .before .before), room (c .before .before .before .before .before .before .before .before .before .before .before .before .before .before .before .before))
+slice-write-output-2 c = omega (arith, placed (c .before .before .before), long (c .before .before .before), room (c .before .before .before .before .before .before .before .before .before .before .before .before .before .before .before .before .before))
 
 loop-less : tie.Need-loop-less Inv-loop μ-loop
-loop-less c = omega (arith, c .before .before .before .before .before .before .before .before .before .before .before .before .before .before .loop-test .taken)
+loop-less c = omega (arith, c .before .before .before .before .before .before .before .before .before .before .before .before .before .before .before .loop-test .taken)
 
 loop-again : tie.Need-loop-again Inv-loop μ-loop
 unfolding entry
 loop-again c =
-    let l = c .before .before .before .before .before .before .before .before .before .before .before .before .before .before .before in
-    sweeping-more _ (entry (l .before) .pre .0 .0) _ _ _ _ _ _ _ _ (l .loop .inv) (c .before .before .before .before .before .before .before .before .before .before .before .before .before .before .loop-test .taken) _ (c .before .before .before .before .before .before .before .before .before .before .before .before .before .turn-at .ensures) _ _ _ (c .before .before .before .before .before .before .before .before .step .ensures) (simp length-set (room (l .before)))
+    let l = c .before .before .before .before .before .before .before .before .before .before .before .before .before .before .before .before in
+    sweeping-more _ (entry (l .before) .pre .0 .0) _ _ _ _ _ _ _ _ (l .loop .inv) (c .before .before .before .before .before .before .before .before .before .before .before .before .before .before .before .loop-test .taken) _ (c .before .before .before .before .before .before .before .before .before .before .before .before .before .before .turn-at .ensures) _ _ _ (c .before .before .before .before .before .before .before .before .before .step .ensures) (simp length-set (room (l .before))) _ (c .answer-number2 .ensures)
 
 same-length : tie.Need-same-length Inv-loop μ-loop
-same-length c = c .before .before .loop .inv .going .visited .kept .counts .long ∙ c .before .before .before .before .before .before .before .before .before .enter .ensures .kept .counts .long
+same-length c = c .before .before .loop .inv .going .visited .kept .counts .long ∙ c .before .before .before .before .before .before .before .before .before .before .enter .ensures .kept .counts .long
 
 same-length-2 : tie.Need-same-length-2 Inv-loop μ-loop
-same-length-2 c = c .before .before .loop .inv .going .visited .kept .words .long ∙ c .before .before .before .before .before .before .before .before .before .enter .ensures .kept .words .long
+same-length-2 c = c .before .before .loop .inv .going .visited .kept .words .long ∙ c .before .before .before .before .before .before .before .before .before .before .enter .ensures .kept .words .long
 
 same-length-3 : tie.Need-same-length-3 Inv-loop μ-loop
-same-length-3 c = c .before .before .loop .inv .going .visited .kept .numbers .long ∙ c .before .before .before .before .before .before .before .before .before .enter .ensures .kept .numbers .long
+same-length-3 c = c .before .before .loop .inv .going .visited .kept .numbers .long ∙ c .before .before .before .before .before .before .before .before .before .before .enter .ensures .kept .numbers .long
 
 same-length-4 : tie.Need-same-length-4 Inv-loop μ-loop
 same-length-4 c = c .before .before .loop .inv .rest .long ∙ simp length-set
@@ -132,7 +140,7 @@ unfolding entry
 returns c =
     let l = c .before .before in
     let at = entry (l .before) in
-    let v = c .before .before .before .before .before .before .before .before .before .enter .ensures in
+    let v = c .before .before .before .before .before .before .before .before .before .before .enter .ensures in
     let q = sweeping-end _ (at .pre .0 .0) _ _ _ _ _ _ (l .loop .visit) (l .loop .i) (l .loop .inv) _ (at .args .output .now) (c .before .loop-test .left) (simp length-set (room (l .before))) (v .state) (v .kept) _ refl in
     (finished (l .loop .visit) _ (q .0) refl refl refl refl, q .1)
 
@@ -144,6 +152,7 @@ sweep-spec =
     μ-loop
     mul-n
     enter-requires
+    answer-number-requires
     slice-write-output
     loop-holds
     add-loop
@@ -152,6 +161,7 @@ sweep-spec =
     add-i
     mul-at
     add-at
+    answer-number-requires-2
     mul-output
     slice-write-output-2
     loop-less

@@ -6,7 +6,7 @@ use Rattle.ice.proofs.walk.step.Statement.{statement}
 use Rattle.ice.proofs.walk.step.Tie as tie
 use Rattle.ice.proofs.walk.step.Reads as reads
 use Rattle.ice.proofs.walk.step.Lts as lts
-use Rattle.ice.proofs.walk.next.Reads as next-reads
+use Rattle.checks.proofs.moves.next.Reads as next-reads
 use Rattle.ways.proofs.dispatch.slide.Reads as slide-reads
 
 -- src/walk.rt:78:9

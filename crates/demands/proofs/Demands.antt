@@ -1,0 +1,217 @@
+-- The three demands, proved from the contracts of the calls and the laws of the definitions; specs/Demands.antt has the statements.
+-- Assumes nothing.
+use Prim.Native.Nat.{ℕ, zero, suc, _+_, _*_, _/_, _%_, _≤_, _<_}
+use mathlib.Core.Path.{_≡_, refl, sym, ap, ap₂, _∙_, subst}
+use mathlib.Core.Bool.{Bool, true, false, true≢false}
+use mathlib.Core.Logic.{_⊎_, inl, inr}
+use mathlib.Core.List.{List, _++_}
+use native.Mathlib.Omega.{arith}
+use native.Mathlib.Numerals.{add-one}
+use lib.Arith.{digits-div, digits-mod}
+use lib.ListN.{length, getD, take, drop, List·getD-append}
+use lib.Seq.{take-at}
+use lib.IntN.{ℤ, pos, _*ℤ_}
+use lib.Signed.{_≤ℤ_, _<ℤ_}
+use Rattle.spec.specs.declared.Settings.{Settings}
+use Rattle.spec.specs.declared.Move.{Move}
+use Rattle.spec.specs.declared.Move.the-variants.{To}
+use Rattle.spec.specs.declared.Verdict.{Verdict}
+use Rattle.spec.specs.declared.Verdict.the-variants.{Accepted, Refused}
+use Rattle.spec.specs.Base.{if_then_else_}
+use Rattle.spec.specs.Refusal.{Outcome, accepted, refused, numbered}
+use Rattle.spec.specs.Frame.{Frame, level, pixels, frameOf, settingsOf}
+use Rattle.spec.specs.Checks.{verdict}
+use Rattle.spec.specs.Median.{totalWeight, cumulative, balance, weightless, median, answer, differences}
+use Rattle.spec.specs.Walk.{State, arrive, move, start, step, walkEnd, walkAnswers}
+use Rattle.spec.specs.Filter.{filtered, filterEnd}
+use Rattle.spec.specs.Calls.{wayOf, walkOutcome, filterOutcome, balanceOutcome}
+use Rattle.spec.specs.Writer.{written, writtenSize, writerOutcome, stored}
+use Rattle.spec.proofs.Checks.{not-refused}
+use Rattle.spec.proofs.Limits.{FrameLimits, Pixel, limits-of, in-plane}
+use Rattle.spec.proofs.Calls.{WalkAccepted, walk-accepted, FilterAccepted, filter-accepted}
+use Rattle.spec.proofs.Totals.{weightless-total, total-weightless, median-at, median-before, balance-le, balance-lt, answer-low}
+use Rattle.spec.proofs.Minimum.{minimum, answer-median, answer-weightless}
+use Rattle.spec.proofs.Walks.{Held, Marks, marks, walk-first, walk-next, walk-held, walk-length, walk-shifts, step-level, Fine, move-fine}
+use Rattle.spec.proofs.First.{length-tabulate}
+use Rattle.spec.proofs.Serpentine.{filtered-at}
+use Rattle.ice.specs.declared.Walked.{Walked}
+use Rattle.ice.specs.declared.Balanced.{Balanced}
+use Rattle.frame_write.specs.declared.Written.{Written}
+use Rattle.frame_write.specs.declared.Written.the-variants.{Length, Refused as Declined}
+use Rattle.frame_write.specs.Write.{Report, wrote, declined, reported, reportOf, Writes}
+use Rattle.frame_write.proofs.Reopening.{wrote-returned}
+use Rattle.ways.specs.Visit.{Stores, lent}
+use Rattle.ice.specs.Contract.{Untouched, Ended, Walks, Filters, Balances}
+use Rattle.demands.proofs.Table.{walk-table, filter-table, balance-table, writer-table}
+use Rattle.demands.specs.Demands.{WalkedOrRefused, FilteredOrRefused, BalancedOrRefused, WrittenOrRefused, Demand1, LowestLevel, EveryPixel, Demand2, Minimises, Answered, Agreed, AllWaysAgree, FilterMinimises, Demand3}
+
+-- ---- a verdict and its outcome
+accepted-verdict : (v : Verdict) → numbered v ≡ accepted → v ≡ Accepted
+accepted-verdict Accepted e = refl
+accepted-verdict (Refused r) e = absurd (not-refused e)
+
+-- ---- demand 1
+walked-or-refused : WalkedOrRefused
+walked-or-refused b way s t moves a z before after r h = by (walkOutcome b way s t (length moves) (lent a) (length before)) refl
+  where
+    by : (o : Outcome) → walkOutcome b way s t (length moves) (lent a) (length before) ≡ o
+        → ((r .verdict ≡ Accepted)
+        × Ended (wayOf way) (frameOf b) (walkEnd (frameOf b) s t moves) a z (walkAnswers (frameOf b) s t moves ++ drop (length moves + 1) before) after r)
+        ⊎ ((n : ℕ) × (l : List ℕ) × (numbered (r .verdict) ≡ refused n l) × (walkOutcome b way s t (length moves) (lent a) (length before) ≡ refused n l)
+        × Untouched a z before after r)
+    by accepted e = inl (accepted-verdict (r .verdict) (h .verdict ∙ e), h .walked e)
+    by (refused n l) e = inr (n, l, h .verdict ∙ e, e, h .refused (λ q. not-refused (sym e ∙ q)))
+
+filtered-or-refused : FilteredOrRefused
+filtered-or-refused b way a z before after r h = by (filterOutcome b way (lent a) (length before)) refl
+  where
+    by : (o : Outcome) → filterOutcome b way (lent a) (length before) ≡ o
+        → ((r .verdict ≡ Accepted) × Ended (wayOf way) (frameOf b) (filterEnd (frameOf b)) a z (filtered (frameOf b) ++ drop (pixels (frameOf b .set)) before) after r)
+        ⊎ ((n : ℕ) × (l : List ℕ) × (numbered (r .verdict) ≡ refused n l) × (filterOutcome b way (lent a) (length before) ≡ refused n l)
+        × Untouched a z before after r)
+    by accepted e = inl (accepted-verdict (r .verdict) (h .verdict ∙ e), h .filtered e)
+    by (refused n l) e = inr (n, l, h .verdict ∙ e, e, h .refused (λ q. not-refused (sym e ∙ q)))
+
+balanced-or-refused : BalancedOrRefused
+balanced-or-refused b s t i r h = by (balanceOutcome b s t i) refl
+  where
+    by : (o : Outcome) → balanceOutcome b s t i ≡ o
+        → ((r .verdict ≡ Accepted) × (balanceOutcome b s t i ≡ accepted) × (r .balance ≡ balance (frameOf b) s t i))
+        ⊎ ((n : ℕ) × (l : List ℕ) × (numbered (r .verdict) ≡ refused n l) × (balanceOutcome b s t i ≡ refused n l) × (r .balance ≡ pos 0))
+    by accepted e = inl (accepted-verdict (r .verdict) (h .verdict ∙ e), e, h .balanced e)
+    by (refused n l) e = inr (n, l, h .verdict ∙ e, e, h .refused (λ q. not-refused (sym e ∙ q)))
+
+-- an answer that reports a length is that length
+length-reported : (r : Written) (n : ℕ) → reported r ≡ wrote n → r ≡ Length n
+length-reported (Length m) n e = ap Length cc
+length-reported (Declined q) n e = absurd (subst Is e tt)
+  where
+    Is : Report → Type 0
+    Is (wrote m) = ⊥
+    Is (declined m l) = Unit {0}
+
+written-or-refused : WrittenOrRefused
+written-or-refused k v g a old r new h = by (writerOutcome k v g a (length old)) refl
+  where
+    by : (o : Outcome) → writerOutcome k v g a (length old) ≡ o
+        → ((r ≡ Length (writtenSize k (length a))) × (new ≡ written k v g a ++ drop (length (written k v g a)) old))
+        ⊎ ((n : ℕ) × (l : List ℕ) × (reported r ≡ declined n l) × (writerOutcome k v g a (length old) ≡ refused n l) × (new ≡ old))
+    by accepted e =
+        inl (
+          length-reported r (writtenSize k (length a)) (h .answer ∙ ap (λ (o : Outcome). reportOf o (writtenSize k (length a))) e),
+          h .output ∙ ap (λ (o : Outcome). stored o (written k v g a) old) e,
+        )
+    by (refused n l) e =
+        inr (n, l, h .answer ∙ ap (λ (o : Outcome). reportOf o (writtenSize k (length a))) e, e, h .output ∙ ap (λ (o : Outcome). stored o (written k v g a) old) e)
+
+pub demand-1 : Demand1
+demand-1 = record { walk = walked-or-refused; filter = filtered-or-refused; balance = balanced-or-refused; writer = written-or-refused; table = record { walk = walk-table; filter = filter-table; balance = balance-table; writer = writer-table } }
+
+-- ---- demand 2
+lowest-answer : {p : Frame} {s t : ℕ} → Pixel p s t → LowestLevel p s t (answer p s t)
+lowest-answer {p} {s} {t} k = by (weightless p s t) refl
+  where
+    by : (c : Bool) → weightless p s t ≡ c → LowestLevel p s t (answer p s t)
+    by true e =
+        let z : totalWeight p s t ≡ pos 0 = weightless-total p s t e in
+        record { is-level = answer-low k; centre = λ _. answer-weightless p s t e; reaches = λ n. absurd (n z); lowest = λ n. absurd (n z) }
+    by false e =
+        let q : answer p s t ≡ median p s t = answer-median p s t e in
+        record {
+          is-level = answer-low k;
+          centre = λ z. absurd (true≢false (sym (total-weightless p s t z) ∙ e));
+          reaches = λ _. rw q (balance-le p s t (median p s t) (median-at k));
+          lowest = λ _ i l. balance-lt p s t i (median-before p s t i (rw q at l));
+        }
+
+module _ (b : List ℕ) (way : ℕ) (a z : Stores) (before after : List ℕ) (r : Walked) (h : Filters b way a z before after r) (ok : r .verdict ≡ Accepted) where
+  filter-passes : filterOutcome b way (lent a) (length before) ≡ accepted
+  filter-passes = sym (h .verdict) ∙ ap numbered ok
+
+  filter-limits : FrameLimits (frameOf b)
+  filter-limits = limits-of b (filter-accepted b way (lent a) (length before) filter-passes .file)
+
+  -- the number at a pixel's place is the answer there
+  plane-at : (s t : ℕ) → s < frameOf b .set .width → t < frameOf b .set .height → getD after (t * frameOf b .set .width + s) 0 ≡ answer (frameOf b) s t
+  unfolding filtered
+  plane-at s t hs ht =
+      let p = frameOf b in
+      let l : t * p .set .width + s < pixels (p .set) = in-plane (p .set) s t hs ht in
+      ap (λ (q : List ℕ). getD q (t * p .set .width + s) 0) (h .filtered filter-passes .answers)
+      ∙ List·getD-append (filtered p) (drop (pixels (p .set)) before) 0 (t * p .set .width + s) (omega (arith, l, length-tabulate (pixels (p .set)) (λ q. answer p (q % p .set .width) (q / p .set .width))))
+      ∙ filtered-at p (t * p .set .width + s) l ∙ ap₂ (answer p) (digits-mod t hs) (digits-div t hs)
+
+every-pixel : EveryPixel
+every-pixel b way a z before after r h ok s t hs ht =
+    subst (LowestLevel (frameOf b) s t) (sym (plane-at b way a z before after r h ok s t hs ht))
+    (lowest-answer (record { good = filter-limits b way a z before after r h ok; in-column = hs; in-row = ht }))
+
+pub demand-2 : Demand2
+demand-2 = record { filter = every-pixel; writer = λ k v g a old n new w. wrote-returned k v g a old n new w }
+
+-- ---- demand 3
+module _ (b : List ℕ) (s t : ℕ) (moves : List ℕ) (way : ℕ) (a z : Stores) (before after : List ℕ) (r : Walked) (h : Walks b way s t moves a z before after r)
+    (ok : r .verdict ≡ Accepted) where
+  walk-passes : walkOutcome b way s t (length moves) (lent a) (length before) ≡ accepted
+  walk-passes = sym (h .verdict) ∙ ap numbered ok
+
+  walk-pixel : Pixel (frameOf b) s t
+  walk-pixel = walk-accepted b way s t (length moves) (lent a) (length before) walk-passes .pixel
+
+  -- the answers are the definition's, place by place
+  answer-is : (j : ℕ) → j ≤ length moves → getD after j 0 ≡ getD (walkAnswers (frameOf b) s t moves) j 0
+  answer-is j l =
+      ap (λ (q : List ℕ). getD q j 0) (h .walked walk-passes .answers)
+      ∙ List·getD-append (walkAnswers (frameOf b) s t moves) (drop (length moves + 1) before) 0 j (omega (arith, l, walk-length (frameOf b) s t moves))
+
+  -- and they are its first numbers
+  answers-are : take (length moves + 1) after ≡ walkAnswers (frameOf b) s t moves
+  answers-are =
+      ap (take (length moves + 1)) (h .walked walk-passes .answers)
+      ∙ take-at (walkAnswers (frameOf b) s t moves) (drop (length moves + 1) before) (length moves + 1) (omega (arith, walk-length (frameOf b) s t moves))
+
+  shifts-are : r .shifts ≡ walkEnd (frameOf b) s t moves .shifts
+  shifts-are = h .walked walk-passes .shifts
+
+-- the answer minimises
+least-answer : {p : Frame} {s t : ℕ} → Pixel p s t → Minimises p s t (answer p s t)
+least-answer k = record { least = λ light some i. minimum k light some i .0; lower = λ light some i. minimum k light some i .1 }
+
+both-answer : {p : Frame} {s t : ℕ} → Pixel p s t → LowestLevel p s t (answer p s t) × Minimises p s t (answer p s t)
+both-answer k = (lowest-answer k, least-answer k)
+
+answered : {p : Frame} {x : State} {n : ℕ} → Held p x n → (byte : ℕ) → Answered p x byte (step p x byte .said)
+answered {p} {x} {n} k byte =
+    record {
+      moved = λ s t e. subst (λ (m : ℕ). LowestLevel p s t m × Minimises p s t m) (sym (step-level p x byte s t e)) (both-answer (pixel-to s t e));
+      off = marks k byte .off;
+      unknown = marks k byte .other;
+      made = marks k byte .level;
+    }
+  where
+    pixel-to : (s t : ℕ) → move (p .set) (x .column) (x .row) byte ≡ To s t → Pixel p s t
+    pixel-to s t e = let f = subst (Fine (p .set) byte) e (move-fine (p .set) (x .column) (x .row) byte (k .in-column) (k .in-row)) in record { good = k .good; in-column = f .0; in-row = f .1 }
+
+all-ways-agree : AllWaysAgree
+all-ways-agree b s t moves way way′ a z a′ z′ before after before′ after′ r r′ h h′ ok ok′ =
+    let p = frameOf b in
+    let w = walk-pixel b s t moves way a z before after r h ok in
+    let one = answer-is b s t moves way a z before after r h ok in
+    let count = shifts-are b s t moves way a z before after r h ok in
+    record {
+      shifts = count ∙ sym (shifts-are b s t moves way′ a′ z′ before′ after′ r′ h′ ok′);
+      answers = answers-are b s t moves way a z before after r h ok ∙ sym (answers-are b s t moves way′ a′ z′ before′ after′ r′ h′ ok′);
+      first = subst (λ (m : ℕ). LowestLevel p s t m × Minimises p s t m) (sym (one 0 (omega arith) ∙ walk-first p s t moves)) (both-answer w);
+      next = λ j l. subst (Answered p (walkEnd p s t (take j moves)) (getD moves j 0))
+          (sym (ap (λ (q : ℕ). getD after q 0) (add-one j) ∙ one (suc j) l ∙ walk-next p s t moves j l))
+          (answered (walk-held w (take j moves)) (getD moves j 0));
+      distances = count ∙ walk-shifts p s t moves;
+    }
+
+filter-minimises : FilterMinimises
+filter-minimises b way a z before after r h ok s t hs ht =
+    subst (Minimises (frameOf b) s t) (sym (plane-at b way a z before after r h ok s t hs ht))
+    (least-answer (record { good = filter-limits b way a z before after r h ok; in-column = hs; in-row = ht }))
+
+pub demand-3 : Demand3
+demand-3 = record { agree = all-ways-agree; minimum = filter-minimises }

@@ -1,0 +1,147 @@
+-- The three demands, as statements about the promises of the calls. A reader starts here; proofs/Demands.antt proves each.
+-- b are a file's bytes, a and z the stores before and after a call, before and after its answers or output, r its result.
+-- Assumes nothing.
+use Prim.Native.Nat.{ℕ, _+_, _*_, _<_}
+use mathlib.Core.Path.{_≡_}
+use mathlib.Core.Logic.{_⊎_, _↔_}
+use mathlib.Core.List.{List, _++_}
+use lib.ListN.{length, getD, take, drop}
+use lib.IntN.{ℤ, pos, _*ℤ_}
+use lib.Signed.{_≤ℤ_, _<ℤ_}
+use Rattle.spec.specs.declared.Settings.{Settings}
+use Rattle.spec.specs.declared.Room.{Room}
+use Rattle.spec.specs.declared.Move.the-variants.{To, Nowhere}
+use Rattle.spec.specs.declared.Verdict.the-variants.{Accepted}
+use Rattle.spec.specs.Base.{sum}
+use Rattle.spec.specs.Refusal.{accepted, refused, numbered}
+use Rattle.spec.specs.Frame.{Frame, level, guide, pixels, frameOf}
+use Rattle.spec.specs.Weight.{weight}
+use Rattle.spec.specs.Median.{totalWeight, cumulative, balance, differences}
+use Rattle.spec.specs.Walk.{State, move, start, walkEnd, walkAnswers, adds, addedAt}
+use Rattle.spec.specs.Filter.{filtered, filterEnd}
+use Rattle.spec.specs.Calls.{wayOf, walkOutcome, filterOutcome, balanceOutcome}
+use Rattle.spec.specs.Writer.{written, writtenSize, writerOutcome}
+use Rattle.spec.specs.Window.{InWindow}
+use Rattle.ice.specs.declared.Walked.{Walked}
+use Rattle.ice.specs.declared.Balanced.{Balanced}
+use Rattle.frame_write.specs.declared.Written.{Written}
+use Rattle.frame_write.specs.declared.Written.the-variants.{Length}
+use Rattle.frame_write.specs.Write.{declined, reported, Writes, Returned}
+use Rattle.ways.specs.Visit.{Stores, lent}
+use Rattle.ice.specs.Contract.{Untouched, Ended, Walks, Filters, Balances}
+use Rattle.demands.specs.Table.{walkRows, filterRows, balanceRows, writerRows, ByTable}
+
+-- ---- demand 1
+
+-- a walk is refused by the outcome's number and values, with every buffer as it was, or it is walked to the end
+abbrev pub WalkedOrRefused : Type 0
+WalkedOrRefused =
+    (b : List ℕ) (way s t : ℕ) (moves : List ℕ) (a z : Stores) (before after : List ℕ) (r : Walked) → Walks b way s t moves a z before after r
+    → ((r .verdict ≡ Accepted)
+    × Ended (wayOf way) (frameOf b) (walkEnd (frameOf b) s t moves) a z (walkAnswers (frameOf b) s t moves ++ drop (length moves + 1) before) after r)
+    ⊎ ((n : ℕ) × (l : List ℕ) × (numbered (r .verdict) ≡ refused n l) × (walkOutcome b way s t (length moves) (lent a) (length before) ≡ refused n l)
+    × Untouched a z before after r)
+
+abbrev pub FilteredOrRefused : Type 0
+FilteredOrRefused =
+    (b : List ℕ) (way : ℕ) (a z : Stores) (before after : List ℕ) (r : Walked) → Filters b way a z before after r
+    → ((r .verdict ≡ Accepted) × Ended (wayOf way) (frameOf b) (filterEnd (frameOf b)) a z (filtered (frameOf b) ++ drop (pixels (frameOf b .set)) before) after r)
+    ⊎ ((n : ℕ) × (l : List ℕ) × (numbered (r .verdict) ≡ refused n l) × (filterOutcome b way (lent a) (length before) ≡ refused n l)
+    × Untouched a z before after r)
+
+-- a balance, which is lent nothing
+abbrev pub BalancedOrRefused : Type 0
+BalancedOrRefused =
+    (b : List ℕ) (s t i : ℕ) (r : Balanced) → Balances b s t i r
+    → ((r .verdict ≡ Accepted) × (balanceOutcome b s t i ≡ accepted) × (r .balance ≡ balance (frameOf b) s t i))
+    ⊎ ((n : ℕ) × (l : List ℕ) × (numbered (r .verdict) ≡ refused n l) × (balanceOutcome b s t i ≡ refused n l) × (r .balance ≡ pos 0))
+
+-- a writing: the file and then the rest of the output, or the output as it was
+abbrev pub WrittenOrRefused : Type 0
+WrittenOrRefused =
+    (k : Settings) (v g a old : List ℕ) (r : Written) (new : List ℕ) → Writes k v g a old r new
+    → ((r ≡ Length (writtenSize k (length a))) × (new ≡ written k v g a ++ drop (length (written k v g a)) old))
+    ⊎ ((n : ℕ) × (l : List ℕ) × (reported r ≡ declined n l) × (writerOutcome k v g a (length old) ≡ refused n l) × (new ≡ old))
+
+-- the table of refusals: each number exactly if its row fires and no row before it does
+pub record EachNumber : Type 0 where
+  pub walk : (b : List ℕ) (way s t n : ℕ) (have : Room) (out : ℕ) → ByTable (walkRows b way s t n have out) (walkOutcome b way s t n have out)
+  pub filter : (b : List ℕ) (way : ℕ) (have : Room) (out : ℕ) → ByTable (filterRows b way have out) (filterOutcome b way have out)
+  pub balance : (b : List ℕ) (s t i : ℕ) → ByTable (balanceRows b s t i) (balanceOutcome b s t i)
+  pub writer : (k : Settings) (v g a : List ℕ) (room : ℕ) → ByTable (writerRows k v g a room) (writerOutcome k v g a room)
+
+pub record Demand1 : Type 0 where
+  pub walk : WalkedOrRefused
+  pub filter : FilteredOrRefused
+  pub balance : BalancedOrRefused
+  pub writer : WrittenOrRefused
+  pub table : EachNumber
+
+-- ---- demand 2
+
+-- m is the lowest level at which twice the cumulative weight reaches the total; the centre's own where the total is 0
+pub record LowestLevel (p : Frame) (s t m : ℕ) : Type 0 where
+  pub is-level : m < p .set .levels
+  pub centre : totalWeight p s t ≡ pos 0 → m ≡ level p s t
+  pub reaches : (totalWeight p s t ≡ pos 0 → ⊥) → totalWeight p s t ≤ℤ (pos 2 *ℤ cumulative p s t m)
+  pub lowest : (totalWeight p s t ≡ pos 0 → ⊥) → (i : ℕ) → i < m → (pos 2 *ℤ cumulative p s t i) <ℤ totalWeight p s t
+
+-- every pixel of a filtered frame
+abbrev pub EveryPixel : Type 0
+EveryPixel =
+    (b : List ℕ) (way : ℕ) (a z : Stores) (before after : List ℕ) (r : Walked) → Filters b way a z before after r → r .verdict ≡ Accepted
+    → (s t : ℕ) → s < frameOf b .set .width → t < frameOf b .set .height → LowestLevel (frameOf b) s t (getD after (t * frameOf b .set .width + s) 0)
+
+-- the first n bytes of the output of a writer that answers n: accepted, and the settings, planes and table as given
+abbrev pub ReadsBack : Type 0
+ReadsBack = (k : Settings) (v g a old : List ℕ) (n : ℕ) (new : List ℕ) → Writes k v g a old (Length n) new → Returned k v g a (take n new)
+
+pub record Demand2 : Type 0 where
+  pub filter : EveryPixel
+  pub writer : ReadsBack
+
+-- ---- demand 3
+
+-- the condition on the window at (s, t): no weight of its pixels is negative, and not all are 0
+abbrev pub NoneNegative : Frame → ℕ → ℕ → Type 0
+NoneNegative p s t = (x y : ℕ) → InWindow p s t x y → pos 0 ≤ℤ weight p s t (guide p x y)
+
+abbrev pub NotAllZero : Frame → ℕ → ℕ → Type 0
+NotAllZero p s t = ((x y : ℕ) → InWindow p s t x y → weight p s t (guide p x y) ≡ pos 0) → ⊥
+
+-- no level has a smaller weighted sum of absolute differences than m, and every lower one has a larger
+pub record Minimises (p : Frame) (s t m : ℕ) : Type 0 where
+  pub least : NoneNegative p s t → NotAllZero p s t → (i : ℕ) → differences p s t m ≤ℤ differences p s t i
+  pub lower : NoneNegative p s t → NotAllZero p s t → (i : ℕ) → i < m → differences p s t m <ℤ differences p s t i
+
+-- the answer to a byte, in the state before it: demand 2's level at the pixel that it leads to, which minimises there; or the mark of a byte that moves
+-- nothing. 65,534 exactly for a move that would leave the picture, 65,533 exactly for another byte, a level exactly for a move that is made
+pub record Answered (p : Frame) (x : State) (byte m : ℕ) : Type 0 where
+  pub moved : (s t : ℕ) → move (p .set) (x .column) (x .row) byte ≡ To s t → LowestLevel p s t m × Minimises p s t m
+  pub off : (m ≡ 65534) ↔ (move (p .set) (x .column) (x .row) byte ≡ Nowhere 65534)
+  pub unknown : (m ≡ 65533) ↔ (3 < byte)
+  pub made : (m < 1024) ↔ ((s : ℕ) × (t : ℕ) × (move (p .set) (x .column) (x .row) byte ≡ To s t))
+
+-- what two walks on the same file, start and list have, whatever their ways and stores: one answer for the start and one for each byte, the same in both
+pub record Agreed (p : Frame) (s t : ℕ) (moves after after′ : List ℕ) (r r′ : Walked) : Type 0 where
+  pub shifts : r .shifts ≡ r′ .shifts
+  pub answers : take (length moves + 1) after ≡ take (length moves + 1) after′
+  pub first : LowestLevel p s t (getD after 0 0) × Minimises p s t (getD after 0 0)
+  pub next : (j : ℕ) → j < length moves → Answered p (walkEnd p s t (take j moves)) (getD moves j 0) (getD after (j + 1) 0)
+  pub distances : r .shifts ≡ adds p s t 0 + sum (addedAt p (start p s t) moves) 0 (length moves)
+
+abbrev pub AllWaysAgree : Type 0
+AllWaysAgree =
+    (b : List ℕ) (s t : ℕ) (moves : List ℕ) (way way′ : ℕ) (a z a′ z′ : Stores) (before after before′ after′ : List ℕ) (r r′ : Walked)
+    → Walks b way s t moves a z before after r → Walks b way′ s t moves a′ z′ before′ after′ r′ → r .verdict ≡ Accepted → r′ .verdict ≡ Accepted
+    → Agreed (frameOf b) s t moves after after′ r r′
+
+-- every pixel of a filtered frame
+abbrev pub FilterMinimises : Type 0
+FilterMinimises =
+    (b : List ℕ) (way : ℕ) (a z : Stores) (before after : List ℕ) (r : Walked) → Filters b way a z before after r → r .verdict ≡ Accepted
+    → (s t : ℕ) → s < frameOf b .set .width → t < frameOf b .set .height → Minimises (frameOf b) s t (getD after (t * frameOf b .set .width + s) 0)
+
+pub record Demand3 : Type 0 where
+  pub agree : AllWaysAgree
+  pub minimum : FilterMinimises

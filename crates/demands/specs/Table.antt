@@ -1,0 +1,51 @@
+-- Document 01's table of refusals, a row for each number from 1 on: what the row's check says by itself, in the order of the rows.
+-- Assumes nothing.
+use Prim.Native.Nat.{ℕ, suc, _+_, _*_, _≤_, _<_}
+use mathlib.Core.Path.{_≡_}
+use mathlib.Core.Logic.{_↔_}
+use mathlib.Core.Bool.{_||_, not}
+use mathlib.Core.List.{List, [], _∷_}
+use lib.Dec.{ltb}
+use lib.ListN.{length, getD}
+use Rattle.spec.specs.declared.Settings.{Settings}
+use Rattle.spec.specs.declared.Room.{Room}
+use Rattle.spec.specs.Refusal.{Outcome, accepted, refused, _▷_, refuse}
+use Rattle.spec.specs.Frame.{trailerAt, settingsOf, trailerOf, planOf, pixels}
+use Rattle.spec.specs.Checks.{badMark, badSize, badCounts, badKind, badRadius, badDistance, heaviest, contents}
+use Rattle.spec.specs.Calls.{badWay, badPixel, short}
+use Rattle.spec.specs.Writer.{writtenSize, badLength, scanList}
+
+-- rows 1 to 7, which every call on a file makes first, and then those of the call
+abbrev pub fileRows : List ℕ → List Outcome → List Outcome
+fileRows b own =
+    refuse 1 (badMark b) ∷ refuse 2 (badSize (settingsOf b)) ∷ refuse 3 (badCounts (settingsOf b)) ∷ refuse 4 (badKind (settingsOf b))
+    ∷ refuse 5 (badRadius (settingsOf b)) ∷ refuse 6 (badDistance (trailerAt b) (trailerOf b)) ∷ contents b (planOf b) ∷ own
+
+-- a row that a call does not make is accepted
+abbrev pub walkRows : List ℕ → ℕ → ℕ → ℕ → ℕ → Room → ℕ → List Outcome
+walkRows b way s t n have out =
+    fileRows b
+    (refuse 8 (badWay (settingsOf b) way) ∷ refuse 9 (badPixel (settingsOf b) s t) ∷ refuse 10 (ltb 1048576 n)
+    ∷ refuse 11 (short (settingsOf b) way have out (n + 1)) ∷ [])
+
+abbrev pub filterRows : List ℕ → ℕ → Room → ℕ → List Outcome
+filterRows b way have out =
+    fileRows b (refuse 8 (badWay (settingsOf b) way) ∷ accepted ∷ accepted ∷ refuse 11 (short (settingsOf b) way have out (pixels (settingsOf b))) ∷ [])
+
+abbrev pub balanceRows : List ℕ → ℕ → ℕ → ℕ → List Outcome
+balanceRows b s t i = fileRows b (accepted ∷ refuse 9 (badPixel (settingsOf b) s t || not (ltb i (settingsOf b .levels))) ∷ [])
+
+abbrev pub writerRows : Settings → List ℕ → List ℕ → List ℕ → ℕ → List Outcome
+writerRows k v g a room =
+    accepted ∷ refuse 2 (badSize k) ∷ refuse 3 (badCounts k) ∷ refuse 4 (badKind k) ∷ refuse 5 (badRadius k)
+    ∷ refuse 6 (badLength k (length v) (length g) (length a))
+    ∷ (scanList v (k .levels) 0 ▷ scanList g (k .guides) (2 * pixels k) ▷ scanList a (heaviest + 1) (4 * pixels k))
+    ∷ accepted ∷ accepted ∷ accepted ∷ refuse 11 (ltb room (writtenSize k (length a))) ∷ []
+
+-- a number is given, with its values, exactly if its row fires and no row before it does; there is no number 0; and the outcome is accepted exactly if
+-- no row fires
+pub record ByTable (rows : List Outcome) (o : Outcome) : Type 0 where
+  pub given : (n : ℕ) (l : List ℕ) → (o ≡ refused (suc n) l)
+      ↔ ((getD rows n accepted ≡ refused (suc n) l) × ((j : ℕ) → j < n → getD rows j accepted ≡ accepted))
+  pub passed : (o ≡ accepted) ↔ ((j : ℕ) → getD rows j accepted ≡ accepted)
+  pub from-one : (n : ℕ) (l : List ℕ) → o ≡ refused n l → 1 ≤ n
