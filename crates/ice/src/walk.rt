@@ -123,9 +123,9 @@ pub fn travel(
             words,
             numbers,
         );
+        let answer = then.answer;
         visit = then;
         i += 1;
-        let answer = then.answer;
         answers[i] = answer_number(answer);
     }
     let cut = visit.cut;
