@@ -1,5 +1,6 @@
 /* What the header promises a C program: NULL where a length is 0, numbers that are too wide refused and not
- * cut down, results left alone by refusals, and the macros. It prints each promise that is not kept. */
+ * cut down, results left alone by refusals, what is read may overlap, and the macros. It prints each promise
+ * that is not kept. */
 #include "icemedian.h"
 #include <stdio.h>
 #include <string.h>
@@ -103,6 +104,21 @@ static void test_null(void) {
     expect_status("write, no parts and no output", write_parts(0, 0, 0), 6);
 }
 
+static void test_overlap(void) {
+    static const uint16_t shared[4] = {1, 0, 1, 1};
+    uint8_t output[ICEMEDIAN_FILE_LENGTH(2, 2, 4)];
+    uint32_t status = icemedian_write(2, 2, 2, 2, ICEMEDIAN_TABLE, RADIUS, 0, shared, 4, shared, 4, shared, 4, output,
+                                      sizeof output, &result.length, &result.offset);
+    expect_status("write, one plane for all parts", status, 0);
+    expect_status("check of it", icemedian_check(output, sizeof output, &result.offset), 0);
+    /* The file's first bytes are 0, right, and 5, no move. */
+    status = icemedian_walk(file, FILE_BYTES, ICEMEDIAN_JOINT, 0, 0, file, 2, counts, COUNTS, words, WORDS, NULL, 0, levels,
+                            PIXELS, &result.shifts, &result.cut, result.box, &result.offset);
+    expect_status("walk, moves within the file", status, 0);
+    expect("its second answer", levels[1], 3);
+    expect("its third answer", levels[2], ICEMEDIAN_UNKNOWN_MOVE);
+}
+
 static void test_wide(void) {
     expect_status("filter, way 257", filter(FILE_BYTES, 257, COUNTS, WORDS, NUMBERS, PIXELS), 8);
     expect_status("walk, way 257", walk(FILE_BYTES, 257, 2, COUNTS, WORDS, NUMBERS, 3), 8);
@@ -141,9 +157,11 @@ static void test_macros(void) {
 int main(void) {
     memset(&untouched, 0xA5, sizeof untouched);
     memcpy(&result, &untouched, sizeof result);
+    expect_status("write, built-in weights", write_ints(W, H, LEVELS, GUIDES, ICEMEDIAN_TABLE, RADIUS, 0), 0);
     expect_status("write", write_parts(PIXELS, PIXELS, FILE_BYTES), 0);
     expect_status("check", icemedian_check(file, FILE_BYTES, &result.offset), 0);
     test_null();
+    test_overlap();
     test_wide();
     test_macros();
     return failures != 0;
