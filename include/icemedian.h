@@ -30,8 +30,9 @@
  * Buffers may be longer than needed: what lies beyond the needed length is not touched, nor are the
  * stores of the other ways.
  *
- * Numbers are 32 bits wide, or as wide as size_t, and are checked as they come: a way of 257 is refused
- * with 8, a width of 65,539 with 2. A negative int is a large number here, and is refused like one.
+ * Numbers come 32 bits wide, or as size_t, and are checked as they come: a way of 257 is refused with 8, a
+ * width of 65,539 with 2, and a negative int like the large number that it becomes. Only what is wider than
+ * that is cut down, by C and before the call.
  *
  * Pointers must be aligned for their type. A pointer may be NULL where its length is 0; pointers to
  * results (`shifts`, `cut`, `balance_box`, `balance`, `length`, `offset`) never. What is only read (`file`,

@@ -1,5 +1,5 @@
 //! The header as C and C++ programs use it: it compiles in every standard without a warning, the example
-//! prints what document 01 says, and `interface.c` finds the header's promises kept.
+//! prints what document 01 says, `interface.c` finds the header's promises kept, and the version is this crate's.
 
 use std::path::{Path, PathBuf};
 use std::process::{Command, Output};
@@ -73,4 +73,15 @@ fn every_cpp_standard() {
         compile("c++", standard, &["-fsyntax-only", "-xc++"], &example(), &[]);
         compile("c++", standard, &["-fsyntax-only", "-xc++", "-Wold-style-cast"], &interface(), &[]);
     }
+}
+
+#[test]
+fn the_version_is_the_headers() {
+    let header = include_str!("../../../include/icemedian.h");
+    let number = |name: &str| {
+        let line = header.lines().find_map(|line| line.strip_prefix(&format!("#define ICEMEDIAN_VERSION_{name} ")));
+        line.expect("the header's version").to_string()
+    };
+    assert_eq!(number("MAJOR"), env!("CARGO_PKG_VERSION_MAJOR"));
+    assert_eq!(number("MINOR"), env!("CARGO_PKG_VERSION_MINOR"));
 }

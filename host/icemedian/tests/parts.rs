@@ -1,4 +1,4 @@
-//! Number 6 names the part at fault and what it must be, and the version is the header's.
+//! Number 6 names the part at fault and what it must be.
 
 use icemedian::{check, write, Part, Refusal, Settings, Weights};
 
@@ -51,15 +51,4 @@ fn messages_say_what_is_wanted() {
     said(length(Part::Values, 4, 3), "value plane has 4 numbers, and must have 3");
     said(length(Part::Table, 15, 16), "table has 15 numbers, and must have 16 or none");
     said(length(Part::Table, 16, 0), "table has 16 numbers, and must have 0");
-}
-
-#[test]
-fn the_version_is_the_headers() {
-    let header = include_str!("../../../include/icemedian.h");
-    let number = |name: &str| {
-        let line = header.lines().find_map(|line| line.strip_prefix(&format!("#define ICEMEDIAN_VERSION_{name} ")));
-        line.expect("the header's version").to_string()
-    };
-    assert_eq!(number("MAJOR"), env!("CARGO_PKG_VERSION_MAJOR"));
-    assert_eq!(number("MINOR"), env!("CARGO_PKG_VERSION_MINOR"));
 }

@@ -110,7 +110,11 @@ fn test_walk_from(
     tally.walks += 1;
     tally.answers += walked.answers.len() as u64;
     tally.marks += walked.answers.iter().filter(|&&answer| answer >= UNKNOWN_MOVE).count() as u64;
-    compare(&before, after, &walked, &needed)
+    compare(&before, after, &walked, &needed)?;
+    if random.once_in(4) {
+        test_wrapper_walk(file, way, start, moves, &walked, &needed)?;
+    }
+    Ok(())
 }
 
 fn count_window(window: &Window, tally: &mut Tally) {
@@ -130,19 +134,39 @@ fn test_filter(random: &mut Random, file: &[u8], frame: &Frame, way: Way, tally:
     tally.filters += 1;
     tally.answers += walked.answers.len() as u64;
     if random.once_in(4) {
-        test_wrapper(file, way, &walked)?;
+        test_wrapper_filter(file, way, &walked)?;
     }
     compare(&before, after, &walked, &needed)
 }
 
-/// The Rust wrapper computes buffer lengths of its own.
-fn test_wrapper(file: &[u8], way: Way, expected: &calls::Walked) -> Check {
-    let way = match way {
+fn wrapper_way(way: Way) -> icemedian::Way {
+    match way {
         Way::Joint => icemedian::Way::Joint,
         Way::Columns => icemedian::Way::Columns,
         Way::Chain => icemedian::Way::Chain,
-    };
-    let filtered = icemedian::filter(file, way).map_err(|refusal| refusal.to_string())?;
+    }
+}
+
+/// The Rust wrapper computes buffer lengths of its own, and hands out the stores of the last window.
+fn test_wrapper_walk(
+    file: &[u8],
+    way: Way,
+    start: (usize, usize),
+    moves: &[u8],
+    expected: &calls::Walked,
+    needed: &Lengths,
+) -> Check {
+    let walked = icemedian::walk(file, wrapper_way(way), start, moves).map_err(|refusal| refusal.to_string())?;
+    let icemedian::Stores { counts, words, numbers } = walked.stores;
+    let after = Buffers { counts, words, numbers, answers: walked.answers };
+    same("wrapper's lengths", &after.lengths(), needed)?;
+    compare(&after.clone(), after, expected, needed).map_err(|error| format!("wrapper's {error}"))?;
+    let end = (expected.shifts, expected.cut, expected.balance_box);
+    same("wrapper's end", &(walked.end.shifts, walked.end.cut, walked.end.balance_box), &end)
+}
+
+fn test_wrapper_filter(file: &[u8], way: Way, expected: &calls::Walked) -> Check {
+    let filtered = icemedian::filter(file, wrapper_way(way)).map_err(|refusal| refusal.to_string())?;
     same("wrapper's levels", &filtered.levels, &expected.answers)?;
     same("wrapper's shifts", &filtered.shifts, &expected.shifts)
 }
