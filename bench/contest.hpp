@@ -55,7 +55,6 @@ class Library {
         if (way == ICEMEDIAN_JOINT) words.resize(ICEMEDIAN_WORDS_LENGTH(frame.levels, frame.guides));
         if (way == ICEMEDIAN_COLUMNS) numbers.resize(ICEMEDIAN_COLUMNS_LENGTH(frame.width, frame.levels));
         if (way == ICEMEDIAN_CHAIN) numbers.resize(ICEMEDIAN_CHAIN_LENGTH(frame.radius));
-        counts.reserve(1), words.reserve(1), numbers.reserve(1);  // no pointer may be null
     }
     void filter() {
 #ifdef WITH_LIBRARY
@@ -82,12 +81,12 @@ class Library {
 
   private:
     std::vector<uint8_t> file;
-    uint8_t way;
+    uint32_t way;
     std::vector<uint16_t> counts, output;
     std::vector<uint64_t> words;
     std::vector<uint32_t> numbers;
 
-    static uint8_t way_of(Contest contest) {
+    static uint32_t way_of(Contest contest) {
         return contest == COLUMNS ? ICEMEDIAN_COLUMNS : contest == CHAIN ? ICEMEDIAN_CHAIN : ICEMEDIAN_JOINT;
     }
     static void accept(uint32_t status) {

@@ -5,18 +5,17 @@
 enum { W = 3, H = 1, LEVELS = 8, GUIDES = 4, RADIUS = 1, SMOOTHING = 1 };
 
 int main(void) {
-    const uint16_t values[W * H] = {5, 1, 3}, guide[W * H] = {0, 0, 2}, no_table[1] = {0};
+    const uint16_t values[W * H] = {5, 1, 3}, guide[W * H] = {0, 0, 2};
     uint8_t file[ICEMEDIAN_FILE_LENGTH(W, H, 0)];
     uint16_t counts[ICEMEDIAN_COUNTS_LENGTH(LEVELS, GUIDES)], output[ICEMEDIAN_OUTPUT_LENGTH(W, H)];
     uint64_t words[ICEMEDIAN_WORDS_LENGTH(LEVELS, GUIDES)], shifts, offset;
-    uint32_t numbers[1];
     size_t length;
 
     uint32_t status = icemedian_write(W, H, LEVELS, GUIDES, ICEMEDIAN_GUIDED, RADIUS, SMOOTHING, values, W * H,
-                                      guide, W * H, no_table, 0, file, sizeof file, &length, &offset);
+                                      guide, W * H, NULL, 0, file, sizeof file, &length, &offset);
     if (status == 0)
         status = icemedian_filter(file, length, ICEMEDIAN_JOINT, counts, sizeof counts / sizeof *counts, words,
-                                  sizeof words / sizeof *words, numbers, 0, output, W * H, &shifts, &offset);
+                                  sizeof words / sizeof *words, NULL, 0, output, W * H, &shifts, &offset);
     if (status != 0)
         return fprintf(stderr, "refused %u\n", (unsigned)status), 1;
     printf("%u %u %u, shifts %llu\n", output[0], output[1], output[2], (unsigned long long)shifts);

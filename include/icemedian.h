@@ -11,21 +11,33 @@
  *   3       the level count is not 2 to 1,024, or the guide count not 2 to 256
  *   4       the kind is not 1 or 2, or the smoothing not 0 (kind 1) or 1 to 65,025 (kind 2)
  *   5       the radius is above 15
- *   6       a plane or table does not lie in the file, or kind 2 has a table;
- *           in icemedian_write: a plane or table has the wrong length
- *   7       a value >= level count, a guide >= guide count, or a weight > 256, searched in that
- *           order; `offset` is the first such number's place in the file
+ *   6       a plane or table does not lie in the bytes before the trailer: the distance of the value
+ *           plane, of the guide plane, or a nonzero one of the table is shorter than the plane or table,
+ *           or reaches before the file; or kind 2 has a table.
+ *           In icemedian_write: the length of a plane is not width * height, or that of the table is
+ *           neither 0 nor, in kind 1, guides * guides
+ *   7       a value >= level count, a guide >= guide count, or a weight > 256, searched in that order;
+ *           `offset` is the byte offset of the first such number's high byte in the file, for
+ *           icemedian_write the one that it would have
  *   8       the way is not 1 to 3, or does not serve the kind (ways 2 and 3 serve kind 2 only)
  *   9       the pixel is outside the picture, or the level of a balance outside the levels
  *   10      over 1,048,576 moves
  *   11      a store, the answers or the output is too short
  *
- * On refusal every buffer keeps its content and every lent result is 0, except `offset` with 7.
- * Without refusal `offset` is 0. Buffers may be longer than needed: what lies beyond the needed length
- * is not touched, nor are the stores of the other ways.
+ * A refused call changes nothing that it was lent, buffer or result, but for `offset` with 7. A call that
+ * is not refused writes all its results but `offset`: that is written with 7 and never else.
  *
- * A pointer must never be NULL, must be aligned for its type, and must not reach into another buffer
- * of the same call. A store that the way does not use may have the length 0.
+ * Buffers may be longer than needed: what lies beyond the needed length is not touched, nor are the
+ * stores of the other ways.
+ *
+ * Numbers come 32 bits wide, or as size_t, and are checked as they come: a way of 257 is refused with 8, a
+ * width of 65,539 with 2, and a negative int like the large number that it becomes. Only what is wider than
+ * that is cut down, by C and before the call.
+ *
+ * Pointers must be aligned for their type. A pointer may be NULL where its length is 0; pointers to
+ * results (`shifts`, `cut`, `balance_box`, `balance`, `length`, `offset`) never. What is only read (`file`,
+ * `moves`, `values`, `guide`, `table`) may overlap. Whatever is written (stores, `answers`, `output`, every
+ * result) must overlap nothing else of the same call, nor one result another.
  */
 #ifndef ICEMEDIAN_H
 #define ICEMEDIAN_H
@@ -33,8 +45,18 @@
 #include <stddef.h>
 #include <stdint.h>
 
+/* The interface's version. From 1.0 on MAJOR rises where a caller's program would have to change, MINOR
+ * where something is added; while MAJOR is 0, MINOR rises for either.
+ * 0.2: way, level and the settings of icemedian_write are 32 bits wide; a refused call leaves its results
+ * as they were, and `offset` is written with 7 only. */
+#define ICEMEDIAN_VERSION_MAJOR 0
+#define ICEMEDIAN_VERSION_MINOR 2
+
 #ifdef __cplusplus
+#define ICEMEDIAN_SIZE(number) static_cast<size_t>(number)
 extern "C" {
+#else
+#define ICEMEDIAN_SIZE(number) ((size_t)(number))
 #endif
 
 /* Ways of counting: all give the same answers and the same shift count. */
@@ -51,32 +73,37 @@ enum { ICEMEDIAN_UNKNOWN_MOVE = 65533, ICEMEDIAN_OFF_PICTURE = 65534 };
 enum { ICEMEDIAN_DEFAULT_RADIUS = 7, ICEMEDIAN_DEFAULT_SMOOTHING = 64 };
 
 /* Needed lengths, in elements. Way 1 needs counts and words, ways 2 and 3 need numbers. */
-#define ICEMEDIAN_COUNTS_LENGTH(levels, guides) ((size_t)(levels) * (size_t)(guides))
-#define ICEMEDIAN_WORDS_LENGTH(levels, guides) ((size_t)(levels) * (((size_t)(guides) + 63) / 64))
-#define ICEMEDIAN_COLUMNS_LENGTH(width, levels) (2 * ((size_t)(width) + 1) * (size_t)(levels))
-#define ICEMEDIAN_CHAIN_LENGTH(radius) (1 + 4 * (2 * (size_t)(radius) + 1) * (2 * (size_t)(radius) + 1))
-#define ICEMEDIAN_ANSWERS_LENGTH(moves) ((size_t)(moves) + 1)
-#define ICEMEDIAN_OUTPUT_LENGTH(width, height) ((size_t)(width) * (size_t)(height))
+#define ICEMEDIAN_COUNTS_LENGTH(levels, guides) (ICEMEDIAN_SIZE(levels) * ICEMEDIAN_SIZE(guides))
+#define ICEMEDIAN_WORDS_LENGTH(levels, guides) (ICEMEDIAN_SIZE(levels) * ((ICEMEDIAN_SIZE(guides) + 63) / 64))
+#define ICEMEDIAN_COLUMNS_LENGTH(width, levels) (2 * (ICEMEDIAN_SIZE(width) + 1) * ICEMEDIAN_SIZE(levels))
+#define ICEMEDIAN_CHAIN_LENGTH(radius) \
+    (1 + 4 * (2 * ICEMEDIAN_SIZE(radius) + 1) * (2 * ICEMEDIAN_SIZE(radius) + 1))
+#define ICEMEDIAN_ANSWERS_LENGTH(moves) (ICEMEDIAN_SIZE(moves) + 1)
+#define ICEMEDIAN_OUTPUT_LENGTH(width, height) (ICEMEDIAN_SIZE(width) * ICEMEDIAN_SIZE(height))
 #define ICEMEDIAN_FILE_LENGTH(width, height, table_weights) \
-    (4 * (size_t)(width) * (size_t)(height) + 2 * (size_t)(table_weights) + 28)
+    (4 * ICEMEDIAN_SIZE(width) * ICEMEDIAN_SIZE(height) + 2 * ICEMEDIAN_SIZE(table_weights) + 28)
 #define ICEMEDIAN_BOX_LENGTH 256
 
 /* Settings of a file that icemedian_check accepts. */
 #define ICEMEDIAN_TRAILER16(file, length, place) \
-    ((unsigned)(file)[(length) - 28 + (place)] << 8 | (file)[(length) - 27 + (place)])
+    ((file)[(length) - 28 + (place)] * 256u + (file)[(length) - 27 + (place)])
 #define ICEMEDIAN_WIDTH(file, length) ICEMEDIAN_TRAILER16(file, length, 0)
 #define ICEMEDIAN_HEIGHT(file, length) ICEMEDIAN_TRAILER16(file, length, 2)
 #define ICEMEDIAN_LEVELS(file, length) ICEMEDIAN_TRAILER16(file, length, 4)
 #define ICEMEDIAN_GUIDES(file, length) ICEMEDIAN_TRAILER16(file, length, 6)
 #define ICEMEDIAN_KIND(file, length) ((file)[(length) - 20])
 #define ICEMEDIAN_RADIUS(file, length) ((file)[(length) - 19])
+#define ICEMEDIAN_SMOOTHING(file, length) ICEMEDIAN_TRAILER16(file, length, 10)
+
+/* Stack: icemedian_filter and icemedian_walk take about 142 KB of it, the other calls under 2 KB. Threads
+ * often have less by default (128 KB with musl) and end without a status where it does not suffice. */
 
 /* Checks 1 to 7. */
 uint32_t icemedian_check(const uint8_t *file, size_t file_length, uint64_t *offset);
 
 /* Filters a frame: checks 1 to 8 and 11. `output` gets a level for each pixel, row by row from the top
  * left; `shifts` the sum of level distances that the cut point travelled along the serpentine. */
-uint32_t icemedian_filter(const uint8_t *file, size_t file_length, uint8_t way,
+uint32_t icemedian_filter(const uint8_t *file, size_t file_length, uint32_t way,
                           uint16_t *counts, size_t counts_length,
                           uint64_t *words, size_t words_length,
                           uint32_t *numbers, size_t numbers_length,
@@ -86,7 +113,7 @@ uint32_t icemedian_filter(const uint8_t *file, size_t file_length, uint8_t way,
 /* Walks from a pixel along a list of moves: checks 1 to 11. `answers` gets the start's answer and then
  * one for each move byte. The way's stores hold the last window; `cut` is the cut point there and
  * `balance_box`, of 256 cells, way 1's balance at it (zeros for the other ways). */
-uint32_t icemedian_walk(const uint8_t *file, size_t file_length, uint8_t way,
+uint32_t icemedian_walk(const uint8_t *file, size_t file_length, uint32_t way,
                         size_t column, size_t row,
                         const uint8_t *moves, size_t moves_length,
                         uint16_t *counts, size_t counts_length,
@@ -97,13 +124,13 @@ uint32_t icemedian_walk(const uint8_t *file, size_t file_length, uint8_t way,
 
 /* The balance 2U(level) - T of the window at a pixel: checks 1 to 7 and 9. */
 uint32_t icemedian_balance(const uint8_t *file, size_t file_length,
-                           size_t column, size_t row, uint16_t level,
+                           size_t column, size_t row, uint32_t level,
                            int64_t *balance, uint64_t *offset);
 
 /* Writes a frame without gaps: checks 2 to 7 and 11. A table of length 0 means, in kind 1, the built-in
  * weights; `length` is the file's length in bytes. */
-uint32_t icemedian_write(uint16_t width, uint16_t height, uint16_t levels, uint16_t guides,
-                         uint8_t kind, uint8_t radius, uint16_t smoothing,
+uint32_t icemedian_write(uint32_t width, uint32_t height, uint32_t levels, uint32_t guides,
+                         uint32_t kind, uint32_t radius, uint32_t smoothing,
                          const uint16_t *values, size_t values_length,
                          const uint16_t *guide, size_t guide_length,
                          const uint16_t *table, size_t table_length,

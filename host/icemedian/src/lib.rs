@@ -5,9 +5,10 @@
 //! document 01's checks that fires.
 //!
 //! ```
-//! use icemedian::{filter, write, Settings, Way};
+//! use icemedian::{filter, write, Settings, Way, Weights};
 //!
-//! let settings = Settings { width: 3, height: 1, levels: 8, guides: 4, radius: 1, smoothing: 1, ..Settings::default() };
+//! let weights = Weights::Guided { smoothing: 1 };
+//! let settings = Settings { width: 3, height: 1, levels: 8, guides: 4, weights, radius: 1 };
 //! let file = write(&settings, &[5, 1, 3], &[0, 0, 2], &[])?;
 //! let filtered = filter(&file, Way::Columns)?;
 //! assert_eq!(filtered.levels, [1, 3, 3]);
@@ -28,9 +29,11 @@
 pub mod raw;
 mod refusal;
 mod settings;
+mod stores;
 
-pub use refusal::Refusal;
-pub use settings::{Kind, Settings, Stores, Way};
+pub use refusal::{Part, Refusal};
+pub use settings::{Settings, Way, Weights};
+pub use stores::Stores;
 
 /// Move bytes.
 pub const RIGHT: u8 = 0;
@@ -52,9 +55,19 @@ pub struct Filtered {
     pub shifts: u64,
 }
 
-/// What a walk says beside its answers.
+/// A walk to its end.
 #[derive(Clone, Debug, PartialEq, Eq)]
 pub struct Walked {
+    /// One answer for the start and one for each move byte: a level, [`OFF_PICTURE`] or [`UNKNOWN_MOVE`].
+    pub answers: Vec<u16>,
+    pub end: WalkEnd,
+    /// The way's stores, which hold the last window; the others are empty.
+    pub stores: Stores,
+}
+
+/// What a walk says beside its answers and stores.
+#[derive(Clone, Debug, PartialEq, Eq)]
+pub struct WalkEnd {
     /// How far the cut point travelled, in levels.
     pub shifts: u64,
     /// The cut point after the last window.
@@ -78,14 +91,14 @@ pub struct Walked {
 pub fn check(file: &[u8]) -> Result<Settings, Refusal> {
     let mut offset = 0;
     let status = raw::check(file, &mut offset);
-    Refusal::of_status(status, offset)?;
-    Ok(Settings::of_accepted(file))
+    Refusal::of_reading(status, offset, file)?;
+    Ok(Settings::of_trailer(file))
 }
 
 /// Filters a frame, making the buffers that the call needs.
 pub fn filter(file: &[u8], way: Way) -> Result<Filtered, Refusal> {
     let settings = check(file)?;
-    let mut stores = Stores::fitting(way, &settings);
+    let mut stores = Stores::fitting(way, &settings)?;
     let mut levels = vec![0; settings.pixels()];
     let shifts = filter_into(file, way, &mut stores, &mut levels)?;
     Ok(Filtered { settings, levels, shifts })
@@ -95,11 +108,11 @@ pub fn filter(file: &[u8], way: Way) -> Result<Filtered, Refusal> {
 /// enough; the output needs a number for each pixel.
 ///
 /// ```
-/// use icemedian::{filter_into, write, Kind, Refusal, Settings, Stores, Way};
+/// use icemedian::{filter_into, write, Refusal, Settings, Stores, Way, Weights};
 ///
-/// let settings = Settings { width: 2, height: 1, levels: 8, guides: 2, radius: 1, kind: Kind::Table, smoothing: 0 };
+/// let settings = Settings { width: 2, height: 1, levels: 8, guides: 2, weights: Weights::Table, radius: 1 };
 /// let file = write(&settings, &[2, 6], &[0, 0], &[1, 1, 1, 1])?;
-/// let mut stores = Stores::fitting(Way::Joint, &settings);
+/// let mut stores = Stores::fitting(Way::Joint, &settings)?;
 /// let mut output = [0; 2];
 /// assert_eq!(filter_into(&file, Way::Joint, &mut stores, &mut output), Ok(2));
 /// assert_eq!(output, [2, 2]);
@@ -109,29 +122,31 @@ pub fn filter(file: &[u8], way: Way) -> Result<Filtered, Refusal> {
 /// ```
 pub fn filter_into(file: &[u8], way: Way, stores: &mut Stores, output: &mut [u16]) -> Result<u64, Refusal> {
     let (mut shifts, mut offset) = (0, 0);
-    let status = raw::filter(file, way as u8, stores.lent(output), &mut shifts, &mut offset);
-    Refusal::of_status(status, offset)?;
+    let status = raw::filter(file, way as u32, stores.lent(output), &mut shifts, &mut offset);
+    Refusal::of_reading(status, offset, file)?;
     Ok(shifts)
 }
 
-/// Walks from a pixel along a list of moves, making the buffers that the call needs. There is one
-/// answer for the start and one for each move byte.
+/// Walks from a pixel along a list of moves, making the buffers that the call needs.
 ///
 /// ```
-/// use icemedian::{walk, write, Settings, Way, DOWN, LEFT, OFF_PICTURE, RIGHT};
+/// use icemedian::{walk, write, Settings, Way, Weights, DOWN, LEFT, OFF_PICTURE, RIGHT};
 ///
-/// let settings = Settings { width: 3, height: 1, levels: 8, guides: 4, radius: 1, smoothing: 1, ..Settings::default() };
+/// let weights = Weights::Guided { smoothing: 1 };
+/// let settings = Settings { width: 3, height: 1, levels: 8, guides: 4, weights, radius: 1 };
 /// let file = write(&settings, &[5, 1, 3], &[0, 0, 2], &[])?;
-/// let (answers, walked) = walk(&file, Way::Chain, (0, 0), &[RIGHT, DOWN, RIGHT, LEFT])?;
-/// assert_eq!(answers, [1, 3, OFF_PICTURE, 3, 3]);
-/// assert_eq!((walked.shifts, walked.cut), (3, 3));
+/// let walked = walk(&file, Way::Joint, (0, 0), &[RIGHT, DOWN, RIGHT, LEFT])?;
+/// assert_eq!(walked.answers, [1, 3, OFF_PICTURE, 3, 3]);
+/// assert_eq!((walked.end.shifts, walked.end.cut), (3, 3));
+/// // The last window has a pixel of level 3 and guide 2.
+/// assert_eq!(walked.stores.counts[3 * 4 + 2], 1);
 /// # Ok::<(), icemedian::Refusal>(())
 /// ```
-pub fn walk(file: &[u8], way: Way, start: (usize, usize), moves: &[u8]) -> Result<(Vec<u16>, Walked), Refusal> {
-    let mut stores = Stores::fitting(way, &check(file)?);
+pub fn walk(file: &[u8], way: Way, start: (usize, usize), moves: &[u8]) -> Result<Walked, Refusal> {
+    let mut stores = Stores::fitting(way, &check(file)?)?;
     let mut answers = vec![0; 1 + moves.len()];
-    let walked = walk_into(file, way, start, moves, &mut stores, &mut answers)?;
-    Ok((answers, walked))
+    let end = walk_into(file, way, start, moves, &mut stores, &mut answers)?;
+    Ok(Walked { answers, end, stores })
 }
 
 /// Walks in lent buffers. The way's stores hold the last window afterwards.
@@ -142,20 +157,21 @@ pub fn walk_into(
     moves: &[u8],
     stores: &mut Stores,
     answers: &mut [u16],
-) -> Result<Walked, Refusal> {
-    let mut walked = Walked { shifts: 0, cut: 0, balance_box: [0; 256] };
+) -> Result<WalkEnd, Refusal> {
+    let mut end = WalkEnd { shifts: 0, cut: 0, balance_box: [0; 256] };
     let mut offset = 0;
-    let status = raw::walk(file, way as u8, start, moves, stores.lent(answers), &mut walked, &mut offset);
-    Refusal::of_status(status, offset)?;
-    Ok(walked)
+    let status = raw::walk(file, way as u32, start, moves, stores.lent(answers), &mut end, &mut offset);
+    Refusal::of_reading(status, offset, file)?;
+    Ok(end)
 }
 
 /// The balance 2U(level) - T of the window at a pixel.
 ///
 /// ```
-/// use icemedian::{balance, write, Refusal, Settings};
+/// use icemedian::{balance, write, Refusal, Settings, Weights};
 ///
-/// let settings = Settings { width: 5, height: 1, levels: 8, guides: 16, radius: 2, smoothing: 1, ..Settings::default() };
+/// let weights = Weights::Guided { smoothing: 1 };
+/// let settings = Settings { width: 5, height: 1, levels: 8, guides: 16, weights, radius: 2 };
 /// let file = write(&settings, &[1, 2, 5, 3, 4], &[7, 7, 15, 7, 0], &[])?;
 /// assert_eq!(balance(&file, (2, 0), 4), Ok(-1275));
 /// assert_eq!(balance(&file, (2, 0), 8), Err(Refusal::Place));
@@ -163,8 +179,8 @@ pub fn walk_into(
 /// ```
 pub fn balance(file: &[u8], pixel: (usize, usize), level: u16) -> Result<i64, Refusal> {
     let (mut balance, mut offset) = (0, 0);
-    let status = raw::balance(file, pixel, level, &mut balance, &mut offset);
-    Refusal::of_status(status, offset)?;
+    let status = raw::balance(file, pixel, level.into(), &mut balance, &mut offset);
+    Refusal::of_reading(status, offset, file)?;
     Ok(balance)
 }
 
@@ -195,6 +211,6 @@ pub fn write_into(
 ) -> Result<usize, Refusal> {
     let (mut length, mut offset) = (0, 0);
     let status = raw::write(&settings.header(), values, guide, table, output, &mut length, &mut offset);
-    Refusal::of_status(status, offset)?;
+    Refusal::of_status(status, offset, || Refusal::length(settings, values, guide, table))?;
     Ok(length)
 }

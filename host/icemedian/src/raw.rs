@@ -1,7 +1,7 @@
 //! The C interface of `include/icemedian.h` over slices: numbers in, a status out. The crate's other
 //! calls give these numbers types; tests use them to hand over numbers that no type allows.
 
-use crate::Walked;
+use crate::WalkEnd;
 
 mod c {
     extern "C" {
@@ -10,7 +10,7 @@ mod c {
         pub fn icemedian_filter(
             file: *const u8,
             file_length: usize,
-            way: u8,
+            way: u32,
             counts: *mut u16,
             counts_length: usize,
             words: *mut u64,
@@ -26,7 +26,7 @@ mod c {
         pub fn icemedian_walk(
             file: *const u8,
             file_length: usize,
-            way: u8,
+            way: u32,
             column: usize,
             row: usize,
             moves: *const u8,
@@ -50,19 +50,19 @@ mod c {
             file_length: usize,
             column: usize,
             row: usize,
-            level: u16,
+            level: u32,
             balance: *mut i64,
             offset: *mut u64,
         ) -> u32;
 
         pub fn icemedian_write(
-            width: u16,
-            height: u16,
-            levels: u16,
-            guides: u16,
-            kind: u8,
-            radius: u8,
-            smoothing: u16,
+            width: u32,
+            height: u32,
+            levels: u32,
+            guides: u32,
+            kind: u32,
+            radius: u32,
+            smoothing: u32,
             values: *const u16,
             values_length: usize,
             guide: *const u16,
@@ -86,16 +86,16 @@ pub struct Lent<'a> {
     pub answers: &'a mut [u16],
 }
 
-/// The settings of a frame to write, as the trailer has them.
+/// The settings of a frame to write: wider than the trailer's numbers, since the library checks them.
 #[derive(Clone, Copy, Debug)]
 pub struct Header {
-    pub width: u16,
-    pub height: u16,
-    pub levels: u16,
-    pub guides: u16,
-    pub kind: u8,
-    pub radius: u8,
-    pub smoothing: u16,
+    pub width: u32,
+    pub height: u32,
+    pub levels: u32,
+    pub guides: u32,
+    pub kind: u32,
+    pub radius: u32,
+    pub smoothing: u32,
 }
 
 /// `icemedian_check`.
@@ -105,7 +105,7 @@ pub fn check(file: &[u8], offset: &mut u64) -> u32 {
 }
 
 /// `icemedian_filter`.
-pub fn filter(file: &[u8], way: u8, lent: Lent, shifts: &mut u64, offset: &mut u64) -> u32 {
+pub fn filter(file: &[u8], way: u32, lent: Lent, shifts: &mut u64, offset: &mut u64) -> u32 {
     // SAFETY: each pointer and length belong to one slice; a mutable slice overlaps no other.
     unsafe {
         c::icemedian_filter(
@@ -129,11 +129,11 @@ pub fn filter(file: &[u8], way: u8, lent: Lent, shifts: &mut u64, offset: &mut u
 /// `icemedian_walk`.
 pub fn walk(
     file: &[u8],
-    way: u8,
+    way: u32,
     (column, row): (usize, usize),
     moves: &[u8],
     lent: Lent,
-    walked: &mut Walked,
+    end: &mut WalkEnd,
     offset: &mut u64,
 ) -> u32 {
     // SAFETY: each pointer and length belong to one slice; a mutable slice overlaps no other.
@@ -154,16 +154,16 @@ pub fn walk(
             lent.numbers.len(),
             lent.answers.as_mut_ptr(),
             lent.answers.len(),
-            &mut walked.shifts,
-            &mut walked.cut,
-            &mut walked.balance_box,
+            &mut end.shifts,
+            &mut end.cut,
+            &mut end.balance_box,
             offset,
         )
     }
 }
 
 /// `icemedian_balance`.
-pub fn balance(file: &[u8], (column, row): (usize, usize), level: u16, balance: &mut i64, offset: &mut u64) -> u32 {
+pub fn balance(file: &[u8], (column, row): (usize, usize), level: u32, balance: &mut i64, offset: &mut u64) -> u32 {
     // SAFETY: pointer and length are the slice's; the results are lent for the call.
     unsafe { c::icemedian_balance(file.as_ptr(), file.len(), column, row, level, balance, offset) }
 }

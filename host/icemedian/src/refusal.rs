@@ -1,7 +1,26 @@
 //! Refusals, by document 01's numbers.
 
+use crate::{Settings, Weights};
 use std::error::Error;
 use std::fmt;
+
+/// A part of a frame that stands before its trailer.
+#[derive(Clone, Copy, Debug, PartialEq, Eq)]
+pub enum Part {
+    Values,
+    Guide,
+    Table,
+}
+
+impl fmt::Display for Part {
+    fn fmt(&self, f: &mut fmt::Formatter<'_>) -> fmt::Result {
+        f.write_str(match self {
+            Part::Values => "value plane",
+            Part::Guide => "guide plane",
+            Part::Table => "table",
+        })
+    }
+}
 
 /// Why a call refuses: the first of document 01's checks that fires.
 #[derive(Clone, Copy, Debug, PartialEq, Eq)]
@@ -16,8 +35,12 @@ pub enum Refusal {
     Kind,
     /// 5: the radius is above 15.
     Radius,
-    /// 6: a plane or table does not lie in the file; or, in a writer, has the wrong length.
-    Parts,
+    /// 6, reading: a plane or table does not lie in the bytes before the trailer, or kind 2 has a table. The
+    /// distance back from the trailer must be from `least`, the bytes of the part, to `most`, the bytes
+    /// before the trailer; both are 0 for kind 2's table.
+    Distance { part: Part, distance: u32, least: usize, most: usize },
+    /// 6, writing: a plane or table has the wrong length. A table may be empty beside the length wanted.
+    Length { part: Part, length: usize, wanted: usize },
     /// 7: a value, guide or weight is too large; the first one's byte offset in the file.
     Contents { offset: u64 },
     /// 8: the way does not serve the kind.
@@ -28,11 +51,13 @@ pub enum Refusal {
     Moves,
     /// 11: a store, answer buffer or output is too short.
     Room,
+    /// A status that document 01 does not have: the archive is not the one that this crate is written for.
+    Unknown { status: u32 },
 }
 
 impl Refusal {
-    /// What a status of the C interface says.
-    pub(crate) fn of_status(status: u32, offset: u64) -> Result<(), Refusal> {
+    /// What a status of the C interface says; `part` finds the part that number 6 is about.
+    pub(crate) fn of_status(status: u32, offset: u64, part: impl FnOnce() -> Refusal) -> Result<(), Refusal> {
         Err(match status {
             0 => return Ok(()),
             1 => Refusal::Trailer,
@@ -40,57 +65,122 @@ impl Refusal {
             3 => Refusal::Counts,
             4 => Refusal::Kind,
             5 => Refusal::Radius,
-            6 => Refusal::Parts,
+            6 => part(),
             7 => Refusal::Contents { offset },
             8 => Refusal::Way,
             9 => Refusal::Place,
             10 => Refusal::Moves,
             11 => Refusal::Room,
-            other => unreachable!("the library's contract has no status {other}"),
+            _ => Refusal::Unknown { status },
         })
     }
 
+    /// What a status says of a call that reads a file.
+    pub(crate) fn of_reading(status: u32, offset: u64, file: &[u8]) -> Result<(), Refusal> {
+        Refusal::of_status(status, offset, || Refusal::distance(file))
+    }
+
+    /// The first part at fault in a file that number 6 refuses.
+    fn distance(file: &[u8]) -> Refusal {
+        let settings = Settings::of_trailer(file);
+        let before = file.len() - 28;
+        let distance = |place: usize| {
+            let start = before + place;
+            u32::from_be_bytes([file[start], file[start + 1], file[start + 2], file[start + 3]])
+        };
+        let plane = 2 * settings.pixels();
+        let outside = |distance: u32| u64::from(distance) < plane as u64 || u64::from(distance) > before as u64;
+        for (part, distance) in [(Part::Values, distance(12)), (Part::Guide, distance(16))] {
+            if outside(distance) {
+                return Refusal::Distance { part, distance, least: plane, most: before };
+            }
+        }
+        let (least, most) = match settings.weights {
+            Weights::Table => (2 * settings.table_weights(), before),
+            Weights::Guided { .. } => (0, 0),
+        };
+        Refusal::Distance { part: Part::Table, distance: distance(20), least, most }
+    }
+
+    /// The first part at fault in what the writer was given, where number 6 refuses it.
+    pub(crate) fn length(settings: &Settings, values: &[u16], guide: &[u16], table: &[u16]) -> Refusal {
+        let plane = settings.pixels();
+        for (part, length) in [(Part::Values, values.len()), (Part::Guide, guide.len())] {
+            if length != plane {
+                return Refusal::Length { part, length, wanted: plane };
+            }
+        }
+        let wanted = if settings.weights == Weights::Table { settings.table_weights() } else { 0 };
+        Refusal::Length { part: Part::Table, length: table.len(), wanted }
+    }
+
     /// Document 01's number.
-    pub fn number(self) -> u8 {
+    pub fn number(self) -> u32 {
         match self {
             Refusal::Trailer => 1,
             Refusal::Size => 2,
             Refusal::Counts => 3,
             Refusal::Kind => 4,
             Refusal::Radius => 5,
-            Refusal::Parts => 6,
+            Refusal::Distance { .. } | Refusal::Length { .. } => 6,
             Refusal::Contents { .. } => 7,
             Refusal::Way => 8,
             Refusal::Place => 9,
             Refusal::Moves => 10,
             Refusal::Room => 11,
-        }
-    }
-
-    fn reason(self) -> &'static str {
-        match self {
-            Refusal::Trailer => "the file is under 28 bytes or does not end in the frame's mark",
-            Refusal::Size => "width and height must be 1 to 1024 and their product at most 262144",
-            Refusal::Counts => "the level count must be 2 to 1024 and the guide count 2 to 256",
-            Refusal::Kind => "the kind must be 1 with smoothing 0, or 2 with smoothing 1 to 65025",
-            Refusal::Radius => "the radius must be at most 15",
-            Refusal::Parts => "a plane or table has the wrong length or does not lie in the file",
-            Refusal::Contents { .. } => "a value, guide or weight is too large",
-            Refusal::Way => "the way does not serve the frame's kind",
-            Refusal::Place => "the pixel is outside the picture or the level outside the levels",
-            Refusal::Moves => "there are over 1048576 moves",
-            Refusal::Room => "a store, answer buffer or output is too short",
+            Refusal::Unknown { status } => status,
         }
     }
 }
 
+/// The number and the reason.
+///
+/// ```
+/// use icemedian::{write, Settings};
+///
+/// let settings = Settings { width: 3, height: 2, levels: 8, guides: 4, ..Settings::default() };
+/// let refusal = write(&settings, &[0; 6], &[0; 5], &[]).unwrap_err();
+/// assert_eq!(refusal.to_string(), "refused 6: the guide plane has 5 numbers, and must have 6");
+/// ```
 impl fmt::Display for Refusal {
     fn fmt(&self, f: &mut fmt::Formatter<'_>) -> fmt::Result {
-        write!(f, "refused {}: {}", self.number(), self.reason())?;
-        match self {
-            Refusal::Contents { offset } => write!(f, " (at byte {offset})"),
-            _ => Ok(()),
+        write!(f, "refused {}: ", self.number())?;
+        match *self {
+            Refusal::Trailer => write!(f, "the file is under 28 bytes or does not end in the frame's mark"),
+            Refusal::Size => write!(f, "width and height must be 1 to 1024 and their product at most 262144"),
+            Refusal::Counts => write!(f, "the level count must be 2 to 1024 and the guide count 2 to 256"),
+            Refusal::Kind => write!(f, "the kind must be 1 with smoothing 0, or 2 with smoothing 1 to 65025"),
+            Refusal::Radius => write!(f, "the radius must be at most 15"),
+            Refusal::Distance { part, least, most, .. } if least > most => {
+                write!(f, "the {part} takes {least} bytes, and before the trailer the file has {most}")
+            }
+            Refusal::Distance { part, distance, least, most } => {
+                write!(f, "the {part}'s distance is {distance}, and must be {least}")?;
+                if least < most {
+                    write!(f, " to {most}")?;
+                }
+                f.write_str(or_none(part, least, " or 0"))
+            }
+            Refusal::Length { part, length, wanted } => {
+                write!(f, "the {part} has {length} numbers, and must have {wanted}")?;
+                f.write_str(or_none(part, wanted, " or none"))
+            }
+            Refusal::Contents { offset } => write!(f, "a value, guide or weight is too large (at byte {offset})"),
+            Refusal::Way => write!(f, "the way does not serve the frame's kind"),
+            Refusal::Place => write!(f, "the pixel is outside the picture or the level outside the levels"),
+            Refusal::Moves => write!(f, "there are over 1048576 moves"),
+            Refusal::Room => write!(f, "a store, answer buffer or output is too short"),
+            Refusal::Unknown { .. } => write!(f, "a status that document 01 does not have"),
         }
+    }
+}
+
+/// What a message adds where there may also be no table.
+fn or_none(part: Part, needed: usize, words: &str) -> &str {
+    if part == Part::Table && needed > 0 {
+        words
+    } else {
+        ""
     }
 }
 

@@ -1,23 +1,48 @@
-//! Settings of a frame, ways of counting, and how much room a way needs.
+//! Settings of a frame, and ways of counting.
 
-use crate::raw::{Header, Lent};
+use crate::raw::Header;
+use crate::{write_into, Refusal};
 
-/// How pixels are weighed.
+/// How a window's pixels are weighed: document 01's kind, and what belongs to it.
 #[derive(Clone, Copy, Debug, PartialEq, Eq)]
-pub enum Kind {
+pub enum Weights {
     /// Kind 1: by a table of the two pixels' guides, or by the built-in weights.
-    Table = 1,
-    /// Kind 2: by equation 22 of source 000.
-    Guided = 2,
+    Table,
+    /// Kind 2: by equation 22 of source 000, with smoothing 1 to 65,025 added to the guide's variance.
+    Guided { smoothing: u16 },
+}
+
+impl Weights {
+    /// Document 01's number of the kind.
+    pub fn kind(self) -> u8 {
+        match self {
+            Weights::Table => 1,
+            Weights::Guided { .. } => 2,
+        }
+    }
+
+    /// What the trailer has as smoothing: 0 in kind 1.
+    pub fn smoothing(self) -> u16 {
+        match self {
+            Weights::Table => 0,
+            Weights::Guided { smoothing } => smoothing,
+        }
+    }
+}
+
+impl Default for Weights {
+    fn default() -> Weights {
+        Weights::Guided { smoothing: Settings::SMOOTHING }
+    }
 }
 
 /// What a frame's trailer says.
 ///
 /// ```
-/// use icemedian::{Kind, Settings};
+/// use icemedian::{Settings, Weights};
 ///
 /// let settings = Settings { width: 640, height: 400, levels: 256, guides: 256, ..Settings::default() };
-/// assert_eq!((settings.radius, settings.smoothing, settings.kind), (7, 64, Kind::Guided));
+/// assert_eq!((settings.radius, settings.weights), (7, Weights::Guided { smoothing: 64 }));
 /// ```
 #[derive(Clone, Copy, Debug, PartialEq, Eq)]
 pub struct Settings {
@@ -27,10 +52,8 @@ pub struct Settings {
     pub levels: u16,
     /// Guide count: guides run from 0 to one below it.
     pub guides: u16,
-    pub kind: Kind,
+    pub weights: Weights,
     pub radius: u8,
-    /// Added to the guide's variance in kind 2; 0 in kind 1.
-    pub smoothing: u16,
 }
 
 impl Settings {
@@ -44,21 +67,43 @@ impl Settings {
         usize::from(self.width) * usize::from(self.height)
     }
 
-    /// The settings as the C interface takes them.
-    pub(crate) fn header(&self) -> Header {
-        Header {
-            width: self.width,
-            height: self.height,
-            levels: self.levels,
-            guides: self.guides,
-            kind: self.kind as u8,
-            radius: self.radius,
-            smoothing: self.smoothing,
+    /// Weights in a table that is not built in.
+    pub fn table_weights(&self) -> usize {
+        usize::from(self.guides) * usize::from(self.guides)
+    }
+
+    /// Checks 2 to 5: whether a frame can have these settings.
+    ///
+    /// ```
+    /// use icemedian::{Refusal, Settings};
+    ///
+    /// let settings = Settings { width: 640, height: 400, levels: 256, guides: 256, ..Settings::default() };
+    /// assert_eq!(settings.check(), Ok(()));
+    /// assert_eq!(Settings { height: 480, ..settings }.check(), Err(Refusal::Size));
+    /// ```
+    pub fn check(&self) -> Result<(), Refusal> {
+        // The writer makes these checks first; then it misses the planes, which no frame has empty.
+        match write_into(self, &[], &[], &[], &mut []) {
+            Err(Refusal::Length { .. }) => Ok(()),
+            other => other.map(drop),
         }
     }
 
-    /// The settings in an accepted file's last 28 bytes.
-    pub(crate) fn of_accepted(file: &[u8]) -> Settings {
+    /// The settings as the C interface takes them.
+    pub(crate) fn header(&self) -> Header {
+        Header {
+            width: self.width.into(),
+            height: self.height.into(),
+            levels: self.levels.into(),
+            guides: self.guides.into(),
+            kind: self.weights.kind().into(),
+            radius: self.radius.into(),
+            smoothing: self.weights.smoothing().into(),
+        }
+    }
+
+    /// The settings in a file's last 28 bytes, which checks 1 to 5 accept.
+    pub(crate) fn of_trailer(file: &[u8]) -> Settings {
         let trailer = &file[file.len() - 28..];
         let number = |place: usize| u16::from_be_bytes([trailer[place], trailer[place + 1]]);
         Settings {
@@ -66,24 +111,15 @@ impl Settings {
             height: number(2),
             levels: number(4),
             guides: number(6),
-            kind: if trailer[8] == Kind::Table as u8 { Kind::Table } else { Kind::Guided },
+            weights: if trailer[8] == 1 { Weights::Table } else { Weights::Guided { smoothing: number(10) } },
             radius: trailer[9],
-            smoothing: number(10),
         }
     }
 }
 
 impl Default for Settings {
     fn default() -> Settings {
-        Settings {
-            width: 0,
-            height: 0,
-            levels: 0,
-            guides: 0,
-            kind: Kind::Guided,
-            radius: Settings::RADIUS,
-            smoothing: Settings::SMOOTHING,
-        }
+        Settings { width: 0, height: 0, levels: 0, guides: 0, weights: Weights::default(), radius: Settings::RADIUS }
     }
 }
 
@@ -98,48 +134,9 @@ pub enum Way {
     Chain = 3,
 }
 
-/// The stores that a call counts in. One record may serve many calls; it grows as needed.
-#[derive(Clone, Debug, Default, PartialEq, Eq)]
-pub struct Stores {
-    /// Way 1: pixels per level and guide.
-    pub counts: Vec<u16>,
-    /// Way 1: occupied guides per level, 64 to a word.
-    pub words: Vec<u64>,
-    /// Ways 2 and 3.
-    pub numbers: Vec<u32>,
-}
-
-impl Stores {
-    /// Stores long enough for a way on frames with these settings.
-    pub fn fitting(way: Way, settings: &Settings) -> Stores {
-        let mut stores = Stores::default();
-        stores.fit(way, settings);
-        stores
-    }
-
-    /// The stores with an answer buffer, for one call.
-    pub(crate) fn lent<'a>(&'a mut self, answers: &'a mut [u16]) -> Lent<'a> {
-        Lent { counts: &mut self.counts, words: &mut self.words, numbers: &mut self.numbers, answers }
-    }
-
-    /// Makes the way's stores at least as long as needed.
-    pub fn fit(&mut self, way: Way, settings: &Settings) {
-        let levels = usize::from(settings.levels);
-        let guides = usize::from(settings.guides);
-        let side = 2 * usize::from(settings.radius) + 1;
-        match way {
-            Way::Joint => {
-                lengthen(&mut self.counts, levels * guides);
-                lengthen(&mut self.words, levels * guides.div_ceil(64));
-            }
-            Way::Columns => lengthen(&mut self.numbers, 2 * (usize::from(settings.width) + 1) * levels),
-            Way::Chain => lengthen(&mut self.numbers, 1 + 4 * side * side),
-        }
-    }
-}
-
-fn lengthen<T: Clone + Default>(store: &mut Vec<T>, needed: usize) {
-    if store.len() < needed {
-        store.resize(needed, T::default());
+impl Way {
+    /// Whether the way serves frames with such weights.
+    pub fn serves(self, weights: Weights) -> bool {
+        self == Way::Joint || weights != Weights::Table
     }
 }

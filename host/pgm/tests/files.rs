@@ -1,56 +1,175 @@
-//! The program on files: a filtered picture, and clear errors.
+//! The program on files: filtered pictures, and clear errors.
 
+use std::ffi::{OsStr, OsString};
+use std::io::Write;
+use std::os::unix::ffi::OsStringExt;
 use std::path::{Path, PathBuf};
-use std::process::{Command, Output};
+use std::process::{Command, Output, Stdio};
 
-fn place(name: &str) -> PathBuf {
-    Path::new(env!("CARGO_TARGET_TMPDIR")).join(name)
+fn place(name: impl AsRef<OsStr>) -> PathBuf {
+    Path::new(env!("CARGO_TARGET_TMPDIR")).join(name.as_ref())
+}
+
+fn command(words: &[&str]) -> Command {
+    let mut command = Command::new(env!("CARGO_BIN_EXE_icemedian-pgm"));
+    command.current_dir(env!("CARGO_TARGET_TMPDIR")).args(words);
+    command
 }
 
 fn filter(words: &[&str]) -> Output {
-    Command::new(env!("CARGO_BIN_EXE_icemedian-pgm"))
-        .current_dir(env!("CARGO_TARGET_TMPDIR"))
-        .args(words)
-        .output()
-        .expect("the program runs")
+    command(words).output().expect("the program runs")
+}
+
+/// With bytes on standard input.
+fn filter_fed(words: &[&str], input: &[u8]) -> Output {
+    let mut child = command(words)
+        .stdin(Stdio::piped())
+        .stdout(Stdio::piped())
+        .stderr(Stdio::piped())
+        .spawn()
+        .expect("the program runs");
+    child.stdin.take().unwrap().write_all(input).unwrap();
+    child.wait_with_output().expect("the program ends")
 }
 
 fn message(output: &Output) -> String {
-    assert!(!output.status.success());
+    assert_eq!(output.status.code(), Some(1));
     String::from_utf8_lossy(&output.stderr).into_owned()
+}
+
+fn notes(output: &Output) -> String {
+    let notes = String::from_utf8_lossy(&output.stderr).into_owned();
+    assert!(output.status.success(), "{notes}");
+    notes
+}
+
+fn pgm(width: usize, height: usize, pixels: &[u8]) -> Vec<u8> {
+    [format!("P5\n{width} {height}\n255\n").as_bytes(), pixels].concat()
+}
+
+/// Writes a picture of this size, every pixel 7, and names its file.
+fn flat(name: &str, width: usize, height: usize) -> &str {
+    std::fs::write(place(name), pgm(width, height, &vec![7; width * height])).unwrap();
+    name
+}
+
+/// Bench window B, its levels 100 higher: the program takes the values' span as levels.
+const B: [u8; 5] = [101, 102, 105, 103, 104];
+const B_GUIDE: [u8; 5] = [7, 7, 15, 7, 0];
+const B_FILTERED: [u8; 5] = [102, 102, 103, 103, 104];
+const B_OPTIONS: [&str; 4] = ["--radius", "2", "--smoothing", "1"];
+
+fn b_files(thermal: impl AsRef<OsStr>, guide: impl AsRef<OsStr>) {
+    std::fs::write(place(thermal), pgm(5, 1, &B)).unwrap();
+    std::fs::write(place(guide), pgm(5, 1, &B_GUIDE)).unwrap();
 }
 
 #[test]
 fn document_01s_frame_as_pictures() {
-    // Bench window B, its levels 100 higher: the program takes the values' span as levels.
-    std::fs::write(place("b.pgm"), [b"P5\n5 1\n255\n".as_slice(), &[101, 102, 105, 103, 104]].concat()).unwrap();
-    std::fs::write(place("b_guide.pgm"), [b"P5\n5 1\n255\n".as_slice(), &[7, 7, 15, 7, 0]].concat()).unwrap();
+    b_files("b.pgm", "b_guide.pgm");
     for way in ["joint", "columns", "chain"] {
-        let output = filter(&["b.pgm", "b_guide.pgm", "b_out.pgm", "--radius", "2", "--smoothing", "1", "--way", way]);
-        assert!(output.status.success(), "{}", String::from_utf8_lossy(&output.stderr));
-        let expected = [b"P5\n5 1\n255\n".as_slice(), &[102, 102, 103, 103, 104]].concat();
-        assert_eq!(std::fs::read(place("b_out.pgm")).unwrap(), expected);
+        let words = [&["b.pgm", "b_guide.pgm", "b_out.pgm", "--way", way], B_OPTIONS.as_slice()].concat();
+        notes(&filter(&words));
+        assert_eq!(std::fs::read(place("b_out.pgm")).unwrap(), pgm(5, 1, &B_FILTERED));
     }
 }
 
 #[test]
+fn a_dash_is_standard_input_and_output() {
+    b_files("dash.pgm", "dash_guide.pgm");
+    let words = |files: [&'static str; 3]| [files.as_slice(), &B_OPTIONS].concat();
+    let piped = filter_fed(&words(["-", "dash_guide.pgm", "-"]), &pgm(5, 1, &B));
+    assert!(notes(&piped).contains("reading standard input"));
+    assert_eq!(piped.stdout, pgm(5, 1, &B_FILTERED));
+    let guide_piped = filter_fed(&words(["dash.pgm", "-", "dash_out.pgm"]), &pgm(5, 1, &B_GUIDE));
+    notes(&guide_piped);
+    assert_eq!(std::fs::read(place("dash_out.pgm")).unwrap(), pgm(5, 1, &B_FILTERED));
+    assert!(message(&filter(&words(["-", "-", "dash_out.pgm"]))).contains("not both"));
+    assert!(message(&filter_fed(&words(["-", "dash_guide.pgm", "-"]), b"P5")).contains("standard input: the header"));
+}
+
+#[test]
+fn a_file_name_may_be_any_bytes() {
+    let name = |last: &[u8]| OsString::from_vec([b"\xff".as_slice(), last].concat());
+    b_files(name(b"b.pgm"), name(b"guide.pgm"));
+    let files = [name(b"b.pgm"), name(b"guide.pgm"), name(b"out.pgm")];
+    notes(&command(&B_OPTIONS).args(&files).output().unwrap());
+    assert_eq!(std::fs::read(place(name(b"out.pgm"))).unwrap(), pgm(5, 1, &B_FILTERED));
+    let absent = [name(b"absent.pgm"), name(b"guide.pgm"), name(b"out.pgm")];
+    assert!(message(&command(&[]).args(&absent).output().unwrap()).contains("absent.pgm"));
+    let option = [OsString::from_vec(b"-\xff".to_vec())];
+    assert!(message(&command(&[]).args(&option).output().unwrap()).contains("unknown option -"));
+}
+
+#[test]
 fn errors_name_their_cause() {
-    std::fs::write(place("one.pgm"), b"P5\n1 1\n255\n\x07").unwrap();
-    std::fs::write(place("two.pgm"), b"P5\n2 1\n255\n\x07\x08").unwrap();
-    assert!(message(&filter(&["one.pgm"])).contains("three files"));
-    assert!(message(&filter(&["absent.pgm", "one.pgm", "out.pgm"])).contains("absent.pgm"));
-    assert!(message(&filter(&["one.pgm", "two.pgm", "out.pgm"])).contains("one size"));
-    assert!(message(&filter(&["one.pgm", "one.pgm", "out.pgm", "--radius", "16"])).contains("refused 5"));
-    assert!(message(&filter(&["one.pgm", "one.pgm", "out.pgm", "--table", "--way", "chain"])).contains("refused 8"));
-    assert!(message(&filter(&["one.pgm", "one.pgm", "out.pgm", "--wide"])).contains("--wide"));
-    let wide = [b"P5\n1025 1\n255\n".as_slice(), &[0; 1025]].concat();
-    std::fs::write(place("wide.pgm"), wide).unwrap();
-    assert!(message(&filter(&["wide.pgm", "wide.pgm", "out.pgm"])).contains("refused 2"));
+    let (one, two) = (flat("one.pgm", 1, 1), flat("two.pgm", 2, 1));
+    assert!(message(&filter(&[one])).contains("three files are needed, not 1"));
+    assert!(message(&filter(&["absent.pgm", one, "out.pgm"])).contains("absent.pgm"));
+    let sizes = message(&filter(&[one, two, "out.pgm"]));
+    assert!(sizes.contains("one.pgm is 1x1 and two.pgm 2x1: they must be of one size"), "{sizes}");
+}
+
+#[test]
+fn a_wrong_size_is_named_with_what_is_allowed() {
+    for (width, height) in [(640, 480), (1025, 1), (1, 70_000), (0, 5)] {
+        let name = format!("size_{width}_{height}.pgm");
+        let wrong = message(&filter(&[flat(&name, width, height), &name, "out.pgm"]));
+        let size = format!("{name} is {width}x{height}: width and height may be 1 to 1024, with at most 262144 pixels");
+        assert!(wrong.contains(&size), "{wrong}");
+    }
+}
+
+#[test]
+fn wrong_options_are_named() {
+    let one = flat("options.pgm", 1, 1);
+    let wrong = |words: &[&str], said: &str| {
+        let message = message(&filter(&[&[one, one, "out.pgm"], words].concat()));
+        assert!(message.contains(said), "{message}");
+    };
+    wrong(&["--wide"], "unknown option --wide");
+    wrong(&["-r", "3"], "unknown option -r");
+    wrong(&["--radius"], "--radius needs a number from 0 to 15");
+    for word in ["16", "263", "-1", "x", ""] {
+        wrong(&["--radius", word], &format!("--radius needs a number from 0 to 15, not {word}"));
+    }
+    for word in ["0", "65026", "65537", "1.5"] {
+        wrong(&["--smoothing", word], &format!("--smoothing needs a number from 1 to 65025, not {word}"));
+    }
+    wrong(&["--way", "table"], "--way needs joint, columns or chain");
+    wrong(&["--table", "--way", "chain"], "--table needs --way joint");
+    wrong(&["--table", "--smoothing", "64"], "--table has no smoothing");
+    wrong(&["--smoothing", "64", "--table"], "--table has no smoothing");
+    notes(&filter(&[one, one, "options_out.pgm", "--table"]));
+}
+
+#[test]
+fn wrong_headers_are_named() {
+    let wrong = |header: &[u8], said: &str| {
+        std::fs::write(place("header.pgm"), [header, &[0; 300]].concat()).unwrap();
+        let message = message(&filter(&["header.pgm", "header.pgm", "out.pgm"]));
+        assert!(message.contains(said), "{message}");
+    };
+    wrong(b"P520 10 255\n", "header.pgm: the header has no blank before its width");
+    wrong(b"P5 2 1 255x", "header.pgm: the header has no blank behind its greatest value");
+    wrong(b"P5 99999999999999999999999 1 255\n", "the width 99999999999999999999999 is too large");
+    wrong(b"P5 400 1 255\n", "the file ends early: 400x1 pixels take 400 bytes, it has 300");
+}
+
+#[test]
+fn what_is_left_over_is_noted() {
+    let note = "bytes left over behind the pixels of over.pgm";
+    std::fs::write(place("over.pgm"), b"P5\r\n2 1\r\n255\r\n\x01\x02").unwrap();
+    let output = filter(&["over.pgm", flat("over_guide.pgm", 2, 1), "over_out.pgm", "--radius", "0"]);
+    assert!(notes(&output).contains(&format!("1 {note}")));
+    assert!(!notes(&filter(&["over_guide.pgm", "over_guide.pgm", "over_out.pgm"])).contains("left over"));
 }
 
 #[test]
 fn help_goes_to_standard_output() {
-    let output = filter(&["--help"]);
-    assert!(output.status.success());
-    assert!(String::from_utf8_lossy(&output.stdout).contains("--smoothing"));
+    for word in ["-h", "--help"] {
+        let output = filter(&[word]);
+        assert!(notes(&output).is_empty());
+        assert!(String::from_utf8_lossy(&output.stdout).contains("--smoothing"));
+    }
 }

@@ -2,7 +2,7 @@
 
 use crate::calls;
 use crate::cases::bytes_of_hex;
-use crate::frame::{built_in_weight, open, Frame, Settings, KIND_GUIDED, KIND_TABLE};
+use crate::frame::{built_in_weight, open, Asked, Frame, Settings, KIND_GUIDED, KIND_TABLE};
 use crate::program::printed;
 use crate::random::{accepted_file, Random};
 use crate::refusal::Refusal;
@@ -30,7 +30,7 @@ fn row(kind: u8, levels: u16, guides: u16, radius: u8, values: &[u16], guide: &[
         radius,
         smoothing: u16::from(kind == KIND_GUIDED),
     };
-    open(&write(&settings, values, guide, table, usize::MAX).unwrap()).unwrap()
+    open(&write(&settings.asked(), values, guide, table, usize::MAX).unwrap()).unwrap()
 }
 
 fn frame_b() -> Frame {
@@ -130,12 +130,12 @@ fn the_program_prints_document_01s_text() {
     let sides = [Settings { width: 65, ..frame }, Settings { levels: 65, ..frame }, Settings { guides: 65, ..frame }];
     for settings in sides {
         let plane = vec![0; settings.pixels()];
-        let file = write(&settings, &plane, &plane, &[], usize::MAX).unwrap();
+        let file = write(&settings.asked(), &plane, &plane, &[], usize::MAX).unwrap();
         assert_eq!(printed(&file), "refused 12\n");
     }
     let tall = Settings { height: 65, ..frame };
     let plane = vec![0; tall.pixels()];
-    let file = write(&tall, &plane, &plane, &[], usize::MAX).unwrap();
+    let file = write(&tall.asked(), &plane, &plane, &[], usize::MAX).unwrap();
     assert!(printed(&file).starts_with("3 65\n0 0 0\n"));
 }
 
@@ -144,7 +144,7 @@ fn accepted(change: impl Fn(&mut Settings)) -> Result<(), u8> {
     let mut settings = frame_a().settings;
     change(&mut settings);
     let plane = vec![0; settings.pixels()];
-    let file = write(&settings, &plane, &plane, &[], usize::MAX).map_err(|refusal| refusal.number)?;
+    let file = write(&settings.asked(), &plane, &plane, &[], usize::MAX).map_err(|refusal| refusal.number)?;
     open(&file).map(drop).map_err(|refusal| refusal.number)
 }
 
@@ -158,10 +158,31 @@ fn edges_of_the_settings() {
     assert_eq!(accepted(|s| s.smoothing = 65_026), Err(4));
 }
 
+/// A's numbers with one that the trailer could not hold.
+fn refused_wide(change: impl Fn(&mut Asked)) -> Option<u8> {
+    let a = frame_a();
+    let mut asked = a.settings.asked();
+    change(&mut asked);
+    write(&asked, &a.values, &a.guides, &[], usize::MAX).err().map(|refusal| refusal.number)
+}
+
+#[test]
+fn no_number_is_cut_down() {
+    assert_eq!(refused_wide(|_| ()), None);
+    assert_eq!(refused_wide(|a| a.width += 65_536), Some(2));
+    assert_eq!(refused_wide(|a| a.height = u32::MAX), Some(2));
+    assert_eq!(refused_wide(|a| a.levels += 65_536), Some(3));
+    assert_eq!(refused_wide(|a| a.guides += 65_536), Some(3));
+    assert_eq!(refused_wide(|a| a.kind += 256), Some(4));
+    assert_eq!(refused_wide(|a| a.smoothing += 65_536), Some(4));
+    assert_eq!(refused_wide(|a| (a.kind, a.smoothing) = (1, 65_536)), Some(4));
+    assert_eq!(refused_wide(|a| a.radius += 256), Some(5));
+}
+
 #[test]
 fn edge_of_a_weight() {
     let c = frame_c(1);
-    let with = |weight| write(&c.settings, &c.values, &c.guides, &[1, 1, weight, 1], usize::MAX);
+    let with = |weight| write(&c.settings.asked(), &c.values, &c.guides, &[1, 1, weight, 1], usize::MAX);
     assert!(with(256).is_ok());
     assert_eq!(with(257), Err(Refusal::contents(12)));
     let mut file = with(256).unwrap();
@@ -197,6 +218,7 @@ fn calls_refuse_in_order() {
     assert_eq!(refused(1, (2, 0), &[0, 0]), Ok(()));
     assert_eq!(refused(0, (3, 0), &long), Err(8));
     assert_eq!(refused(4, (0, 0), &[]), Err(8));
+    assert_eq!(refused(257, (3, 0), &[]), Err(8));
     assert_eq!(refused(1, (3, 0), &long), Err(9));
     assert_eq!(refused(1, (0, 1), &[]), Err(9));
     assert_eq!(refused(1, (0, 0), &long), Err(10));
@@ -209,6 +231,7 @@ fn calls_refuse_in_order() {
         [1, 3, 3]
     );
     assert_eq!(calls::balance(&file, (0, 0), 8), Err(Refusal::of(9)));
+    assert_eq!(calls::balance(&file, (0, 0), 65_537), Err(Refusal::of(9)));
     assert_eq!(calls::balance(&file, (1, 0), 3), Ok(21 + 9 - 21));
 }
 
@@ -253,7 +276,7 @@ fn a_written_frame_opens_as_it_was() {
     let mut random = Random::new(6);
     for _ in 0..300 {
         let frame = open(&accepted_file(&mut random, 6)).unwrap();
-        let file = write(&frame.settings, &frame.values, &frame.guides, &frame.table, usize::MAX).unwrap();
+        let file = write(&frame.settings.asked(), &frame.values, &frame.guides, &frame.table, usize::MAX).unwrap();
         assert_eq!(open(&file), Ok(frame));
     }
 }

@@ -33,7 +33,7 @@ impl Walked {
 }
 
 /// Checks 1 to 8.
-fn open_for(file: &[u8], way: u8) -> Result<(Frame, Way), Refusal> {
+fn open_for(file: &[u8], way: u32) -> Result<(Frame, Way), Refusal> {
     let frame = open(file)?;
     let way = Way::serving(way, frame.settings.kind).ok_or(Refusal::of(8))?;
     Ok((frame, way))
@@ -48,7 +48,7 @@ fn check_lengths(frame: &Frame, way: Way, answers: usize, lent: &Lengths) -> Res
 /// A walk with buffers of the lengths `lent`: checks 1 to 11.
 pub fn walk(
     file: &[u8],
-    way: u8,
+    way: u32,
     (column, row): (usize, usize),
     moves: &[u8],
     lent: &Lengths,
@@ -63,7 +63,7 @@ pub fn walk(
 }
 
 /// The filter with buffers of the lengths `lent`: checks 1 to 8 and 11.
-pub fn filter(file: &[u8], way: u8, lent: &Lengths) -> Result<Walked, Refusal> {
+pub fn filter(file: &[u8], way: u32, lent: &Lengths) -> Result<Walked, Refusal> {
     let (frame, way) = open_for(file, way)?;
     check_lengths(&frame, way, frame.settings.pixels(), lent)?;
     let (plane, walk) = walk::filter(&frame);
@@ -71,8 +71,8 @@ pub fn filter(file: &[u8], way: u8, lent: &Lengths) -> Result<Walked, Refusal> {
 }
 
 /// The balance at a level of the window at a pixel: checks 1 to 7 and 9.
-pub fn balance(file: &[u8], (column, row): (usize, usize), level: u16) -> Result<i64, Refusal> {
+pub fn balance(file: &[u8], (column, row): (usize, usize), level: u32) -> Result<i64, Refusal> {
     let frame = open(file)?;
-    check(9, !frame.has(column, row) || level >= frame.settings.levels)?;
-    Ok(Window::at(&frame, column, row).balance(level))
+    check(9, !frame.has(column, row) || level >= u32::from(frame.settings.levels))?;
+    Ok(Window::at(&frame, column, row).balance(level as u16))
 }

@@ -39,20 +39,54 @@ impl Settings {
         usize::from(self.guides) * usize::from(self.guides)
     }
 
-    /// Checks 2 to 5: the limits.
-    pub fn check(&self) -> Result<(), Refusal> {
+    /// The settings as a caller of the writer would give them.
+    pub fn asked(&self) -> Asked {
+        Asked {
+            width: self.width.into(),
+            height: self.height.into(),
+            levels: self.levels.into(),
+            guides: self.guides.into(),
+            kind: self.kind.into(),
+            radius: self.radius.into(),
+            smoothing: self.smoothing.into(),
+        }
+    }
+}
+
+/// The same numbers as a caller gives them to the writer: of any size, so that none is cut down before
+/// it is checked.
+#[derive(Clone, Copy, Debug, PartialEq, Eq)]
+pub struct Asked {
+    pub width: u32,
+    pub height: u32,
+    pub levels: u32,
+    pub guides: u32,
+    pub kind: u32,
+    pub radius: u32,
+    pub smoothing: u32,
+}
+
+impl Asked {
+    /// Checks 2 to 5, the limits; what they leave fits the trailer.
+    pub fn settings(&self) -> Result<Settings, Refusal> {
         let side = 1..=1024;
         let sides = side.contains(&self.width) && side.contains(&self.height);
-        check(2, !sides || self.pixels() > 262_144)?;
+        check(2, !sides || self.width * self.height > 262_144)?;
         let counts = (2..=1024).contains(&self.levels) && (2..=256).contains(&self.guides);
         check(3, !counts)?;
-        let smoothing = match self.kind {
-            KIND_TABLE => self.smoothing == 0,
-            KIND_GUIDED => (1..=65_025).contains(&self.smoothing),
-            _ => false,
-        };
-        check(4, !smoothing)?;
-        check(5, self.radius > 15)
+        let table = self.kind == u32::from(KIND_TABLE) && self.smoothing == 0;
+        let guided = self.kind == u32::from(KIND_GUIDED) && (1..=65_025).contains(&self.smoothing);
+        check(4, !(table || guided))?;
+        check(5, self.radius > 15)?;
+        Ok(Settings {
+            width: self.width as u16,
+            height: self.height as u16,
+            levels: self.levels as u16,
+            guides: self.guides as u16,
+            kind: self.kind as u8,
+            radius: self.radius as u8,
+            smoothing: self.smoothing as u16,
+        })
     }
 }
 
@@ -169,8 +203,7 @@ fn part_of(file: &[u8], place: usize, numbers: usize, most: u16) -> Result<Vec<u
 /// Checks 1 to 6: the settings, and where the parts begin.
 pub fn locate(file: &[u8]) -> Result<(Settings, Places), Refusal> {
     let trailer = trailer_of(file)?;
-    let settings = settings_of(trailer);
-    settings.check()?;
+    let settings = settings_of(trailer).asked().settings()?;
     let places = places_of(file.len() - TRAILER, trailer, &settings)?;
     Ok((settings, places))
 }

@@ -20,12 +20,12 @@ impl Way {
     pub const ALL: [Way; 3] = [Way::Joint, Way::Columns, Way::Chain];
 
     /// The way of that number, if it serves the kind.
-    pub fn serving(number: u8, kind: u8) -> Option<Way> {
+    pub fn serving(number: u32, kind: u8) -> Option<Way> {
         Way::ALL.into_iter().find(|way| way.number() == number && way.serves(kind))
     }
 
     /// Document 01's number of the way.
-    pub fn number(self) -> u8 {
+    pub fn number(self) -> u32 {
         match self {
             Way::Joint => 1,
             Way::Columns => 2,

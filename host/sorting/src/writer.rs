@@ -1,6 +1,6 @@
 //! The writer: value plane, guide plane, table, trailer, without gaps.
 
-use crate::frame::{bytes_of, trailer_bytes, Settings, KIND_TABLE, WEIGHT_MOST};
+use crate::frame::{bytes_of, trailer_bytes, Asked, Settings, KIND_TABLE, WEIGHT_MOST};
 use crate::refusal::{check, Refusal};
 
 /// Check 6: the lengths of the planes and the table.
@@ -19,21 +19,15 @@ fn check_contents(part: &[u16], most: u16, place: usize) -> Result<(), Refusal> 
 }
 
 /// Writes a frame for an output of `lent` bytes: checks 2 to 7 and 11, then the file's bytes.
-pub fn write(
-    settings: &Settings,
-    values: &[u16],
-    guides: &[u16],
-    table: &[u16],
-    lent: usize,
-) -> Result<Vec<u8>, Refusal> {
-    settings.check()?;
-    check_parts(settings, values, guides, table)?;
+pub fn write(asked: &Asked, values: &[u16], guides: &[u16], table: &[u16], lent: usize) -> Result<Vec<u8>, Refusal> {
+    let settings = asked.settings()?;
+    check_parts(&settings, values, guides, table)?;
     check_contents(values, settings.levels - 1, 0)?;
     check_contents(guides, settings.guides - 1, 2 * values.len())?;
     check_contents(table, WEIGHT_MOST, 4 * values.len())?;
     let mut file = bytes_of(&[values, guides, table].concat());
     let (all, plane) = (file.len(), 2 * values.len());
-    file.extend(trailer_bytes(settings, [all, all - plane, all - 2 * plane]));
+    file.extend(trailer_bytes(&settings, [all, all - plane, all - 2 * plane]));
     check(11, lent < file.len())?;
     Ok(file)
 }

@@ -57,14 +57,28 @@ pub fn in_stores(lent: &mut Lent, walked: &Walked) {
     }
 }
 
-/// Mistakes in the results beside the buffers.
-pub fn in_results(status: u32, cut: &mut u16, balance_box: &mut [i16; BOX_CELLS]) {
+/// Mistakes in a walk's results beside the buffers.
+pub fn in_results(walked: &mut Walked) {
     match CHOSEN.as_str() {
-        "cut" => *cut ^= 1,
-        "box" => balance_box[BOX_CELLS - 1] += 1,
-        "refusal_result" if status != 0 => *cut = 1,
+        "cut" => walked.cut ^= 1,
+        "box" => walked.balance_box[BOX_CELLS - 1] += 1,
         _ => {}
     }
+}
+
+/// A result that is set although the call refuses, or an offset although the number is not 7.
+pub fn set_on_refusal<T>(result: &mut T, value: T, name: &str) {
+    if makes(name) {
+        *result = value;
+    }
+}
+
+/// A number, cut to its low bits by the mistake of that name.
+pub fn narrowed(number: u32, bits: u32, name: &str) -> u32 {
+    if makes(name) {
+        return number & ((1 << bits) - 1);
+    }
+    number
 }
 
 /// A file refused only because its planes overlap.

@@ -4,13 +4,13 @@
 
 mod fault;
 
-use fault::makes;
+use fault::{makes, narrowed, set_on_refusal};
 use sorting_filter::calls::{self, Walked};
-use sorting_filter::frame::{open, Settings};
+use sorting_filter::frame::{open, Asked};
 use sorting_filter::refusal::Refusal;
 use sorting_filter::store::{ChainEntry, Lengths, Stores, BOX_CELLS};
 use sorting_filter::writer;
-use std::slice;
+use std::{ptr, slice};
 
 /// The stores and the answer buffer that a call lends.
 struct Lent<'a> {
@@ -62,24 +62,39 @@ fn chain_numbers(entries: &[ChainEntry]) -> Vec<u32> {
     numbers
 }
 
-/// The status and offset of a result, and its value if there is one.
-fn report<T>(result: Result<T, Refusal>, offset: &mut u64) -> (u32, Option<T>) {
-    *offset = 0;
-    match result {
-        Ok(value) => (0, Some(value)),
-        Err(refusal) => {
-            let wrong = if makes("offset") { 2 } else { 0 };
-            *offset = if refusal.number == 7 { refusal.offset as u64 + wrong } else { 0 };
-            (u32::from(refusal.number), None)
-        }
+/// The offset of number 7, and the status of any refusal.
+fn report<T>(result: Result<T, Refusal>, offset: &mut u64) -> Result<T, u32> {
+    match &result {
+        Err(Refusal { number: 7, offset: place }) => *offset = *place as u64 + if makes("offset") { 2 } else { 0 },
+        Err(_) => set_on_refusal(offset, 0, "refusal_offset"),
+        Ok(_) if makes("success_offset") => *offset = 0,
+        Ok(_) => {}
+    }
+    result.map_err(|refusal| refusal.number.into())
+}
+
+/// Gives a result to the caller, unless the mistake `left` is asked for.
+fn give<T>(result: &mut T, value: T, left: &str) {
+    if !makes(left) {
+        *result = value;
     }
 }
 
+/// A pointer may be NULL where its length is 0.
 unsafe fn read<'a, T>(pointer: *const T, length: usize) -> &'a [T] {
+    if length == 0 && !(makes("null_read") && pointer.is_null()) {
+        return &[];
+    }
+    // As a library might that looks before it counts.
+    ptr::read_volatile(pointer);
     slice::from_raw_parts(pointer, length)
 }
 
 unsafe fn lend<'a, T>(pointer: *mut T, length: usize) -> &'a mut [T] {
+    if length == 0 && !(makes("null_lent") && pointer.is_null()) {
+        return &mut [];
+    }
+    ptr::read_volatile(pointer);
     slice::from_raw_parts_mut(pointer, length)
 }
 
@@ -89,7 +104,7 @@ unsafe fn lend<'a, T>(pointer: *mut T, length: usize) -> &'a mut [T] {
 pub unsafe extern "C" fn icemedian_check(file: *const u8, file_length: usize, offset: &mut u64) -> u32 {
     let file = read(file, file_length);
     let result = if fault::refuses(file) { Err(Refusal::of(6)) } else { open(file).map(drop) };
-    report(result, offset).0
+    report(result, offset).err().unwrap_or(0)
 }
 
 /// # Safety
@@ -98,7 +113,7 @@ pub unsafe extern "C" fn icemedian_check(file: *const u8, file_length: usize, of
 pub unsafe extern "C" fn icemedian_filter(
     file: *const u8,
     file_length: usize,
-    way: u8,
+    way: u32,
     counts: *mut u16,
     counts_length: usize,
     words: *mut u64,
@@ -116,8 +131,8 @@ pub unsafe extern "C" fn icemedian_filter(
         numbers: lend(numbers, numbers_length),
         answers: lend(output, output_length),
     };
-    let result = calls::filter(read(file, file_length), way, &lent.lengths());
-    finish(result, &mut lent, shifts, offset).0
+    let result = calls::filter(read(file, file_length), narrowed(way, 8, "filter_way_cut"), &lent.lengths());
+    finish(result, &mut lent, shifts, offset).err().unwrap_or(0)
 }
 
 /// # Safety
@@ -126,7 +141,7 @@ pub unsafe extern "C" fn icemedian_filter(
 pub unsafe extern "C" fn icemedian_walk(
     file: *const u8,
     file_length: usize,
-    way: u8,
+    way: u32,
     column: usize,
     row: usize,
     moves: *const u8,
@@ -151,31 +166,38 @@ pub unsafe extern "C" fn icemedian_walk(
         answers: lend(answers, answers_length),
     };
     let (file, moves) = (read(file, file_length), read(moves, moves_length));
+    let way = narrowed(way, 8, "walk_way_cut");
     let result = calls::walk(file, way, (column, row), moves, &lent.lengths());
-    let (status, walked) = finish(result, &mut lent, shifts, offset);
-    *cut = walked.as_ref().map_or(0, |walked| walked.cut);
-    *balance_box = walked.as_ref().map_or([0; BOX_CELLS], |walked| walked.balance_box);
-    fault::in_results(status, cut, balance_box);
-    status
+    match finish(result, &mut lent, shifts, offset) {
+        Ok(mut walked) => {
+            fault::in_results(&mut walked);
+            give(cut, walked.cut, "cut_left");
+            give(balance_box, walked.balance_box, "box_left");
+            0
+        }
+        Err(status) => {
+            set_on_refusal(cut, 0, "refusal_cut");
+            set_on_refusal(balance_box, [0; BOX_CELLS], "refusal_box");
+            status
+        }
+    }
 }
 
 /// Fills the buffers and the shift count of a call that walks.
-fn finish(
-    result: Result<Walked, Refusal>,
-    lent: &mut Lent,
-    shifts: &mut u64,
-    offset: &mut u64,
-) -> (u32, Option<Walked>) {
-    let (status, walked) = report(result, offset);
-    *shifts = walked.as_ref().map_or(0, |walked| walked.shifts);
-    match &walked {
-        Some(walked) => lent.put(walked),
-        None => fault::on_refusal(lent),
+fn finish(result: Result<Walked, Refusal>, lent: &mut Lent, shifts: &mut u64, offset: &mut u64) -> Result<Walked, u32> {
+    let result = report(result, offset);
+    match &result {
+        Ok(walked) => {
+            lent.put(walked);
+            let more = u64::from(makes("shifts") && walked.shifts > 0);
+            give(shifts, walked.shifts + more, "shifts_left");
+        }
+        Err(_) => {
+            fault::on_refusal(lent);
+            set_on_refusal(shifts, 0, "refusal_shifts");
+        }
     }
-    if makes("shifts") && *shifts > 0 {
-        *shifts += 1;
-    }
-    (status, walked)
+    result
 }
 
 /// # Safety
@@ -186,29 +208,34 @@ pub unsafe extern "C" fn icemedian_balance(
     file_length: usize,
     column: usize,
     row: usize,
-    level: u16,
+    level: u32,
     balance: &mut i64,
     offset: &mut u64,
 ) -> u32 {
-    let (status, value) = report(calls::balance(read(file, file_length), (column, row), level), offset);
-    *balance = value.unwrap_or(0);
-    if makes("balance") {
-        *balance = -*balance;
+    let level = narrowed(level, 16, "level_cut");
+    match report(calls::balance(read(file, file_length), (column, row), level), offset) {
+        Ok(value) => {
+            give(balance, if makes("balance") { -value } else { value }, "balance_left");
+            0
+        }
+        Err(status) => {
+            set_on_refusal(balance, 0, "refusal_balance");
+            status
+        }
     }
-    status
 }
 
 /// # Safety
 /// As the header says.
 #[no_mangle]
 pub unsafe extern "C" fn icemedian_write(
-    width: u16,
-    height: u16,
-    levels: u16,
-    guides: u16,
-    kind: u8,
-    radius: u8,
-    smoothing: u16,
+    width: u32,
+    height: u32,
+    levels: u32,
+    guides: u32,
+    kind: u32,
+    radius: u32,
+    smoothing: u32,
     values: *const u16,
     values_length: usize,
     guide: *const u16,
@@ -220,15 +247,28 @@ pub unsafe extern "C" fn icemedian_write(
     length: &mut usize,
     offset: &mut u64,
 ) -> u32 {
-    let settings = Settings { width, height, levels, guides, kind, radius, smoothing };
+    let asked = Asked {
+        width: narrowed(width, 16, "width_cut"),
+        height: narrowed(height, 16, "height_cut"),
+        levels: narrowed(levels, 16, "levels_cut"),
+        guides: narrowed(guides, 16, "guides_cut"),
+        kind: narrowed(kind, 8, "kind_cut"),
+        radius: narrowed(radius, 8, "radius_cut"),
+        smoothing: narrowed(smoothing, 16, "smoothing_cut"),
+    };
     let (values, guide) = (read(values, values_length), read(guide, guide_length));
-    let output = lend(output, output_length);
-    let result = writer::write(&settings, values, guide, read(table, table_length), output.len());
-    let (status, file) = report(result, offset);
-    *length = file.as_ref().map_or(0, Vec::len);
-    if let Some(file) = file {
-        front(output, &file);
-        fault::in_file(output, file.len());
+    let (table, output) = (read(table, table_length), lend(output, output_length));
+    match report(writer::write(&asked, values, guide, table, output.len()), offset) {
+        Ok(file) => {
+            front(output, &file);
+            fault::in_file(output, file.len());
+            give(length, file.len(), "length_left");
+            0
+        }
+        Err(status) => {
+            output.first_mut().into_iter().for_each(|byte| set_on_refusal(byte, !*byte, "refusal_output"));
+            set_on_refusal(length, 0, "refusal_length");
+            status
+        }
     }
-    status
 }

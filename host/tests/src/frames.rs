@@ -1,7 +1,7 @@
 //! Accepted frames: walks, filters and balances in every serving way.
 
 use crate::buffers::{compare, Buffers};
-use crate::library::{self, Status, WalkResult};
+use crate::library::{self, Status};
 use crate::overlap;
 use crate::tally::Tally;
 use crate::{same, Check};
@@ -50,7 +50,7 @@ fn test_accepted(random: &mut Random, file: &[u8], tally: &mut Tally) -> Check {
     tally.frames[usize::from(frame.settings.kind == KIND_GUIDED)] += 1;
     count_overlap(file, tally);
     let untouched = file.to_vec();
-    same("check", &library::check(file), &Status { status: 0, offset: 0 })?;
+    same("check", &library::check(file), &Status::ACCEPTED)?;
     for way in Way::ALL.into_iter().filter(|way| way.serves(frame.settings.kind)) {
         let moves = moves(random, &frame.settings, MOVES);
         test_walk(random, file, way, &moves, tally).map_err(|error| format!("walk, {way:?}: {error}"))?;
@@ -105,12 +105,16 @@ fn test_walk_from(
     let mut after = before.clone();
     let result = library::walk(file, way.number(), start, moves, &mut after);
     let expected = calls::walk(file, way.number(), start, moves, &before.lengths());
-    same("result", &result, &WalkResult::of(&expected))?;
+    library::compare_walk("result", result, &expected)?;
     let walked = expected.map_err(|refusal| refusal.to_string())?;
     tally.walks += 1;
     tally.answers += walked.answers.len() as u64;
     tally.marks += walked.answers.iter().filter(|&&answer| answer >= UNKNOWN_MOVE).count() as u64;
-    compare(&before, after, &walked, &needed)
+    compare(&before, after, &walked, &needed)?;
+    if random.once_in(4) {
+        test_wrapper_walk(file, way, start, moves, &walked, &needed)?;
+    }
+    Ok(())
 }
 
 fn count_window(window: &Window, tally: &mut Tally) {
@@ -125,24 +129,44 @@ fn test_filter(random: &mut Random, file: &[u8], frame: &Frame, way: Way, tally:
     let mut after = before.clone();
     let result = library::filter(file, way.number(), &mut after);
     let expected = calls::filter(file, way.number(), &before.lengths());
+    library::compare_filter("result", result, &expected)?;
     let walked = expected.map_err(|refusal| refusal.to_string())?;
-    same("result", &result, &(Status { status: 0, offset: 0 }, walked.shifts))?;
     tally.filters += 1;
     tally.answers += walked.answers.len() as u64;
     if random.once_in(4) {
-        test_wrapper(file, way, &walked)?;
+        test_wrapper_filter(file, way, &walked)?;
     }
     compare(&before, after, &walked, &needed)
 }
 
-/// The Rust wrapper computes buffer lengths of its own.
-fn test_wrapper(file: &[u8], way: Way, expected: &calls::Walked) -> Check {
-    let way = match way {
+fn wrapper_way(way: Way) -> icemedian::Way {
+    match way {
         Way::Joint => icemedian::Way::Joint,
         Way::Columns => icemedian::Way::Columns,
         Way::Chain => icemedian::Way::Chain,
-    };
-    let filtered = icemedian::filter(file, way).map_err(|refusal| refusal.to_string())?;
+    }
+}
+
+/// The Rust wrapper computes buffer lengths of its own, and hands out the stores of the last window.
+fn test_wrapper_walk(
+    file: &[u8],
+    way: Way,
+    start: (usize, usize),
+    moves: &[u8],
+    expected: &calls::Walked,
+    needed: &Lengths,
+) -> Check {
+    let walked = icemedian::walk(file, wrapper_way(way), start, moves).map_err(|refusal| refusal.to_string())?;
+    let icemedian::Stores { counts, words, numbers } = walked.stores;
+    let after = Buffers { counts, words, numbers, answers: walked.answers };
+    same("wrapper's lengths", &after.lengths(), needed)?;
+    compare(&after.clone(), after, expected, needed).map_err(|error| format!("wrapper's {error}"))?;
+    let end = (expected.shifts, expected.cut, expected.balance_box);
+    same("wrapper's end", &(walked.end.shifts, walked.end.cut, walked.end.balance_box), &end)
+}
+
+fn test_wrapper_filter(file: &[u8], way: Way, expected: &calls::Walked) -> Check {
+    let filtered = icemedian::filter(file, wrapper_way(way)).map_err(|refusal| refusal.to_string())?;
     same("wrapper's levels", &filtered.levels, &expected.answers)?;
     same("wrapper's shifts", &filtered.shifts, &expected.shifts)
 }
@@ -153,7 +177,7 @@ fn test_balance(random: &mut Random, file: &[u8], frame: &Frame, tally: &mut Tal
     let all = k.pixels() * usize::from(k.levels);
     let tries: Vec<usize> = if all <= 200 { (0..all).collect() } else { (0..6).map(|_| random.below(all)).collect() };
     for index in tries {
-        let (pixel, level) = (index / usize::from(k.levels), (index % usize::from(k.levels)) as u16);
+        let (pixel, level) = (index / usize::from(k.levels), (index % usize::from(k.levels)) as u32);
         let place = (pixel % usize::from(k.width), pixel / usize::from(k.width));
         let expected = calls::balance(file, place, level);
         library::compare_balance("balance", library::balance(file, place, level), &expected)?;

@@ -11,6 +11,7 @@ mod overlap;
 mod program;
 mod refusals;
 mod tally;
+mod wide;
 mod writing;
 
 use sorting_filter::random::Random;
@@ -74,6 +75,8 @@ fn run(options: &Options) -> Result<Tally, String> {
             break;
         }
     }
+    let wide = wide::test(&mut Random::new(options.seed), &mut tally);
+    failures.extend(wide.err().map(|message| format!("wide numbers: {message}")));
     let listed = frames::test_listed(&mut Random::new(options.seed), &mut tally);
     failures.extend(listed.err().map(|message| format!("listed: {message}")));
     let overlapping = frames::test_overlapping(&mut Random::new(options.seed), &mut tally);

@@ -35,6 +35,8 @@ fn output_of(path: &str, feed: impl FnOnce(ChildStdin) + Send) -> Result<String,
     if !ended || output.status.code().is_none() {
         return Err(format!("{path} did not end by itself"));
     }
+    // There is no other status: a refusal is told by the first word printed.
+    same("the program's exit status", &output.status.code(), &Some(0))?;
     String::from_utf8(output.stdout).map_err(|_| format!("{path} printed bytes that are no text"))
 }
 

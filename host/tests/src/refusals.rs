@@ -1,7 +1,7 @@
-//! Refused calls: the number, the offset, and that no buffer is touched.
+//! Refused calls: the number, the offset, and that no buffer and no result is touched.
 
 use crate::buffers::{compare_all, roomy, Buffers};
-use crate::library::{self, Status, WalkResult};
+use crate::library::{self, Status};
 use crate::tally::Tally;
 use crate::{same, Check};
 use sorting_filter::calls::{self, MOVES_MOST};
@@ -12,7 +12,7 @@ use sorting_filter::store::{Lengths, Way};
 
 /// The arguments of a walk, some of them wrong.
 struct Attempt {
-    way: u8,
+    way: u32,
     start: (usize, usize),
     moves: Vec<u8>,
     lengths: Lengths,
@@ -33,7 +33,8 @@ impl Attempt {
         match number {
             8 => {
                 let other_kind = if frame.settings.kind == 1 { random.pick(&[2, 3]) } else { 4 };
-                self.way = random.pick(&[0, 4, 255, other_kind]);
+                let wide = self.way | random.pick(&[1 << 8, 1 << 16, 1 << 24, 1 << 31]);
+                self.way = random.pick(&[0, 4, 255, other_kind, wide, u32::MAX]);
             }
             9 if random.once_in(2) => self.start.0 = outside(random, frame.settings.width),
             9 => self.start.1 = outside(random, frame.settings.height),
@@ -105,9 +106,22 @@ pub fn test_damaged(random: &mut Random, file: &[u8], tally: &mut Tally) -> Chec
     }
     damage(random, &mut damaged, number);
     same("check of a damaged file", &library::check(&damaged), &Status::of(&open(&damaged)))?;
+    test_wrapper(&damaged, number)?;
     try_walk(random, &damaged, &attempt, number, tally)?;
     try_filter(random, &damaged, &attempt, tally)?;
     try_balance(&damaged, attempt.start, 0, tally)
+}
+
+/// The Rust wrapper gives the number, and for 6 a part whose distance is outside.
+fn test_wrapper(damaged: &[u8], number: u8) -> Check {
+    let refusal = icemedian::check(damaged).err();
+    same("the wrapper's number", &refusal.map(|refusal| refusal.number()), &Some(u32::from(number)))?;
+    match refusal {
+        Some(icemedian::Refusal::Distance { distance, least, most, .. }) => {
+            same("a distance within", &(least..=most).contains(&(distance as usize)), &false)
+        }
+        _ => Ok(()),
+    }
 }
 
 fn try_walk(random: &mut Random, file: &[u8], attempt: &Attempt, number: u8, tally: &mut Tally) -> Check {
@@ -116,7 +130,7 @@ fn try_walk(random: &mut Random, file: &[u8], attempt: &Attempt, number: u8, tal
     let result = library::walk(file, attempt.way, attempt.start, &attempt.moves, &mut after);
     let expected = calls::walk(file, attempt.way, attempt.start, &attempt.moves, &attempt.lengths);
     same("the number meant to fire", &expected.as_ref().err().map(|refusal| refusal.number), &Some(number))?;
-    same("refused walk", &result, &WalkResult::of(&expected))?;
+    library::compare_walk("refused walk", result, &expected)?;
     count(&expected, tally);
     compare_all(&after, &before).map_err(|error| format!("refused walk: {error}"))
 }
@@ -130,7 +144,7 @@ fn try_filter(random: &mut Random, file: &[u8], attempt: &Attempt, tally: &mut T
     let before = Buffers::poisoned(random, &attempt.lengths);
     let mut after = before.clone();
     let result = library::filter(file, attempt.way, &mut after);
-    same("refused filter", &result, &(Status::of(&expected), 0))?;
+    library::compare_filter("refused filter", result, &expected)?;
     count(&expected, tally);
     compare_all(&after, &before).map_err(|error| format!("refused filter: {error}"))
 }
@@ -138,13 +152,13 @@ fn try_filter(random: &mut Random, file: &[u8], attempt: &Attempt, tally: &mut T
 /// Balance calls with a column, row or level outside.
 fn test_balance_places(random: &mut Random, file: &[u8], frame: &Frame, tally: &mut Tally) -> Check {
     let (column, row) = start(random, &frame.settings);
-    let level = frame.settings.levels;
+    let level = u32::from(frame.settings.levels);
     try_balance(file, (outside(random, frame.settings.width), row), 0, tally)?;
     try_balance(file, (column, outside(random, frame.settings.height)), 0, tally)?;
-    try_balance(file, (column, row), random.pick(&[level, level + 1, 65_535]), tally)
+    try_balance(file, (column, row), random.pick(&[level, level + 1, 65_535, 65_536, 65_535 + level, u32::MAX]), tally)
 }
 
-fn try_balance(file: &[u8], place: (usize, usize), level: u16, tally: &mut Tally) -> Check {
+fn try_balance(file: &[u8], place: (usize, usize), level: u32, tally: &mut Tally) -> Check {
     let expected = calls::balance(file, place, level);
     library::compare_balance("refused balance", library::balance(file, place, level), &expected)?;
     count(&expected, tally);

@@ -29,6 +29,8 @@ pub struct Tally {
     pub written: u64,
     /// Calls refused by each number from 1 to 11; place 0 is not used.
     pub refusals: [u64; 12],
+    /// Calls with chosen numbers wider than a frame's, among the refused.
+    pub wide: u64,
     pub programs: u64,
     /// Inputs with planes that overlap on purpose, among the program's.
     pub overlapping_inputs: u64,
@@ -83,6 +85,7 @@ impl fmt::Display for Tally {
         for (number, count) in self.refusals.iter().enumerate().skip(1) {
             write!(f, " {number}: {count}")?;
         }
+        write!(f, "\nrefused calls with chosen numbers wider than a frame's: {}", self.wide)?;
         write!(
             f,
             "\nprogram runs: {} ({} chosen with planes that overlap, the longest text {} bytes)\nno difference",

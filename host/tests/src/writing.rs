@@ -4,35 +4,41 @@ use crate::library::{self, Status};
 use crate::refusals::count;
 use crate::tally::Tally;
 use crate::{same, Check};
-use sorting_filter::frame::{open, Frame, WEIGHT_MOST};
+use sorting_filter::frame::{open, Asked, Frame, WEIGHT_MOST};
 use sorting_filter::random::Random;
 use sorting_filter::writer;
 
 pub fn test_writer(random: &mut Random, file: &[u8], tally: &mut Tally) -> Check {
     let frame = open(file).map_err(|refusal| refusal.to_string())?;
-    let written = try_write(random, &frame, 0, tally)?.ok_or("the writer refused an accepted frame")?;
+    let asked = frame.settings.asked();
+    let written = try_write(random, &asked, &frame, 0, tally)?.ok_or("the writer refused an accepted frame")?;
     same("the frame read back", &open(&written), &Ok(frame.clone()))?;
-    same("check of a written frame", &library::check(&written), &Status { status: 0, offset: 0 })?;
-    let mut spoilt = frame;
-    spoil(random, &mut spoilt);
+    same("check of a written frame", &library::check(&written), &Status::ACCEPTED)?;
+    let (mut spoilt, mut asked) = (frame, asked);
+    spoil(random, &mut asked, &mut spoilt);
     let missing = if random.once_in(4) { 1 + random.below(30) } else { 0 };
-    try_write(random, &spoilt, missing, tally).map(drop)
+    try_write(random, &asked, &spoilt, missing, tally).map(drop)
 }
 
 /// Writes with an output longer than needed, or `missing` bytes too short; the file if there is one.
-fn try_write(random: &mut Random, frame: &Frame, missing: usize, tally: &mut Tally) -> Result<Option<Vec<u8>>, String> {
-    let Frame { settings, values, guides, table } = frame;
+fn try_write(
+    random: &mut Random,
+    asked: &Asked,
+    frame: &Frame,
+    missing: usize,
+    tally: &mut Tally,
+) -> Result<Option<Vec<u8>>, String> {
+    let Frame { values, guides, table, .. } = frame;
     let needed = 2 * (values.len() + guides.len() + table.len()) + 28;
     let room = if missing > 0 { needed.saturating_sub(missing) } else { needed + 1 + random.below(9) };
     let before = random.bytes(room);
     let mut after = before.clone();
-    let result = library::write(settings, values, guides, table, &mut after);
-    let expected = writer::write(settings, values, guides, table, room);
-    let length = expected.as_ref().map_or(0, Vec::len);
-    same("writer", &result, &(Status::of(&expected), length))?;
+    let result = library::write(asked, values, guides, table, &mut after);
+    let expected = writer::write(asked, values, guides, table, room);
+    library::compare_write("writer", result, &expected)?;
     let mut whole = before;
     if let Ok(file) = &expected {
-        whole[..length].copy_from_slice(file);
+        whole[..file.len()].copy_from_slice(file);
         tally.written += 1;
     }
     if after != whole {
@@ -43,18 +49,19 @@ fn try_write(random: &mut Random, frame: &Frame, missing: usize, tally: &mut Tal
 }
 
 /// One or two mistakes in settings, lengths or contents.
-fn spoil(random: &mut Random, frame: &mut Frame) {
+fn spoil(random: &mut Random, k: &mut Asked, frame: &mut Frame) {
     for _ in 0..1 + random.below(2) {
-        let k = &mut frame.settings;
+        // A bit above the trailer's 16 or 8: cut down, the number would pass.
+        let (above_16, above_8) = (1 << (16 + random.below(16)), 1 << (8 + random.below(24)));
         match random.below(12) {
-            0 => k.width = random.pick(&[0, 1025, k.width + 1]),
-            1 => k.height = random.pick(&[0, 1025, k.height + 1]),
-            2 => (k.width, k.height) = (1024, 257),
-            3 => k.levels = random.pick(&[0, 1, 1025]),
-            4 => k.guides = random.pick(&[0, 1, 257]),
-            5 => k.kind = random.pick(&[0, 3, 255]),
-            6 => k.smoothing = random.pick(&[0, 1, 65_026]),
-            7 => k.radius = random.pick(&[16, 255]),
+            0 => k.width = random.pick(&[0, 1025, k.width + 1, k.width | above_16]),
+            1 => k.height = random.pick(&[0, 1025, k.height + 1, k.height | above_16]),
+            2 => (k.width, k.height) = random.pick(&[(1024, 257), (65_536, 65_536), (1 << 31, 1 << 31)]),
+            3 => k.levels = random.pick(&[0, 1, 1025, k.levels | above_16]),
+            4 => k.guides = random.pick(&[0, 1, 257, k.guides | above_16]),
+            5 => k.kind = random.pick(&[0, 3, 255, k.kind | above_8]),
+            6 => k.smoothing = random.pick(&[0, 1, 65_026, k.smoothing | above_16]),
+            7 => k.radius = random.pick(&[16, 255, k.radius | above_8]),
             8 => lengthen_or_cut(random, &mut frame.values),
             9 => lengthen_or_cut(random, &mut frame.guides),
             10 => lengthen_or_cut(random, &mut frame.table),

@@ -1,0 +1,70 @@
+//! The stores of the ways, and how much room each needs.
+
+use crate::raw::Lent;
+use crate::{Refusal, Settings, Way};
+
+/// The stores that a call counts in. One record may serve many calls; it grows as needed.
+#[derive(Clone, Debug, Default, PartialEq, Eq)]
+pub struct Stores {
+    /// Way 1: pixels per level and guide.
+    pub counts: Vec<u16>,
+    /// Way 1: occupied guides per level, 64 to a word.
+    pub words: Vec<u64>,
+    /// Ways 2 and 3.
+    pub numbers: Vec<u32>,
+}
+
+impl Stores {
+    /// Stores long enough for a way on frames with these settings. Refused as by checks 2 to 5 if no frame
+    /// can have them, and with [`Refusal::Way`] if the way does not serve such frames.
+    ///
+    /// ```
+    /// use icemedian::{Refusal, Settings, Stores, Way, Weights};
+    ///
+    /// let settings = Settings { width: 640, height: 400, levels: 256, guides: 256, ..Settings::default() };
+    /// let stores = Stores::fitting(Way::Columns, &settings)?;
+    /// assert_eq!(stores.numbers.len(), 2 * 641 * 256);
+    /// let endless = Settings { levels: 65_535, ..settings };
+    /// assert_eq!(Stores::fitting(Way::Columns, &endless), Err(Refusal::Counts));
+    /// let table = Settings { weights: Weights::Table, ..settings };
+    /// assert_eq!(Stores::fitting(Way::Columns, &table), Err(Refusal::Way));
+    /// # Ok::<(), Refusal>(())
+    /// ```
+    pub fn fitting(way: Way, settings: &Settings) -> Result<Stores, Refusal> {
+        let mut stores = Stores::default();
+        stores.fit(way, settings)?;
+        Ok(stores)
+    }
+
+    /// Makes the way's stores at least as long as needed; refused as [`Stores::fitting`] is, with the
+    /// stores as they were.
+    pub fn fit(&mut self, way: Way, settings: &Settings) -> Result<(), Refusal> {
+        settings.check()?;
+        if !way.serves(settings.weights) {
+            return Err(Refusal::Way);
+        }
+        let levels = usize::from(settings.levels);
+        let guides = usize::from(settings.guides);
+        let side = 2 * usize::from(settings.radius) + 1;
+        match way {
+            Way::Joint => {
+                lengthen(&mut self.counts, levels * guides);
+                lengthen(&mut self.words, levels * guides.div_ceil(64));
+            }
+            Way::Columns => lengthen(&mut self.numbers, 2 * (usize::from(settings.width) + 1) * levels),
+            Way::Chain => lengthen(&mut self.numbers, 1 + 4 * side * side),
+        }
+        Ok(())
+    }
+
+    /// The stores with an answer buffer, for one call.
+    pub(crate) fn lent<'a>(&'a mut self, answers: &'a mut [u16]) -> Lent<'a> {
+        Lent { counts: &mut self.counts, words: &mut self.words, numbers: &mut self.numbers, answers }
+    }
+}
+
+fn lengthen<T: Clone + Default>(store: &mut Vec<T>, needed: usize) {
+    if store.len() < needed {
+        store.resize(needed, T::default());
+    }
+}

@@ -1,0 +1,168 @@
+/* What the header promises a C program: NULL where a length is 0, numbers that are too wide refused and not
+ * cut down, results left alone by refusals, what is read may overlap, and the macros. It prints each promise
+ * that is not kept. */
+#include "icemedian.h"
+#include <stdio.h>
+#include <string.h>
+
+enum { W = 3, H = 1, PIXELS = W * H, LEVELS = 8, GUIDES = 4, RADIUS = 1, SMOOTHING = 1 };
+enum { COUNTS = LEVELS * GUIDES, WORDS = LEVELS, NUMBERS = 2 * (W + 1) * LEVELS, FILE_BYTES = 40 };
+
+static const uint16_t values[PIXELS] = {5, 1, 3}, guide[PIXELS] = {0, 0, 2};
+static const uint8_t moves[2] = {ICEMEDIAN_RIGHT, ICEMEDIAN_DOWN};
+static uint8_t file[FILE_BYTES];
+static uint16_t counts[COUNTS], levels[PIXELS];
+static uint64_t words[WORDS];
+static uint32_t numbers[NUMBERS];
+static int failures;
+
+/* All results of a call, full of one byte before it. */
+static struct {
+    uint64_t shifts, offset;
+    int64_t balance;
+    size_t length;
+    uint16_t cut;
+    int16_t box[ICEMEDIAN_BOX_LENGTH];
+} result, untouched;
+
+static void expect(const char *what, unsigned long got, unsigned long wanted) {
+    if (got == wanted) return;
+    printf("%s: %lu, expected %lu\n", what, got, wanted);
+    failures++;
+}
+
+/* The status; no result changed by a refusal, and never the offset: none of these calls has number 7. */
+static void expect_status(const char *what, uint32_t got, uint32_t wanted) {
+    expect(what, got, wanted);
+    if (result.offset != untouched.offset || (wanted != 0 && memcmp(&result, &untouched, sizeof result) != 0)) {
+        printf("%s: a result changed\n", what);
+        failures++;
+    }
+    memcpy(&result, &untouched, sizeof result);
+}
+
+/* Calls with buffers of these lengths: NULL where a length is 0. */
+static uint32_t filter(size_t file_length, uint32_t way, size_t c, size_t w, size_t n, size_t output_length) {
+    return icemedian_filter(file_length ? file : NULL, file_length, way, c ? counts : NULL, c, w ? words : NULL, w,
+                            n ? numbers : NULL, n, output_length ? levels : NULL, output_length, &result.shifts,
+                            &result.offset);
+}
+
+static uint32_t walk(size_t file_length, uint32_t way, size_t moves_length, size_t c, size_t w, size_t n,
+                     size_t answers_length) {
+    return icemedian_walk(file_length ? file : NULL, file_length, way, 0, 0, moves_length ? moves : NULL, moves_length,
+                          c ? counts : NULL, c, w ? words : NULL, w, n ? numbers : NULL, n,
+                          answers_length ? levels : NULL, answers_length, &result.shifts, &result.cut, result.box,
+                          &result.offset);
+}
+
+static uint32_t balance(size_t file_length, uint32_t level) {
+    return icemedian_balance(file_length ? file : NULL, file_length, 1, 0, level, &result.balance, &result.offset);
+}
+
+static uint32_t write_parts(size_t values_length, size_t guide_length, size_t output_length) {
+    return icemedian_write(W, H, LEVELS, GUIDES, ICEMEDIAN_GUIDED, RADIUS, SMOOTHING, values_length ? values : NULL,
+                           values_length, guide_length ? guide : NULL, guide_length, NULL, 0,
+                           output_length ? file : NULL, output_length, &result.length, &result.offset);
+}
+
+/* The settings as ints, the way that a C program would have them. */
+static uint32_t write_ints(int width, int height, int level_count, int guide_count, int kind, int radius,
+                           int smoothing) {
+#ifdef __cplusplus
+#define WIDE(number) static_cast<uint32_t>(number)
+#else
+#define WIDE(number) ((uint32_t)(number))
+#endif
+    return icemedian_write(WIDE(width), WIDE(height), WIDE(level_count), WIDE(guide_count), WIDE(kind), WIDE(radius),
+                           WIDE(smoothing), values, PIXELS, guide, PIXELS, NULL, 0, file, FILE_BYTES, &result.length,
+                           &result.offset);
+}
+
+static void test_null(void) {
+    expect_status("check, no file", icemedian_check(NULL, 0, &result.offset), 1);
+    expect_status("filter, no file", filter(0, 1, COUNTS, WORDS, 0, PIXELS), 1);
+    expect_status("walk, no file", walk(0, 1, 2, COUNTS, WORDS, 0, 3), 1);
+    expect_status("balance, no file", balance(0, 0), 1);
+    expect_status("filter, no counts", filter(FILE_BYTES, 1, 0, WORDS, 0, PIXELS), 11);
+    expect_status("filter, no words", filter(FILE_BYTES, 1, COUNTS, 0, 0, PIXELS), 11);
+    expect_status("filter, no numbers", filter(FILE_BYTES, 2, 0, 0, 0, PIXELS), 11);
+    expect_status("filter, no output", filter(FILE_BYTES, 1, COUNTS, WORDS, 0, 0), 11);
+    expect_status("filter, no store that way 1 needs not", filter(FILE_BYTES, 1, COUNTS, WORDS, 0, PIXELS), 0);
+    expect_status("filter, no store that way 2 needs not", filter(FILE_BYTES, 2, 0, 0, NUMBERS, PIXELS), 0);
+    expect_status("filter, no store that way 3 needs not", filter(FILE_BYTES, 3, 0, 0, NUMBERS, PIXELS), 0);
+    expect_status("walk, no counts", walk(FILE_BYTES, 1, 2, 0, WORDS, 0, 3), 11);
+    expect_status("walk, no words", walk(FILE_BYTES, 1, 2, COUNTS, 0, 0, 3), 11);
+    expect_status("walk, no numbers", walk(FILE_BYTES, 3, 2, 0, 0, 0, 3), 11);
+    expect_status("walk, no answers", walk(FILE_BYTES, 1, 2, COUNTS, WORDS, 0, 0), 11);
+    expect_status("walk, no moves and no answers", walk(FILE_BYTES, 1, 0, COUNTS, WORDS, 0, 0), 11);
+    expect_status("walk, no moves", walk(FILE_BYTES, 1, 0, COUNTS, WORDS, 0, 1), 0);
+    expect("its answer", levels[0], 1);
+    expect_status("write, no values", write_parts(0, PIXELS, FILE_BYTES), 6);
+    expect_status("write, no guide", write_parts(PIXELS, 0, FILE_BYTES), 6);
+    expect_status("write, no output", write_parts(PIXELS, PIXELS, 0), 11);
+    expect_status("write, no parts and no output", write_parts(0, 0, 0), 6);
+}
+
+static void test_overlap(void) {
+    static const uint16_t shared[4] = {1, 0, 1, 1};
+    uint8_t output[ICEMEDIAN_FILE_LENGTH(2, 2, 4)];
+    uint32_t status = icemedian_write(2, 2, 2, 2, ICEMEDIAN_TABLE, RADIUS, 0, shared, 4, shared, 4, shared, 4, output,
+                                      sizeof output, &result.length, &result.offset);
+    expect_status("write, one plane for all parts", status, 0);
+    expect_status("check of it", icemedian_check(output, sizeof output, &result.offset), 0);
+    /* The file's first bytes are 0, right, and 5, no move. */
+    status = icemedian_walk(file, FILE_BYTES, ICEMEDIAN_JOINT, 0, 0, file, 2, counts, COUNTS, words, WORDS, NULL, 0, levels,
+                            PIXELS, &result.shifts, &result.cut, result.box, &result.offset);
+    expect_status("walk, moves within the file", status, 0);
+    expect("its second answer", levels[1], 3);
+    expect("its third answer", levels[2], ICEMEDIAN_UNKNOWN_MOVE);
+}
+
+static void test_wide(void) {
+    expect_status("filter, way 257", filter(FILE_BYTES, 257, COUNTS, WORDS, NUMBERS, PIXELS), 8);
+    expect_status("walk, way 257", walk(FILE_BYTES, 257, 2, COUNTS, WORDS, NUMBERS, 3), 8);
+    expect_status("balance, level 65537", balance(FILE_BYTES, 65537), 9);
+    expect_status("write, width 65539", write_ints(65539, H, LEVELS, GUIDES, 2, RADIUS, SMOOTHING), 2);
+    expect_status("write, width -1", write_ints(-1, H, LEVELS, GUIDES, 2, RADIUS, SMOOTHING), 2);
+    expect_status("write, height 65537", write_ints(W, 65537, LEVELS, GUIDES, 2, RADIUS, SMOOTHING), 2);
+    expect_status("write, levels 65544", write_ints(W, H, 65544, GUIDES, 2, RADIUS, SMOOTHING), 3);
+    expect_status("write, guides 65540", write_ints(W, H, LEVELS, 65540, 2, RADIUS, SMOOTHING), 3);
+    expect_status("write, kind 258", write_ints(W, H, LEVELS, GUIDES, 258, RADIUS, SMOOTHING), 4);
+    expect_status("write, smoothing 65537", write_ints(W, H, LEVELS, GUIDES, 2, RADIUS, 65537), 4);
+    expect_status("write, kind 1, smoothing 65536", write_ints(W, H, LEVELS, GUIDES, 1, RADIUS, 65536), 4);
+    expect_status("write, radius 257", write_ints(W, H, LEVELS, GUIDES, 2, 257, SMOOTHING), 5);
+}
+
+static void test_macros(void) {
+    expect("version, major", ICEMEDIAN_VERSION_MAJOR, 0);
+    expect("version, minor", ICEMEDIAN_VERSION_MINOR, 2);
+    expect("width", ICEMEDIAN_WIDTH(file, FILE_BYTES), W);
+    expect("height", ICEMEDIAN_HEIGHT(file, FILE_BYTES), H);
+    expect("levels", ICEMEDIAN_LEVELS(file, FILE_BYTES), LEVELS);
+    expect("guides", ICEMEDIAN_GUIDES(file, FILE_BYTES), GUIDES);
+    expect("kind", ICEMEDIAN_KIND(file, FILE_BYTES), ICEMEDIAN_GUIDED);
+    expect("radius", ICEMEDIAN_RADIUS(file, FILE_BYTES), RADIUS);
+    expect("smoothing", ICEMEDIAN_SMOOTHING(file, FILE_BYTES), SMOOTHING);
+    expect("counts", ICEMEDIAN_COUNTS_LENGTH(LEVELS, 65), LEVELS * 65);
+    expect("words", ICEMEDIAN_WORDS_LENGTH(LEVELS, 65), LEVELS * 2);
+    expect("columns", ICEMEDIAN_COLUMNS_LENGTH(W, LEVELS), NUMBERS);
+    expect("chain", ICEMEDIAN_CHAIN_LENGTH(RADIUS), 1 + 4 * 9);
+    expect("answers", ICEMEDIAN_ANSWERS_LENGTH(2), 3);
+    expect("output", ICEMEDIAN_OUTPUT_LENGTH(W, H), PIXELS);
+    expect("file", ICEMEDIAN_FILE_LENGTH(W, H, 0), FILE_BYTES);
+    expect("file with a table", ICEMEDIAN_FILE_LENGTH(W, H, 16), FILE_BYTES + 32);
+}
+
+int main(void) {
+    memset(&untouched, 0xA5, sizeof untouched);
+    memcpy(&result, &untouched, sizeof result);
+    expect_status("write, built-in weights", write_ints(W, H, LEVELS, GUIDES, ICEMEDIAN_TABLE, RADIUS, 0), 0);
+    expect_status("write", write_parts(PIXELS, PIXELS, FILE_BYTES), 0);
+    expect_status("check", icemedian_check(file, FILE_BYTES, &result.offset), 0);
+    test_null();
+    test_overlap();
+    test_wide();
+    test_macros();
+    return failures != 0;
+}
