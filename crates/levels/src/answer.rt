@@ -55,8 +55,8 @@ fn arrive_at(f: Found) -> Arrival
     }
 }
 
-// From the window's sums a, and the tally of the levels up to the cut point in the window that the step d came from. Only a monotone window needs the tally,
-// so it is carried over the step there alone; the others, which are many, are searched from level 0.
+// From the window's sums a, and the tally of the levels up to the cut point in the window that the step d came from. Only a monotone window needs the
+// tally, so it is carried over the step there alone; the others, which are many, are searched from level 0.
 pub fn answer(
     file: &[u8],
     z: Plan,
