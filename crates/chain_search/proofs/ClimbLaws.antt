@@ -2,19 +2,19 @@
 -- Assumes nothing.
 use mathlib.Core.Path.{_≡_, refl, sym, ap, ap₂, _∙_}
 use mathlib.Core.Logic.{⊎-elim}
-use mathlib.Core.Bool.{Bool, true, false}
+use mathlib.Core.Bool.{Bool, true, false, true≢false}
 use mathlib.Core.List.{List, [], _∷_}
 use Prim.Native.Nat.{ℕ, zero, suc, _+_, _-_, _*_, _≤_, _<_}
 use native.Mathlib.Omega.{arith}
-use lib.ListN.{length}
+use lib.ListN.{length, getD}
 use lib.IntN.{ℤ, pos, _+ℤ_, _*ℤ_}
 use lib.Signed.{_<ℤ_, leZ}
 use Rattle.ints.specs.Auto.{quote, ring! }
+use Rattle.spec.specs.Base.{first}
 use Rattle.spec.specs.Frame.{Frame, guide}
 use Rattle.spec.specs.Window.{levelSum}
 use Rattle.spec.specs.Median.{totalWeight, cumulative, median}
-use Rattle.spec.specs.Base.{First}
-use Rattle.spec.proofs.First.{First-unique}
+use Rattle.spec.proofs.First.{first-is, first-unique}
 use Rattle.spec.specs.Weight.{slope, offset}
 use Rattle.spec.proofs.Levels.{cumulative-zero, cumulative-next, level-linear}
 use Rattle.spec.proofs.Totals.{lt-leZ, median-first}
@@ -48,7 +48,7 @@ unfolding ahead
 ahead-zero l m = refl
 
 -- ---- the state at a turn: all before the node cur is summed, and none of it reaches the weight sum
-pub record Climbing (l : ℕ) (m : List ℕ) (a : Climbs l m) (w : Coefficients) (count sum cur : ℕ) : Type 0 where
+pub record Climbing (l : ℕ) (m : List ℕ) (w : Coefficients) (a : Climbs l w m) (count sum cur : ℕ) : Type 0 where
   pub y : ℕ
   pub live : Live (a .cap) m y
   pub next : cur ≡ nextIn m y
@@ -57,8 +57,8 @@ pub record Climbing (l : ℕ) (m : List ℕ) (a : Climbs l m) (w : Coefficients)
   pub short : reach w count sum ≡ false
   pub under : (j : ℕ) → j < floor m y → reachAt (a .cnt) (a .sm) w j ≡ false
 
-module _ (l : ℕ) (m : List ℕ) (a : Climbs l m) (w : Coefficients) where
-  pub climb-start : pos 0 <ℤ w .total → Climbing l m a w 0 0 (nextIn m 0)
+module _ (l : ℕ) (m : List ℕ) (w : Coefficients) (a : Climbs l w m) where
+  pub climb-start : pos 0 <ℤ w .total → Climbing l m w a 0 0 (nextIn m 0)
   climb-start h = record {
     y = 0;
     live = λ p. absurd (omega arith);
@@ -69,7 +69,7 @@ module _ (l : ℕ) (m : List ℕ) (a : Climbs l m) (w : Coefficients) where
     under = λ j q. absurd (omega (arith, floor-zero m));
   }
 
-  module _ (count sum cur : ℕ) (s : Climbing l m a w count sum cur) where
+  module _ (count sum cur : ℕ) (s : Climbing l m w a count sum cur) where
     goes : Successor (a .cap) m (floor m (s .y)) cur
     goes = rw (s .next) (a .chain .shape .next (s .y) (s .live))
 
@@ -96,8 +96,11 @@ module _ (l : ℕ) (m : List ℕ) (a : Climbs l m) (w : Coefficients) where
         (λ h. let f = flat (suc j) (omega arith) (λ w. omega (arith, q w)) in ap₂ (reach w) (f .0) (f .1) ∙ s .short)
         (lt-or-ge j (floor m (s .y)))
 
-    pub climb-end : cur ≡ 0 → First (reachAt (a .cnt) (a .sm) w) l l
-    climb-end e = record { within = omega arith; passes = λ h. absurd (omega arith); before = λ j h. before j (λ w. omega arith) }
+    -- some level reaches it, so the list does not end before one that does
+    pub climb-goes : 0 < cur
+    climb-goes =
+        ⊎-elim (λ e. absurd (true≢false (sym (first-is (reachAt (a .cnt) (a .sm) w) l .passes (a .some)) ∙ before (first (reachAt (a .cnt) (a .sm) w) l) (λ p. absurd (omega arith)))))
+        (λ p. p) (zero-or-pos cur)
 
     pub cur-in : 4 * cur < length m
     cur-in = ⊎-elim (λ e. omega (arith, a .chain .shape .size)) (λ p. omega (arith, goes .is p .to, a .chain .shape .size)) (zero-or-pos cur)
@@ -124,13 +127,16 @@ module _ (l : ℕ) (m : List ℕ) (a : Climbs l m) (w : Coefficients) where
       at-node : (b : Bool) → reach w (count + countIn m cur) (sum + guidesIn m cur) ≡ b → reachAt (a .cnt) (a .sm) w (levelIn m cur) ≡ b
       at-node b e = ap₂ (reach w) (sym count-next) (sym sum-next) ∙ e
 
-      pub climb-here : reach w (count + countIn m cur) (sum + guidesIn m cur) ≡ true → First (reachAt (a .cnt) (a .sm) w) l (levelIn m cur)
-      climb-here e = record { within = omega (arith, cur-level); passes = λ h. at-node true e; before = λ j h. before j (λ w. h) }
+      pub climb-here : reach w (count + countIn m cur) (sum + guidesIn m cur) ≡ true → levelIn m cur ≡ first (reachAt (a .cnt) (a .sm) w) l
+      climb-here e =
+          sym
+          (first-unique (reachAt (a .cnt) (a .sm) w) l (levelIn m cur)
+          (record { within = omega (arith, cur-level); passes = λ h. at-node true e; before = λ j h. before j (λ w. h) }))
 
       above : floor m cur ≡ suc (levelIn m cur)
       above = floor-pos m cur p
 
-      pub climb-next : reach w (count + countIn m cur) (sum + guidesIn m cur) ≡ false → Climbing l m a w (count + countIn m cur) (sum + guidesIn m cur) (nextIn m cur)
+      pub climb-next : reach w (count + countIn m cur) (sum + guidesIn m cur) ≡ false → Climbing l m w a (count + countIn m cur) (sum + guidesIn m cur) (nextIn m cur)
       climb-next e = record {
         y = cur;
         live = λ q. used;
@@ -150,6 +156,71 @@ module _ (l : ℕ) (m : List ℕ) (a : Climbs l m) (w : Coefficients) where
           (λ z. let w : ahead l m (nextIn m cur) ≡ 0 = ap (ahead l m) z ∙ ahead-zero l m in omega (arith, ahead-pos l m cur p, cur-level))
           (λ q. omega (arith, ahead-pos l m cur p, ahead-pos l m (nextIn m cur) q, cur-level, above, a .chain .shape .next cur (λ w. used) .from q))
           (zero-or-pos (nextIn m cur))
+
+  -- the last node: none before it reaches it, so it does
+  pub climb-last : (count sum cur : ℕ) → Climbing l m w a count sum cur → 0 < cur → nextIn m cur ≡ 0 → levelIn m cur ≡ first (reachAt (a .cnt) (a .sm) w) l
+  climb-last count sum cur s p z = go (reach w (count + countIn m cur) (sum + guidesIn m cur)) refl
+    where
+      go : (b : Bool) → reach w (count + countIn m cur) (sum + guidesIn m cur) ≡ b → levelIn m cur ≡ first (reachAt (a .cnt) (a .sm) w) l
+      go true e = climb-here count sum cur s p e
+      go false e = absurd (omega (arith, climb-goes _ _ _ (climb-next count sum cur s p e)))
+
+-- ---- the same at the place of a node, next being the one after it
+pub record AtNode (l : ℕ) (m : List ℕ) (w : Coefficients) (a : Climbs l w m) (count sum at next : ℕ) : Type 0 where
+  pub cur : ℕ
+  pub state : Climbing l m w a count sum cur
+  pub place : at ≡ 4 * cur
+  pub goes : next ≡ nextIn m cur
+
+pub first-in : {l : ℕ} {m : List ℕ} {w : Coefficients} (a : Climbs l w m) → pos 0 <ℤ w .total → 4 * nextIn m 0 < length m
+first-in {l} {m} {w} a h = cur-in l m w a _ _ _ (climb-start l m w a h)
+
+module _ {l : ℕ} {m : List ℕ} {w : Coefficients} {a : Climbs l w m} where
+  pub node-start : pos 0 <ℤ w .total → {at : ℕ} → at ≡ 4 * nextIn m 0 → AtNode l m w a 0 0 at (getD m at 0)
+  node-start h e = record { cur = nextIn m 0; state = climb-start l m w a h; place = e; goes = ap (λ (x : ℕ). getD m x 0) e }
+
+  module _ {count sum at next : ℕ} (s : AtNode l m w a count sum at next) where
+    there : 0 < s .cur
+    there = climb-goes l m w a _ _ _ (s .state)
+
+    pub node-from : 4 ≤ at
+    node-from = omega (arith, s .place, there)
+
+    pub node-in : at < length m
+    node-in = omega (arith, s .place, cur-in l m w a _ _ _ (s .state))
+
+    pub node-count : count + getD m (at - 2) 0 ≤ 961
+    node-count = rw (s .place) (count-small l m w a _ _ _ (s .state) there)
+
+    pub node-sum : sum + getD m (at - 1) 0 ≤ 245055
+    node-sum = rw (s .place) (sum-small l m w a _ _ _ (s .state) there)
+
+    pub node-level : getD m (at - 3) 0 < l
+    node-level = rw (s .place) (cur-level l m w a _ _ _ (s .state) there)
+
+    pub node-last : next ≡ 0 → getD m (at - 3) 0 ≡ first (reachAt (a .cnt) (a .sm) w) l
+    node-last z = rw (s .place) (climb-last l m w a _ _ _ (s .state) there (sym (s .goes) ∙ z))
+
+    module _ {b : Bool} (e : reach w (count + getD m (at - 2) 0) (sum + getD m (at - 1) 0) ≡ b) where
+      tested : reach w (count + countIn m (s .cur)) (sum + guidesIn m (s .cur)) ≡ b
+      tested = rw (s .place) at e
+
+      pub node-here : b ≡ true → getD m (at - 3) 0 ≡ first (reachAt (a .cnt) (a .sm) w) l
+      node-here t = rw (s .place) (climb-here l m w a _ _ _ (s .state) there (tested ∙ t))
+
+      module _ (f : b ≡ false) where
+        after : Climbing l m w a (count + getD m (at - 2) 0) (sum + getD m (at - 1) 0) next
+        after = rw (s .place, s .goes) (climb-next l m w a _ _ _ (s .state) there (tested ∙ f))
+
+        pub next-in : 4 * next < length m
+        next-in = cur-in l m w a _ _ _ after
+
+        module _ {at′ : ℕ} (g : at′ ≡ 4 * next) where
+          pub node-next : AtNode l m w a (count + getD m (at - 2) 0) (sum + getD m (at - 1) 0) at′ (getD m at′ 0)
+          node-next = record { cur = next; state = after; place = g; goes = ap (λ (x : ℕ). getD m x 0) g }
+
+          pub node-less : ahead l m (getD m at′ 0) < ahead l m next
+          node-less = rw g (ahead-less l m w a _ _ _ after (climb-goes l m w a _ _ _ after))
 
 -- ---- the weight of the levels up to i is linear in their count and their guide sum
 join-weights : (c d f g f′ g′ : ℤ) → (c *ℤ g +ℤ d *ℤ f) +ℤ (c *ℤ g′ +ℤ d *ℤ f′) ≡ c *ℤ (g +ℤ g′) +ℤ d *ℤ (f +ℤ f′)
@@ -177,7 +248,8 @@ module _ (p : Frame) (s t : ℕ) (two : p .set .kind ≡ 2) where
   same-test w v i = rw (v .total, v .slope, v .offset) (ap (λ (u : ℤ). leZ (totalWeight p s t) (pos 2 *ℤ u)) (cumulative-linear i))
 
   -- where the climb ends is the median
-  pub climb-median : (w : Coefficients) → WeighsAt p s t w → (r : ℕ) → First (reachAt cnt sm w) (p .set .levels) r → r ≡ median p s t
-  climb-median w v r k =
-      First-unique (λ i. leZ (totalWeight p s t) (pos 2 *ℤ cumulative p s t i)) (p .set .levels) r (median p s t)
-      (record { within = k .within; passes = λ h. same-test w v r ∙ k .passes h; before = λ j h. same-test w v j ∙ k .before j h }) (median-first p s t)
+  pub climb-median : (w : Coefficients) → WeighsAt p s t w → first (reachAt cnt sm w) (p .set .levels) ≡ median p s t
+  climb-median w v =
+      let m = median-first p s t in
+      first-unique (reachAt cnt sm w) (p .set .levels) (median p s t)
+      (record { within = m .within; passes = λ h. sym (same-test w v (median p s t)) ∙ m .passes h; before = λ j h. sym (same-test w v j) ∙ m .before j h })

@@ -8,7 +8,7 @@ use native.Mathlib.Omega.{arith}
 use lib.IntN.{ℤ, pos}
 use lib.Signed.{_<ℤ_}
 use Rattle.spec.specs.declared.Plan.{Plan}
-use Rattle.spec.specs.Base.{if_then_else_, distance, First}
+use Rattle.spec.specs.Base.{if_then_else_, distance, first}
 use Rattle.spec.specs.Frame.{guide, pixelGuide, frameOf}
 use Rattle.spec.specs.Checks.{Planned}
 use Rattle.spec.specs.Weight.{monotone}
@@ -16,6 +16,7 @@ use Rattle.spec.specs.Window.{pixelCount, guideSum}
 use Rattle.spec.specs.Median.{median}
 use Rattle.spec.specs.Walk.{State, arrive}
 use Rattle.spec.proofs.Plans.{facts, pixel-of, place-low}
+use Rattle.spec.proofs.Totals.{median-low}
 use Rattle.spec.proofs.Climb.{guided-full}
 use Rattle.spec.proofs.Bounds.{pixelCount-high, guideSum-high}
 use Rattle.window.specs.declared.coefficients.Coefficients.{Coefficients}
@@ -53,27 +54,6 @@ module _ {b : List ℕ} {z : Plan} (pl : Planned b z) where
     pub centre-high : (g : ℕ) → g ≡ pixelGuide b (t * z .width + s) → g ≤ 255
     centre-high g e = omega (arith, guide-low pl (place-low z s t hs ht), guides-high pl)
 
-    -- the window's list is one to climb along
-    pub climbs : (free : FreeList) (m : List ℕ) → Listed b z s t free m → Climbs (z .levels) m
-    unfolding sizeOf pixelCount guideSum
-    climbs free m c =
-        let f = facts pl in
-        let k = pixel-of pl hs ht in
-        record {
-          cap = nodesOf z;
-          cnt = levelCounts b s t;
-          sm = levelGuides b s t;
-          head = free .head;
-          free = free .count;
-          chain = c;
-          few =
-              let e : sumBelow (levelCounts b s t) (z .levels) ≡ sumBelow (levelCounts b s t) (frameOf b .set .levels) = ap (sumBelow (levelCounts b s t)) (f .levels) in
-              omega (arith, e, level-total k (λ x y. 1), pixelCount-high k);
-          light =
-              let e : sumBelow (levelGuides b s t) (z .levels) ≡ sumBelow (levelGuides b s t) (frameOf b .set .levels) = ap (sumBelow (levelGuides b s t)) (f .levels) in
-              omega (arith, e, level-total k (guide (frameOf b)), guideSum-high k);
-        }
-
     module _ (two : z .kind ≡ 2) where
       kind-is : frameOf b .set .kind ≡ 2
       kind-is = sym (facts pl .kind) ∙ two
@@ -81,12 +61,36 @@ module _ {b : List ℕ} {z : Plan} (pl : Planned b z) where
       pub total-pos : (k : Coefficients) → WeighsAt (frameOf b) s t k → pos 0 <ℤ k .total
       total-pos k w = subst (λ (n : ℤ). pos 0 <ℤ n) (sym (w .total)) (guided-full (pixel-of pl hs ht) kind-is .0)
 
-      pub climbed : (k : Coefficients) → WeighsAt (frameOf b) s t k → (free : FreeList) (m : List ℕ) → Listed b z s t free m → (r : ℕ)
-          → ((a : Climbs (z .levels) m) → First (reachAt (a .cnt) (a .sm) k) (z .levels) r) → r ≡ median (frameOf b) s t
+      -- where the climb ends is the median
+      climb-is : (k : Coefficients) → WeighsAt (frameOf b) s t k → first (reachAt (levelCounts b s t) (levelGuides b s t) k) (z .levels) ≡ median (frameOf b) s t
+      climb-is k w = ap (first (reachAt (levelCounts b s t) (levelGuides b s t) k)) (facts pl .levels) ∙ climb-median (frameOf b) s t kind-is k w
+
+      -- the window's list is one to climb along
+      pub climbs : (k : Coefficients) → WeighsAt (frameOf b) s t k → (free : FreeList) (m : List ℕ) → Listed b z s t free m → Climbs (z .levels) k m
+      unfolding sizeOf pixelCount guideSum
+      climbs k w free m c =
+          let f = facts pl in
+          let q = pixel-of pl hs ht in
+          record {
+            cap = nodesOf z;
+            cnt = levelCounts b s t;
+            sm = levelGuides b s t;
+            head = free .head;
+            free = free .count;
+            chain = c;
+            few =
+                let e : sumBelow (levelCounts b s t) (z .levels) ≡ sumBelow (levelCounts b s t) (frameOf b .set .levels) = ap (sumBelow (levelCounts b s t)) (f .levels) in
+                omega (arith, e, level-total q (λ x y. 1), pixelCount-high q);
+            light =
+                let e : sumBelow (levelGuides b s t) (z .levels) ≡ sumBelow (levelGuides b s t) (frameOf b .set .levels) = ap (sumBelow (levelGuides b s t)) (f .levels) in
+                omega (arith, e, level-total q (guide (frameOf b)), guideSum-high q);
+            some = omega (arith, climb-is k w, median-low q, f .levels);
+          }
+
+      pub climbed : (k : Coefficients) (w : WeighsAt (frameOf b) s t k) (free : FreeList) (m : List ℕ) → Listed b z s t free m → (r : ℕ)
+          → ((a : Climbs (z .levels) k m) → r ≡ first (reachAt (a .cnt) (a .sm) k) (z .levels)) → r ≡ median (frameOf b) s t
       unfolding climbs
-      climbed k w free m c r h =
-          climb-median (frameOf b) s t kind-is k w r
-          (subst (λ (l : ℕ). First (reachAt (levelCounts b s t) (levelGuides b s t) k) l r) (facts pl .levels) (h (climbs free m c)))
+      climbed k w free m c r h = h (climbs k w free m c) ∙ climb-is k w
 
       -- no window of kind 2 is weightless
       arrive-is : (c n : ℕ) → arrive (frameOf b) s t c n

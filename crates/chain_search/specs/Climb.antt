@@ -2,9 +2,10 @@
 -- Assumes nothing.
 use mathlib.Core.Bool.{Bool}
 use mathlib.Core.List.{List}
-use Prim.Native.Nat.{ℕ, suc, _≤_}
+use Prim.Native.Nat.{ℕ, suc, _≤_, _<_}
 use lib.IntN.{ℤ, pos, _+ℤ_, _*ℤ_}
 use lib.Signed.{leZ}
+use Rattle.spec.specs.Base.{first}
 use Rattle.window.specs.declared.coefficients.Coefficients.{Coefficients}
 use Rattle.chain.specs.Chain.{Chain, sumBelow}
 
@@ -16,8 +17,8 @@ reach k count sum = leZ (k .total) (pos 2 *ℤ (k .slope *ℤ pos sum +ℤ k .of
 abbrev pub reachAt : (ℕ → ℕ) → (ℕ → ℕ) → Coefficients → ℕ → Bool
 reachAt cnt sm k i = reach k (sumBelow cnt (suc i)) (sumBelow sm (suc i))
 
--- a store with a list of few pixels: cnt and sm are its counts and guide sums
-pub record Climbs (levels : ℕ) (m : List ℕ) : Type 0 where
+-- a store with a list of few pixels, cnt and sm being its counts and guide sums, and some level that reaches it
+pub record Climbs (levels : ℕ) (k : Coefficients) (m : List ℕ) : Type 0 where
   pub cap : ℕ
   pub cnt : ℕ → ℕ
   pub sm : ℕ → ℕ
@@ -26,3 +27,4 @@ pub record Climbs (levels : ℕ) (m : List ℕ) : Type 0 where
   pub chain : Chain cap levels cnt sm head free m
   pub few : sumBelow cnt levels ≤ 961
   pub light : sumBelow sm levels ≤ 245055
+  pub some : first (reachAt cnt sm k) levels < levels

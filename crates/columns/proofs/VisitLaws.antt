@@ -21,7 +21,7 @@ use Rattle.spec.proofs.Totals.{median-low}
 use Rattle.spec.proofs.Climb.{guided-full}
 use Rattle.window.specs.declared.sums.Sums.{Sums}
 use Rattle.window.specs.Sums.{SumsAt}
-use Rattle.levels.specs.declared.answer.Arrival.{Arrival}
+use Rattle.levels.specs.declared.search.Found.{Found}
 use Rattle.levels.specs.Answer.{Profiled, Answered}
 use Rattle.columns.specs.Blocks.{storeSize}
 use Rattle.columns.specs.Visit.{storeAt, Standing, Visited}
@@ -102,8 +102,8 @@ pub room-long : (p : Frame) {n : ℕ} → roomOf Columns (p .set) .numbers ≤ n
 unfolding roomOf
 room-long p h = h
 
-pub visited : {p : Frame} {s t c n : ℕ} {a : Sums} {r : Arrival} → SumsAt p s t a → Answered p s t c n r
-    → Visited p s t c n (record { sums = a; below = r .below; cut = r .level; shifts = r .shifts; answer = r .level })
+pub visited : {p : Frame} {s t c n : ℕ} {a : Sums} {f : Found} → SumsAt p s t a → Answered p s t c n f
+    → Visited p s t c n (record { sums = a; below = f .tally; cut = f .level; shifts = f .shifts; answer = f .level })
 visited v h = record { cut = h .cut; shifts = h .shifts; answer = h .said; sums = v; below = h .below }
 
 -- ---- what a walk goes on from

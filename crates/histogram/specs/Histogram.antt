@@ -1,44 +1,26 @@
--- The window's histogram of levels with guide sums, and what a pixel and a line change in it.
+-- The window's histogram of levels with guide sums, and what a pixel changes in it.
 -- Assumes nothing.
 use mathlib.Core.Path.{_≡_}
-use mathlib.Core.Bool.{Bool, true, false}
+use mathlib.Core.Bool.{Bool}
 use mathlib.Core.List.{List}
-use Prim.Native.Nat.{ℕ, _+_, _-_, _≤_, _<_}
+use Prim.Native.Nat.{ℕ, _+_, _-_, _*_, _≤_, _<_}
 use lib.Dec.{eqb, ltb}
 use lib.ListN.{length, getD}
 use Rattle.spec.specs.declared.Plan.{Plan}
 use Rattle.spec.specs.Base.{if_then_else_, sum}
 use Rattle.spec.specs.Frame.{Frame, level, guide}
 use Rattle.spec.specs.Window.{Σ}
-use Rattle.window.specs.declared.line.Line.{Line}
-use Rattle.window.specs.Line.{columnLine, lineFoldTo, lineFold}
+use Rattle.window.specs.Line.{columnLine, lineFold}
+use Rattle.pixels.specs.Additive.{changed}
 
 -- what a pixel of level i and guide f adds at place k, of l levels
 unfoldable pub share : ℕ → ℕ → ℕ → ℕ → ℕ
 share l k i f = if ltb k l then (if eqb i k then 1 else 0) else (if eqb i (k - l) then f else 0)
 
--- a number with n more, or n less; that stays in 32 bits, or has that much to lose
-unfoldable pub changed : Bool → ℕ → ℕ → ℕ
-changed w a n = if w then a + n else a - n
-
-abbrev pub Fits : Bool → ℕ → ℕ → Type 0
-Fits true a n = a + n < 4294967296
-Fits false a n = n ≤ a
-
 -- a pixel of level i and guide f has entered or left
 pub record Changed (w : Bool) (l i f : ℕ) (xs ys : List ℕ) : Type 0 where
   pub long : length ys ≡ length xs
   pub cells : (k : ℕ) → getD ys k 0 ≡ changed w (getD xs k 0) (share l k i f)
-
--- there is room for a line's pixels, or they are there to lose
-pub record Room (w : Bool) (b : List ℕ) (l : ℕ) (d : Line) (xs : List ℕ) : Type 0 where
-  pub long : l + l ≤ length xs
-  pub fits : (k : ℕ) → k < l + l → Fits w (getD xs k 0) (lineFold _+_ 0 b d (share l k))
-
--- a line's first n pixels have entered or left
-pub record Passed (w : Bool) (b : List ℕ) (l : ℕ) (d : Line) (n : ℕ) (xs ys : List ℕ) : Type 0 where
-  pub long : length ys ≡ length xs
-  pub cells : (k : ℕ) → getD ys k 0 ≡ changed w (getD xs k 0) (lineFoldTo _+_ 0 b d (share l k) n)
 
 -- no pixel
 pub record Blank (l : ℕ) (xs : List ℕ) : Type 0 where
@@ -48,6 +30,7 @@ pub record Blank (l : ℕ) (xs : List ℕ) : Type 0 where
 -- the first n columns from column x of the windows of row t
 pub record Filled (b : List ℕ) (z : Plan) (x t n : ℕ) (xs : List ℕ) : Type 0 where
   pub long : z .levels + z .levels ≤ length xs
+  pub low : (k : ℕ) → k < z .levels + z .levels → getD xs k 0 ≤ 7936 * n
   pub cells : (k : ℕ) → k < z .levels + z .levels → getD xs k 0 ≡ sum (λ a. lineFold _+_ 0 b (columnLine z a t) (share (z .levels) k)) x n
 
 -- the window at (s, t)

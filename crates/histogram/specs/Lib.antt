@@ -1,1 +1,2 @@
 pub mod Histogram
+pub mod Places

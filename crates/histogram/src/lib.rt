@@ -3,23 +3,22 @@
 use spec::Guide;
 use spec::Level;
 use spec::Plan;
-use window::line::Line;
-use window::line::Step;
 use window::line::column_line;
 use window::line::low;
 use window::line::span_of;
-use window::pixel;
 ghost use mathlib.Core.Path.{_≡_};
 ghost use Prim.Native.Nat.{_+_, _<_, _≤_};
 ghost use lib.ListN.{length, getD, set};
 ghost use Rattle.spec.specs.Frame.{frameOf};
 ghost use Rattle.spec.specs.Checks.{Planned};
-ghost use Rattle.window.specs.Line.{InPlanes, Adjacent, stepOf};
-ghost use Rattle.histogram.specs.Histogram.{changed, Fits, Changed, Room, Passed, Blank, Histogram};
+ghost use Rattle.pixels.specs.Pixels.{countOf, PixelsBelow};
+ghost use Rattle.pixels.specs.Additive.{changed, Fits, PassedTo, Exchanged, Exchangeable};
+ghost use Rattle.histogram.specs.Places.{shareAt, numberAt, RoomFor};
+ghost use Rattle.histogram.specs.Histogram.{Changed, Blank, Histogram};
 
 // A number raised or lowered.
 pub fn change(numbers: &mut [u32], at: usize, v: u32, enters: bool)
-    requires { ⌜ (at < length (now numbers)) × (Fits enters (getD (now numbers) at 0) v) ⌝ }
+    requires { ⌜ (at < length (now numbers)) × (Fits 4294967296 enters (getD (now numbers) at 0) v) ⌝ }
     ensures { λ _. ⌜ now (numbers .exit) ≡ set (now (numbers .entry)) at (changed enters (getD (now (numbers .entry)) at 0) v) ⌝ }
 {
     let n = numbers[at];
@@ -33,7 +32,7 @@ pub fn change(numbers: &mut [u32], at: usize, v: u32, enters: bool)
 // A pixel that enters the window or leaves it.
 pub fn change_pixel(numbers: &mut [u32], l: usize, level: Level, guide: Guide, enters: bool)
     requires { ⌜ (level .0 < l) × (l ≤ 1024) × (l + l ≤ length (now numbers)) ⌝ }
-    requires { ⌜ (Fits enters (getD (now numbers) (level .0) 0) 1) × (Fits enters (getD (now numbers) (l + level .0) 0) (guide .0)) ⌝ }
+    requires { ⌜ (Fits 4294967296 enters (getD (now numbers) (level .0) 0) 1) × (Fits 4294967296 enters (getD (now numbers) (l + level .0) 0) (guide .0)) ⌝ }
     ensures { λ _. ⌜ Changed enters l (level .0) (guide .0) (now (numbers .entry)) (now (numbers .exit)) ⌝ }
 {
     let i = level.0 as usize;
@@ -42,45 +41,30 @@ pub fn change_pixel(numbers: &mut [u32], l: usize, level: Level, guide: Guide, e
     change(numbers, l + i, g, enters);
 }
 
-// A line's pixels enter the window, or leave it.
-pub fn change_line(file: &[u8], z: Plan, d: Line, enters: bool, numbers: &mut [u32])
-    requires { ⌜ (Planned (now file) z) × (InPlanes z d) ⌝ }
-    requires { ⌜ Room enters (now file) (z .levels) d (now numbers) ⌝ }
-    ensures { λ _. ⌜ Passed enters (now (file .entry)) (z .levels) d (d .count) (now (numbers .entry)) (now (numbers .exit)) ⌝ }
+// A list's pixels enter the window, or leave it; l is the number of levels.
+pub fn change_pixels(p: &[u16], l: usize, enters: bool, numbers: &mut [u32])
+    requires { ⌜ (l ≤ 1024) × (l + l ≤ length (now numbers)) × (PixelsBelow l 256 (now p)) ⌝ }
+    requires { ⌜ RoomFor enters l (now p) (now numbers) ⌝ }
+    ensures { λ _. ⌜ PassedTo (shareAt l) enters (now (p .entry)) (countOf (now (p .entry))) (numberAt l (now (numbers .entry))) (numberAt l (now (numbers .exit))) ⌝ }
 {
-    let l = z.levels;
-    let first = d.first;
-    let stride = d.stride;
-    let n = d.count;
+    let n = p.len() / 2;
     let mut k = 0;
     while k < n {
-        let q = first + k * stride;
-        let level = pixel::level_at(file, z, q);
-        let guide = pixel::guide_at(file, z, q);
-        change_pixel(numbers, l, level, guide, enters);
+        let at = 2 * k;
+        let next = at + 1;
+        change_pixel(numbers, l, Level(p[at]), Guide(p[next]), enters);
         k += 1;
     }
 }
 
-// From (s, t) to the neighbour (s2, t2), by the lines d. The entering line goes in first, so that no number lacks what it is to lose.
-pub fn slide(
-    file: &[u8],
-    z: Plan,
-    d: Step,
-    s: usize,
-    t: usize,
-    s2: usize,
-    t2: usize,
-    numbers: &mut [u32],
-)
-    requires { ⌜ (Planned (now file) z) × (Adjacent z s t s2 t2) × (d ≡ stepOf z s t s2 t2) ⌝ }
-    requires { ⌜ Histogram (frameOf (now file)) s t (now numbers) ⌝ }
-    ensures { λ _. ⌜ Histogram (frameOf (now (file .entry))) s2 t2 (now (numbers .exit)) ⌝ }
+// One list in, another out. The entering one goes in first, so that no number lacks what it is to lose.
+pub fn exchange(entering: &[u16], leaving: &[u16], l: usize, numbers: &mut [u32])
+    requires { ⌜ (l ≤ 1024) × (l + l ≤ length (now numbers)) × (PixelsBelow l 256 (now entering)) × (PixelsBelow l 256 (now leaving)) ⌝ }
+    requires { ⌜ Exchangeable (shareAt l) 4294967296 (now entering) (now leaving) (numberAt l (now numbers)) ⌝ }
+    ensures { λ _. ⌜ Exchanged (shareAt l) (now (entering .entry)) (now (leaving .entry)) (numberAt l (now (numbers .entry))) (numberAt l (now (numbers .exit))) ⌝ }
 {
-    let entering = d.entering;
-    let leaving = d.leaving;
-    change_line(file, z, entering, true, numbers);
-    change_line(file, z, leaving, false, numbers);
+    change_pixels(entering, l, true, numbers);
+    change_pixels(leaving, l, false, numbers);
 }
 
 // Of the window at (s, t), in numbers that are all 0.
@@ -93,8 +77,10 @@ pub fn start(file: &[u8], z: Plan, s: usize, t: usize, numbers: &mut [u32])
     let n = span_of(s, z.radius, z.width);
     let mut k = 0;
     while k < n {
+        let mut places = [0u16; 62];
         let d = column_line(z, x + k, t);
-        change_line(file, z, d, true, numbers);
+        let p = pixels::read(file, z, d, &mut places);
+        change_pixels(&places[0..p], z.levels, true, numbers);
         k += 1;
     }
 }

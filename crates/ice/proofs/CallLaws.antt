@@ -5,7 +5,6 @@ use mathlib.Core.Path.{_≡_, refl, ap, ap₂, sym, _∙_, subst}
 use mathlib.Core.Bool.{true, false}
 use mathlib.Core.Logic.{_⊎_, inl, inr}
 use mathlib.Core.List.{List, _++_}
-use native.Mathlib.Nat.{mul-le-mul}
 use native.Mathlib.Omega.{arith}
 use lib.IntN.{pos}
 use lib.ListN.{length, take, drop, replicate, length-replicate, getD-replicate, take-append-drop}
@@ -27,7 +26,6 @@ use Rattle.frame.specs.declared.plan.Opened.{Opened}
 use Rattle.frame.specs.Parts.{openedPlan}
 use Rattle.ice.specs.declared.Walked.{Walked}
 use Rattle.ice.specs.declared.Balanced.{Balanced}
-use Rattle.frame.specs.Weights.{weightCount}
 use Rattle.ways.specs.Visit.{Stores, stores, lent, Fit, Left, usedOf, Serves}
 use Rattle.ice.specs.Result.{Finished, Zeroed, isJoint}
 use Rattle.ice.specs.Contract.{Untouched, Ended, Walks, Filters, Balances}
@@ -208,7 +206,3 @@ balance-granted {b} k s t i o =
     let h = balance-accepted b s t i o in
     let f = facts k in
     (rw (f .width) (h .pixel .in-column), rw (f .height) (h .pixel .in-row), rw (f .levels) (rw (sym (set-of b)) at (h .level)), rw (f .levels) (f .limits .sound .levels-high))
-
--- ---- room for the weights of any table
-pub weights-fit : {b : List ℕ} {z : Plan} → Planned b z → weightCount b ≤ 65536
-weights-fit {b} k = let f = facts k in mul-le-mul (f .limits .sound .guides-high) (f .limits .sound .guides-high)

@@ -50,7 +50,7 @@ fn keeps_histogram(way: Way) -> bool
     }
 }
 
-// Walks through an accepted frame, with the weights decoded once. The joint way's histogram is not the caller's: it lives as long as the walk.
+// Walks through an accepted frame, with the built-in weights made once. The joint way's histogram is not the caller's: it lives as long as the walk.
 fn walk_on(
     file: &[u8],
     z: Plan,
@@ -72,8 +72,8 @@ fn walk_on(
     ensures { λ _. ⌜ now (answers .exit) ≡ definitions.walkAnswers (frameOf (now (file .entry))) column row (now (moves .entry)) ++ drop (length (now (moves .entry)) + 1) (now (answers .entry)) ⌝ }
     ensures { λ _. ⌜ (way ≡ Way.Joint → now (numbers .exit) ≡ now (numbers .entry)) ⌝ }
 {
-    let mut weights = [0u16; 65536];
-    rows::decode_rows(file, z, &mut weights);
+    let mut weights = [0u16; 511];
+    rows::built_rows(z, &mut weights);
     let cells = dispatch::blank();
     if keeps_histogram(way) {
         let mut histogram = [0u32; 2048];
@@ -169,8 +169,8 @@ fn filter_on(
     ensures { λ _. ⌜ now (output .exit) ≡ filtered (frameOf (now (file .entry))) ++ drop (pixels (frameOf (now (file .entry)) .set)) (now (output .entry)) ⌝ }
     ensures { λ _. ⌜ (way ≡ Way.Joint → now (numbers .exit) ≡ now (numbers .entry)) ⌝ }
 {
-    let mut weights = [0u16; 65536];
-    rows::decode_rows(file, z, &mut weights);
+    let mut weights = [0u16; 511];
+    rows::built_rows(z, &mut weights);
     let cells = dispatch::blank();
     if keeps_histogram(way) {
         let mut histogram = [0u32; 2048];

@@ -31,7 +31,7 @@ pub fn sweep(
     numbers: &mut [u32],
     output: &mut [u16],
 ) -> Walked
-    requires { ⌜ (Planned (now file) z) × (WeightRows (now file) z (now weights)) × (Serves way z) ⌝ }
+    requires { ⌜ (Planned (now file) z) × (WeightRows z (now weights)) × (Serves way z) ⌝ }
     requires { ⌜ Fit way (settingsIn z) (stores (now counts) (now words) (now numbers)) ⌝ }
     requires { ⌜ z .width * z .height ≤ length (now output) ⌝ }
     requires { ⌜ (cells ≡ zeros) × (Cleared way z (now numbers)) ⌝ }

@@ -34,7 +34,7 @@ pub fn step(
     words: &mut [u64],
     numbers: &mut [u32],
 ) -> Visit
-    requires { ⌜ (Planned (now file) z) × (WeightRows (now file) z (now weights)) × (Serves way z) ⌝ }
+    requires { ⌜ (Planned (now file) z) × (WeightRows z (now weights)) × (Serves way z) ⌝ }
     requires { ⌜ Within z visit ⌝ }
     requires { ⌜ Fit way (settingsIn z) (stores (now counts) (now words) (now numbers)) ⌝ }
     requires { ⌜ AtWindow way (now file) (stores (now counts) (now words) (now numbers)) (now cells) visit ⌝ }
@@ -85,7 +85,7 @@ pub fn travel(
     numbers: &mut [u32],
     answers: &mut [u16],
 ) -> Walked
-    requires { ⌜ (Planned (now file) z) × (WeightRows (now file) z (now weights)) × (Serves way z) ⌝ }
+    requires { ⌜ (Planned (now file) z) × (WeightRows z (now weights)) × (Serves way z) ⌝ }
     requires { ⌜ (column < z .width) × (row < z .height) ⌝ }
     requires { ⌜ length (now moves) ≤ 1048576 ⌝ }
     requires { ⌜ Fit way (settingsIn z) (stores (now counts) (now words) (now numbers)) ⌝ }

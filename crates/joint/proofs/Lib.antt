@@ -1,6 +1,7 @@
 pub mod BitLaws
 pub mod RepLaws
 pub mod ListLaws
-pub mod LineLaws
+pub mod SideLaws
 pub mod WindowLaws
 pub mod StartLaws
+pub mod PixelLaws

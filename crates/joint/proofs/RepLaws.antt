@@ -11,7 +11,9 @@ use lib.Seq.{getD-set-same, getD-set-other}
 use lib.IntN.{ℤ, _+ℤ_, _-ℤ_}
 use borrow.Author.Tests.{eq-eqb, ne-eqb, lt-ltb, le-ltb}
 use Rattle.joint.specs.Bit.{bit, withBit, withoutBit}
-use Rattle.joint.specs.Store.{cellAt, wordAt, wordsPer, countIn, Takes, changedℤ, changed, changedWord, changedCounts, changedWords, hit, Rep}
+use Rattle.pixels.specs.Additive.{changed}
+use Rattle.pixels.proofs.AdditiveLaws.{changed-none}
+use Rattle.joint.specs.Store.{cellAt, wordAt, wordsPer, countIn, Takes, changedℤ, changedWord, changedCounts, changedWords, hit, Rep}
 use Rattle.joint.proofs.BitLaws.{eq-or-ne, set-here, set-other, clear-here, clear-other}
 
 -- ---- two places: the same, or not
@@ -63,11 +65,6 @@ mark-store m i f i′ g v ws inside hf hg old n = ⊎-elim same other (eq-or-ne 
     other d = ap (λ (x : ℕ). bit x (g % 64)) (getD-set-other ws (wordAt m i f) (wordAt m i′ g) v 0 d)
 
 -- ---- a pixel that enters or leaves
-
-pub changed-none : (w : Bool) (n : ℕ) → changed w n 0 ≡ n
-unfolding changed
-changed-none true n = omega arith
-changed-none false n = omega arith
 
 -- the two cases, as the code has them
 module _ (w : Bool) (m i f : ℕ) (xs ws : List ℕ) where

@@ -24,14 +24,17 @@ use Rattle.window.specs.Line.{columnLine, InPlanes, lineFold}
 use Rattle.window.proofs.PixelLaws.{plan-limits, guides-high, levels-high}
 use Rattle.window.proofs.LineLaws.{fold-none, fold-more, columns-law, column-in}
 use Rattle.joint.specs.Bit.{bit}
-use Rattle.joint.specs.Store.{cellAt, wordAt, wordsPer, changed, changedℤ, countIn, hit}
-use Rattle.joint.specs.Line.{side, sideOf, lineCount, lineSide, Ready, Room, BoxRoom, Kept, Passed}
+use Rattle.pixels.specs.Pixels.{countOf, LinePixels}
+use Rattle.pixels.specs.Additive.{changed}
+use Rattle.joint.specs.Store.{cellAt, wordAt, wordsPer, changedℤ, countIn, hit}
+use Rattle.joint.specs.Side.{side, sideOf}
+use Rattle.joint.specs.List.{listCount, Countable, BoxRoom, RestKept, CountsPassed, BoxPassed}
 use Rattle.joint.specs.Window.{JointAt, Fresh, Columns, Filled}
 use Rattle.joint.proofs.BitLaws.{bit-high}
 use Rattle.joint.proofs.RepLaws.{rep-eq, count-in}
-use Rattle.joint.proofs.LineLaws.{line-le, line-abs}
 use Rattle.joint.proofs.ListLaws.{rep-own, rep-self}
 use Rattle.joint.proofs.WindowLaws.{plan-cells, plan-words, joint-of}
+use Rattle.joint.proofs.PixelLaws.{list-le, list-abs}
 
 -- ---- zeros
 pub clear-next : (xs : List ℕ) (k : ℕ) → k < length xs → set (replicate k 0 ++ drop k xs) k 0 ≡ replicate (k + 1) 0 ++ drop (k + 1) xs
@@ -78,7 +81,7 @@ module _ {b : List ℕ} {z : Plan} (pl : Planned b z) where
 
   -- after the zeros nothing is held
   pub cleared : (x t c : ℕ) {xs ws xs₁ ws₁ : List ℕ} → L * M ≤ length xs → L * K ≤ length ws → xs₁ ≡ replicate (L * M) 0 ++ drop (L * M) xs → ws₁ ≡ replicate (L * K) 0 ++ drop (L * K) ws
-      → (Filled b z x t c 0 xs₁ ws₁ xs₁ ws₁ (replicate 256 (pos 0))) × Kept z xs ws xs₁ ws₁
+      → (Filled b z x t c 0 xs₁ ws₁ xs₁ ws₁ (replicate 256 (pos 0))) × RestKept (z .levels) (z .guides) xs ws xs₁ ws₁
   cleared x t c {xs} {ws} {xs₁} {ws₁} hx hw ex ew =
       let lx : length xs₁ ≡ length xs = ap length ex ∙ clear-long xs (L * M) hx in
       let lw : length ws₁ ≡ length ws = ap length ew ∙ clear-long ws (L * K) hw in
@@ -111,44 +114,48 @@ module _ {b : List ℕ} {z : Plan} (pl : Planned b z) where
 
   -- one column more
   module _ {x n t c k : ℕ} {xs ws xs₁ ws₁ : List ℕ} {bx₁ : List ℤ} {d : Line} (co : Columns z x n t) (h : k < n) (fl : Filled b z x t c k xs ws xs₁ ws₁ bx₁) (ed : d ≡ columnLine z (x + k) t) where
-    in-planes : InPlanes z d
-    in-planes = rw ed (column-in (plan-limits pl) (x + k) t (omega (arith, co .wide)))
+    pub column-planes : InPlanes z d
+    column-planes = rw ed (column-in (plan-limits pl) (x + k) t (omega (arith, co .wide)))
 
-    pub fill-asks : Ready b z xs₁ ws₁ × (InPlanes z d × Room true b z d xs₁ × BoxRoom (d .count) bx₁)
-    fill-asks = (
-      record {
-        planned = pl;
+    module _ {p : List ℕ} (r : LinePixels b z d p) where
+      unfoldable column-countable : Countable true M p xs₁ ws₁
+      column-countable = record {
+        levels = L;
+        levels-high = levels-high pl;
+        guides-high = guides-high pl;
         cells = rw (fl .kept .long) (fl .cells);
         words = rw (fl .kept .long-words) (fl .words);
         held = rep-self _ _ _ xs₁ ws₁ (fl .held);
-      },
-      (
-        in-planes,
-        record { fits = λ i f hi hf. omega (arith, fl .low i f hi hf, line-le b d (d .count) i f, in-planes .few, co .few) },
-        record { long = fl .box-long; room = λ f. omega (arith, fl .box-low f, in-planes .few, co .few) },
-      ),
-    )
+        below = r .below;
+        fits = λ i f hi hf. omega (arith, fl .low i f hi hf, list-le p (countOf p) i f, r .below .few, co .few);
+      }
 
-    pub fill-again : {xs₂ ws₂ : List ℕ} {bx₂ : List ℤ} → Passed true b z d c (d .count) xs₁ ws₁ bx₁ xs₂ ws₂ bx₂ → Filled b z x t c (k + 1) xs ws xs₂ ws₂ bx₂
-    unfolding changed changedℤ
-    fill-again {xs₂} {ws₂} g = record {
-      cells = fl .cells;
-      words = fl .words;
-      kept = record {
-        long = g .kept .long ∙ fl .kept .long;
-        long-words = g .kept .long-words ∙ fl .kept .long-words;
-        rest = g .kept .rest ∙ fl .kept .rest;
-        rest-words = g .kept .rest-words ∙ fl .kept .rest-words;
-      };
-      held = rep-eq _ _ _ _ xs₂ ws₂ (λ i f u. turn i f u) (g .held);
-      low = λ i f hi hf. omega (arith, g .held .cells i f hi hf, count-in M i f xs₁ hf, line-le b d (d .count) i f, fl .low i f hi hf, in-planes .few);
-      box-long = g .box-long ∙ fl .box-long;
-      box-low = λ f. rw (g .box f) (omega (arith, line-abs b d true c (d .count) f (getD bx₁ f (pos 0)), fl .box-low f, in-planes .few));
-      box = λ f. g .box f ∙ ap₂ (λ (u v : ℤ). u +ℤ v) (fl .box f) (ap (λ (q : Line). lineSide b q c (q .count) f) ed) ∙ sym (fold-more _+ℤ_ (pos 0) _ x k);
-    }
-      where
-        turn : (i f : ℕ) → i < L → countIn M xs₁ i f + lineCount b d (d .count) i f ≡ columnsCount x t (k + 1) i f
-        turn i f u = ap₂ (λ (p q : ℕ). p + q) (sym (rep-own _ _ _ xs₁ ws₁ (fl .held) i f u)) (ap (λ (q : Line). lineCount b q (q .count) i f) ed) ∙ sym (fold-more _+_ 0 _ x k)
+      pub fill-asks : Countable true M p xs₁ ws₁ × BoxRoom (countOf p) bx₁
+      fill-asks = (column-countable, record { long = fl .box-long; room = λ f. omega (arith, fl .box-low f, r .below .few, co .few) })
+
+      pub fill-again : {xs₂ ws₂ : List ℕ} {bx₂ : List ℤ} → ((a : Countable true M p xs₁ ws₁) → CountsPassed true (a .levels) M p (countOf p) xs₁ ws₁ xs₂ ws₂)
+          → BoxPassed true c p (countOf p) bx₁ bx₂ → Filled b z x t c (k + 1) xs ws xs₂ ws₂ bx₂
+      unfolding changed changedℤ column-countable
+      fill-again {xs₂} {ws₂} after u = let g = after column-countable in record {
+        cells = fl .cells;
+        words = fl .words;
+        kept = record {
+          long = g .kept .long ∙ fl .kept .long;
+          long-words = g .kept .long-words ∙ fl .kept .long-words;
+          rest = g .kept .rest ∙ fl .kept .rest;
+          rest-words = g .kept .rest-words ∙ fl .kept .rest-words;
+        };
+        held = rep-eq _ _ _ _ xs₂ ws₂ (λ i f l. more i f l) (g .held);
+        low = λ i f hi hf. omega (arith, g .held .cells i f hi hf, count-in M i f xs₁ hf, list-le p (countOf p) i f, fl .low i f hi hf, r .below .few);
+        box-long = u .long ∙ fl .box-long;
+        box-low = λ f. rw (u .cells f) (omega (arith, list-abs true c p (countOf p) f (getD bx₁ f (pos 0)), fl .box-low f, r .below .few));
+        box = λ f. u .cells f ∙ ap₂ (λ (y v : ℤ). y +ℤ v) (fl .box f) (r .sumℤ (sideOf c f) ∙ ap (λ (q : Line). lineFold _+ℤ_ (pos 0) b q (sideOf c f)) ed) ∙ sym (fold-more _+ℤ_ (pos 0) _ x k);
+      }
+        where
+          more : (i f : ℕ) → i < L → countIn M xs₁ i f + listCount p (countOf p) i f ≡ columnsCount x t (k + 1) i f
+          more i f l =
+              ap₂ (λ (y v : ℕ). y + v) (sym (rep-own _ _ _ xs₁ ws₁ (fl .held) i f l)) (r .sum (λ v g. hit v g i f) ∙ ap (λ (q : Line). lineFold _+_ 0 b q (λ v g. hit v g i f)) ed)
+              ∙ sym (fold-more _+_ 0 _ x k)
 
   -- all columns are the window
   window-count : (s t i f : ℕ) → columnsCount (s - z .radius) t (span (z .radius) s (z .width)) i f ≡ count (frameOf b) s t i f
@@ -176,7 +183,7 @@ module _ {b : List ℕ} {z : Plan} {s t c x n : ℕ} {xs ws xs₁ ws₁ : List �
     (ex : xs₁ ≡ replicate (z .levels * z .guides) 0 ++ drop (z .levels * z .guides) xs)
     (ew : ws₁ ≡ replicate (z .levels * wordsPer (z .guides)) 0 ++ drop (z .levels * wordsPer (z .guides)) ws)
     (e : x ≡ s - z .radius) (d : n ≡ span (z .radius) s (z .width)) where
-  zeros : (Filled b z x t c 0 xs₁ ws₁ xs₁ ws₁ (replicate 256 (pos 0))) × Kept z xs ws xs₁ ws₁
+  zeros : (Filled b z x t c 0 xs₁ ws₁ xs₁ ws₁ (replicate 256 (pos 0))) × RestKept (z .levels) (z .guides) xs ws xs₁ ws₁
   zeros = cleared (fr .planned) x t c (rw (plan-cells (fr .planned)) (fr .cells)) (rw (plan-words (fr .planned)) (fr .words)) ex ew
 
   pub build-asks : (Planned b z × Columns z x n t) × Filled b z x t c 0 xs₁ ws₁ xs₁ ws₁ (replicate 256 (pos 0))

@@ -1,4 +1,5 @@
 pub mod Bit
 pub mod Store
-pub mod Line
+pub mod Side
+pub mod List
 pub mod Window

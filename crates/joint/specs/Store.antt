@@ -9,6 +9,7 @@ use lib.ListN.{length, getD, set}
 use lib.Dec.{eqb, ltb}
 use lib.IntN.{ℤ, _+ℤ_, _-ℤ_}
 use Rattle.spec.specs.Base.{if_then_else_, indicator}
+use Rattle.pixels.specs.Additive.{changed}
 use Rattle.joint.specs.Bit.{bit, withBit, withoutBit}
 
 -- ---- places, of m guides
@@ -34,11 +35,7 @@ pub record Place (m i f : ℕ) (xs ws : List ℕ) : Type 0 where
 
 -- ---- a pixel that enters the window (true) or leaves it (false)
 
--- what that does to a number: n more, or n less
-unfoldable pub changed : Bool → ℕ → ℕ → ℕ
-changed true a n = a + n
-changed false a n = a - n
-
+-- what that does to a cell of the box
 unfoldable pub changedℤ : Bool → ℤ → ℤ → ℤ
 changedℤ true a x = a +ℤ x
 changedℤ false a x = a -ℤ x

@@ -12,7 +12,8 @@ use Rattle.spec.specs.Checks.{Planned}
 use Rattle.spec.specs.Joint.{jointCounts, wordsPerLevel, occupancyWords, balanceBox}
 use Rattle.window.specs.Line.{columnLine, lineFold}
 use Rattle.joint.specs.Store.{cellAt, wordsPer, hit, Rep}
-use Rattle.joint.specs.Line.{sideOf, Kept}
+use Rattle.joint.specs.Side.{sideOf}
+use Rattle.joint.specs.List.{RestKept}
 
 -- how many counts, and how many words
 abbrev pub cellCount : Frame → ℕ
@@ -52,7 +53,7 @@ pub record Columns (z : Plan) (x n t : ℕ) : Type 0 where
 pub record Filled (b : List ℕ) (z : Plan) (x t c k : ℕ) (xs ws xs′ ws′ : List ℕ) (bx′ : List ℤ) : Type 0 where
   pub cells : z .levels * z .guides ≤ length xs
   pub words : z .levels * wordsPer (z .guides) ≤ length ws
-  pub kept : Kept z xs ws xs′ ws′
+  pub kept : RestKept (z .levels) (z .guides) xs ws xs′ ws′
   pub held : Rep (z .levels) (z .guides) (λ i f. sum (λ a. lineFold _+_ 0 b (columnLine z a t) (λ v g. hit v g i f)) x k) xs′ ws′
   pub low : (i f : ℕ) → i < z .levels → f < z .guides → getD xs′ (cellAt (z .guides) i f) 0 ≤ 31 * k
   pub box-long : length bx′ ≡ 256

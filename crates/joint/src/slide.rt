@@ -1,36 +1,13 @@
-// The window moved by one pixel. The entering line goes in before the leaving one comes out, so that no cell lacks what it is to lose.
-use crate::line;
+// The window moved by one pixel.
+use crate::list;
 use spec::Level;
 use spec::Plan;
-use window::line::Step;
-ghost use mathlib.Core.Path.{_≡_};
+use window::line;
 ghost use Rattle.spec.specs.Frame.{frameOf};
-ghost use Rattle.window.specs.Line.{Adjacent, stepOf};
+ghost use Rattle.window.specs.Line.{Adjacent};
 ghost use Rattle.joint.specs.Window.{JointAt, Held};
 
-// From (s, t) to the neighbour (s2, t2), by the lines d; the box is lent.
-pub fn slide(
-    file: &[u8],
-    z: Plan,
-    d: Step,
-    s: usize,
-    t: usize,
-    s2: usize,
-    t2: usize,
-    cut: Level,
-    cells: &mut [i16; 256],
-    counts: &mut [u16],
-    words: &mut [u64],
-)
-    requires { ⌜ Held (now file) z s t (cut .0) (now counts) (now words) (now cells) ⌝ }
-    requires { ⌜ (Adjacent z s t s2 t2) × (d ≡ stepOf z s t s2 t2) ⌝ }
-    ensures { λ _. ⌜ JointAt (frameOf (now (file .entry))) s2 t2 (cut .0) (now (counts .entry)) (now (words .entry)) (now (counts .exit)) (now (words .exit)) (now (cells .exit)) ⌝ }
-{
-    line::change_line(file, z, d.entering, true, cut, cells, counts, words);
-    line::change_line(file, z, d.leaving, false, cut, cells, counts, words);
-}
-
-// The same with the box by value: one move of a walk whose stores, box and cut point are handed over from move to move.
+// From (s, t) to the neighbour (s2, t2), with the box by value: one move of a walk whose stores, box and cut point are handed over from move to move.
 pub fn advance(
     file: &[u8],
     z: Plan,
@@ -47,8 +24,20 @@ pub fn advance(
     requires { ⌜ Adjacent z s t s2 t2 ⌝ }
     ensures { λ r. ⌜ JointAt (frameOf (now (file .entry))) s2 t2 (cut .0) (now (counts .entry)) (now (words .entry)) (now (counts .exit)) (now (words .exit)) r ⌝ }
 {
-    let d = window::line::step_to(z, s, t, s2, t2);
+    let d = line::step_to(z, s, t, s2, t2);
+    let mut entering = [0u16; 62];
+    let mut leaving = [0u16; 62];
+    let n = pixels::read(file, z, d.entering, &mut entering);
+    let k = pixels::read(file, z, d.leaving, &mut leaving);
     let mut out = cells;
-    slide(file, z, d, s, t, s2, t2, cut, &mut out, counts, words);
+    list::exchange(
+        &entering[0..n],
+        &leaving[0..k],
+        z.guides,
+        cut,
+        &mut out,
+        counts,
+        words,
+    );
     out
 }

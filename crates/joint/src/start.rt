@@ -1,5 +1,5 @@
 // The stores and the box made for a window, whatever they held.
-use crate::line;
+use crate::list;
 use spec::Level;
 use spec::Plan;
 use window::line::column_line;
@@ -54,8 +54,10 @@ pub fn fill(
 {
     let mut k = 0;
     while k < n {
+        let mut places = [0u16; 62];
         let d = column_line(z, x + k, t);
-        line::change_line(file, z, d, true, cut, cells, counts, words);
+        let p = pixels::read(file, z, d, &mut places);
+        list::change_pixels(&places[0..p], z.guides, true, cut, cells, counts, words);
         k += 1;
     }
 }

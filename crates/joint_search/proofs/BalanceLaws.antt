@@ -34,9 +34,9 @@ use Rattle.window.specs.Line.{PlanLimits, columnLine, pixelOf, InPlanes, lineFo
 use Rattle.window.proofs.PixelLaws.{plan-limits, guide-low, guides-high}
 use Rattle.window.proofs.LineLaws.{line-none, line-more, fold-none, fold-more, columns-law, column-in}
 use Rattle.window.proofs.SumLaws.{in-span, few-columns}
-use Rattle.joint.specs.Line.{side}
+use Rattle.joint.specs.Side.{side}
 use Rattle.joint.proofs.BitLaws.{lt-or-le, eq-or-ne}
-use Rattle.joint.proofs.LineLaws.{side-low, side-high}
+use Rattle.joint.proofs.SideLaws.{side-low, side-high}
 use Rattle.joint_search.specs.declared.formula.Formula.{Formula}
 use Rattle.joint_search.specs.Balance.{signedWeight, Weighed, TableRow}
 

@@ -16,7 +16,7 @@ use Rattle.spec.specs.Base.{fold, sum}
 use Rattle.joint.specs.Bit.{bit}
 use Rattle.joint.specs.Store.{cellAt, wordsPer}
 use Rattle.joint.proofs.BitLaws.{lt-or-le, bit-zero, bit-suc, bit-and, bit-high, tz-found, tz-below}
-use Rattle.joint.proofs.RepLaws.{count-in}
+use Rattle.joint.proofs.RepLaws.{count-in, count-out}
 use Rattle.joint_search.specs.declared.scan.Scan.{Scan}
 use Rattle.joint_search.specs.Scan.{NextGuide, placeOf, Scans, Follows, Marked, Row, cellSum}
 
@@ -116,7 +116,7 @@ module _ (ws : List ℕ) (first k : ℕ) (hk : k ≤ 4) where
       let e = place-some (record { word = i; rest = w }) n in
       let z : i * 64 ≡ i * 64 + 0 = omega arith in
       record {
-        scans = record { inside = λ _. hi; agrees = λ b l m u. refl };
+        scans = record { fits = fit; inside = λ _. hi; agrees = λ b l m u. refl };
         next = record {
           from = omega (arith, e);
           most = omega (arith, e, t);
@@ -129,11 +129,11 @@ module _ (ws : List ℕ) (first k : ℕ) (hk : k ≤ 4) where
   begins-none g i hi hg p =
       let e = place-none (record { word = 0; rest = 0 }) refl in
       record {
-        scans = record { inside = λ n. absurd (n refl); agrees = λ b l m n. absurd (n refl) };
+        scans = record { fits = lit< tt; inside = λ n. absurd (n refl); agrees = λ b l m n. absurd (n refl) };
         next = record { from = omega (arith, e); most = omega (arith, e); none = λ h l u v. p h l (omega arith) v };
       }
 
-  module _ (c : Scan) (sc : Scans ws first k c) (hc : placeOf c < 256) (fit : c .rest < 2 ^ 64) where
+  module _ (c : Scan) (sc : Scans ws first k c) (hc : placeOf c < 256) where
     some : c .rest ≡ 0 → ⊥
     some = place-rest c hc
 
@@ -152,20 +152,21 @@ module _ (ws : List ℕ) (first k : ℕ) (hk : k ≤ 4) where
     zeros : (r : ℕ) → ((i : ℕ) → trailingZeros 64 (c .rest) < i → i < r → bit (bitAnd (c .rest) (c .rest - 1)) i ≡ 0) → r ≤ 64
         → (i : ℕ) → trailingZeros 64 (c .rest) + 1 ≤ i → i < r → bit (getD ws (first + c .word) 0) i ≡ 0
     zeros r none hr i l u =
-        sym (sc .agrees i (omega arith) (omega arith) some) ∙ sym (cleared-above (c .rest) fit rest-pos i (omega arith)) ∙ none i (omega arith) u
+        sym (sc .agrees i (omega arith) (omega arith) some) ∙ sym (cleared-above (c .rest) (sc .fits) rest-pos i (omega arith)) ∙ none i (omega arith) u
 
     -- a bit is left in the word
     pub goes-on : (bitAnd (c .rest) (c .rest - 1) ≡ 0 → ⊥) → Follows ws first k (placeOf c + 1) (record { word = c .word; rest = bitAnd (c .rest) (c .rest - 1) })
     goes-on n =
         let r = bitAnd (c .rest) (c .rest - 1) in
         let p = pos-of-ne-zero n in
-        let up = cleared-next (c .rest) fit rest-pos p in
-        let t = tz-pos r (lt-of-le-of-lt (and-le-l (c .rest) (c .rest - 1)) fit) p .1 in
+        let up = cleared-next (c .rest) (sc .fits) rest-pos p in
+        let t = tz-pos r (lt-of-le-of-lt (and-le-l (c .rest) (c .rest - 1)) (sc .fits)) p .1 in
         let pl = place-some (record { word = c .word; rest = r }) n in
         record {
           scans = record {
+            fits = lt-of-le-of-lt (and-le-l (c .rest) (c .rest - 1)) (sc .fits);
             inside = λ _. word-in;
-            agrees = λ b l m u. cleared-above (c .rest) fit rest-pos b (omega (arith, up, m)) ∙ sc .agrees b l (omega (arith, up, m)) some;
+            agrees = λ b l m u. cleared-above (c .rest) (sc .fits) rest-pos b (omega (arith, up, m)) ∙ sc .agrees b l (omega (arith, up, m)) some;
           };
           next = record {
             from = omega (arith, at, up, pl);
@@ -178,7 +179,7 @@ module _ (ws : List ℕ) (first k : ℕ) (hk : k ≤ 4) where
     -- none is left: on to the next word
     pub goes-over : (r : Scan) → bitAnd (c .rest) (c .rest - 1) ≡ 0 → Follows ws first k ((c .word + 1) * 64) r → Follows ws first k (placeOf c + 1) r
     goes-over r e f =
-        let t = tz-pos (c .rest) fit rest-pos .1 in
+        let t = tz-pos (c .rest) (sc .fits) rest-pos .1 in
         let n : c .word * 64 + 64 ≡ (c .word + 1) * 64 = omega arith in
         let gap : Passed ws first k (placeOf c + 1) ((c .word + 1) * 64) = subst (λ (q : ℕ). Passed ws first k (placeOf c + 1) q) n
         (passed-word ws first k (placeOf c + 1) (c .word) (trailingZeros 64 (c .rest) + 1) 64 start (omega arith) (zeros 64 (λ i l u. rw e (no-bit i)) (omega arith))) in
@@ -190,13 +191,6 @@ module _ (ws : List ℕ) (first k : ℕ) (hk : k ≤ 4) where
             none = λ h l u v. ⊎-elim (λ x. gap h l x v) (λ x. f .next .none h x u v) (lt-or-le h ((c .word + 1) * 64));
           };
         }
-
--- a scan by the guide at it
-pub first-guide : {ws : List ℕ} {first k : ℕ} {c : Scan} → Follows ws first k (0 * 64) c → (r : ℕ) → r ≡ placeOf c → NextGuide ws first k 0 r
-first-guide f r e = rw e (f .next)
-
-pub later-guide : {ws : List ℕ} {first k : ℕ} (c : Scan) {c′ : Scan} → Follows ws first k (placeOf c + 1) c′ → (g r : ℕ) → g ≡ placeOf c → r ≡ placeOf c′ → NextGuide ws first k (g + 1) r
-later-guide c f g r eg er = rw (eg, er) (f .next)
 
 -- ---- sums that pass over zeros
 pub sum-run : (F : ℕ → ℕ) (a n : ℕ) → ((h : ℕ) → a ≤ h → h < a + n → F h ≡ 0) → sum F 0 (a + n) ≡ sum F 0 a
@@ -226,6 +220,23 @@ sum-none F = refl
 module _ {m i : ℕ} {cs ws : List ℕ} (ok : Marked m i cs ws) where
   pub empty : (g : ℕ) → g < m → bit (getD ws (i * wordsPer m + g / 64) 0) (g % 64) ≡ 0 → getD cs (cellAt m i g) 0 ≡ 0
   empty g h e = omega (arith, ok .marks g (omega arith), count-in m i g cs h, e)
+
+  -- a guide that is left is one of the m
+  pub place-low : {c : Scan} → Scans ws (i * wordsPer m) (wordsPer m) c → (c .rest ≡ 0 → ⊥) → placeOf c < m
+  place-low {c} sc n =
+      let t = tz-pos (c .rest) (sc .fits) (pos-of-ne-zero n) in
+      let w = sc .inside n in
+      let e = place-some c n in
+      let q : placeOf c / 64 ≡ c .word = omega (arith, e, t .1) in
+      let r : placeOf c % 64 ≡ trailingZeros 64 (c .rest) = omega (arith, e, t .1) in
+      let one : bit (getD ws (i * wordsPer m + placeOf c / 64) 0) (placeOf c % 64) ≡ 1 = rw (q, r) (sym (sc .agrees (trailingZeros 64 (c .rest)) (t .1) (omega arith) n) ∙ t .0) in
+      ⊎-elim (λ l. l) (λ l. absurd (omega (arith, one, ok .marks (placeOf c) (omega (arith, e, t .1, w)), count-out m i (placeOf c) cs l))) (lt-or-le (placeOf c) m)
+
+  pub place-below : {c : Scan} → Scans ws (i * wordsPer m) (wordsPer m) c → (c .rest ≡ 0 → ⊥) → placeOf c < 256
+  place-below sc n = omega (arith, place-low sc n, ok .guides)
+
+  pub place-ended : (c : Scan) → c .rest ≡ 0 → m ≤ placeOf c
+  place-ended c e = omega (arith, place-none c e, ok .guides)
 
   -- from guide a to the next one nothing is there
   pub between : (a r : ℕ) → NextGuide ws (i * wordsPer m) (wordsPer m) a r → (h : ℕ) → a ≤ h → h < min r m → getD cs (cellAt m i h) 0 ≡ 0

@@ -17,11 +17,7 @@ use Rattle.spec.proofs.Plans.{facts, pixel-of}
 use Rattle.spec.proofs.Totals.{median-low}
 use Rattle.spec.proofs.Climb.{guided-full}
 use Rattle.window.specs.declared.sums.Sums.{Sums}
-use Rattle.window.specs.declared.line.Step.{Step}
-use Rattle.window.specs.Line.{Adjacent, StepInPlanes, stepOf}
-use Rattle.window.proofs.PixelLaws.{plan-limits}
-use Rattle.window.proofs.LineLaws.{lines-in}
-use Rattle.levels.specs.declared.answer.Arrival.{Arrival}
+use Rattle.levels.specs.declared.search.Found.{Found}
 use Rattle.levels.specs.declared.tally.Tally.{Tally}
 use Rattle.levels.specs.Answer.{Profiled, Answered}
 use Rattle.histogram.specs.Histogram.{Histogram}
@@ -70,15 +66,10 @@ module _ {b : List ℕ} {z : Plan} (pl : Planned b z) where
         })
 
   -- ---- kind 2: the answer is a level
-  module _ {s t c n : ℕ} (hs : s < z .width) (ht : t < z .height) (two : z .kind ≡ 2) {r : Arrival} (h : Answered (frameOf b) s t c n r) where
+  module _ {s t c n : ℕ} (hs : s < z .width) (ht : t < z .height) (two : z .kind ≡ 2) {f : Found} (h : Answered (frameOf b) s t c n f) where
     cut-is : arrive (frameOf b) s t c n .cut ≡ median (frameOf b) s t
     unfolding arrive
     cut-is = rw (guided-full (pixel-of pl hs ht) (sym (facts pl .kind) ∙ two) .1) refl
 
-    pub answer-low : r .level .0 < frameOf b .set .levels
+    pub answer-low : f .level .0 < frameOf b .set .levels
     answer-low = omega (arith, h .cut, cut-is, median-low (pixel-of pl hs ht))
-
-  -- ---- kind 2: a step
-  module _ {s t s′ t′ : ℕ} (adj : Adjacent z s t s′ t′) {d : Step} (ed : d ≡ stepOf z s t s′ t′) where
-    pub step-in : StepInPlanes z d
-    step-in = rw ed (lines-in (plan-limits pl) adj)

@@ -1,16 +1,15 @@
 -- The rows of weights, what a walk carries, and what a window answers and adds to a walk.
 -- Assumes nothing.
 use mathlib.Core.Path.{_≡_}
-use mathlib.Core.List.{List, _++_}
-use Prim.Native.Nat.{ℕ, _+_, _≤_, _<_}
-use lib.ListN.{length, getD, drop}
+use mathlib.Core.List.{List}
+use Prim.Native.Nat.{ℕ, _+_, _*_, _/_, _%_, _≤_, _<_}
+use lib.ListN.{length, getD}
 use lib.IntN.{ℤ}
 use Rattle.spec.specs.declared.Plan.{Plan}
-use Rattle.spec.specs.Frame.{Frame}
+use Rattle.spec.specs.Frame.{Frame, plane, builtIn}
 use Rattle.spec.specs.Median.{median}
 use Rattle.spec.specs.Joint.{balanceBox}
 use Rattle.spec.specs.Walk.{arrive}
-use Rattle.frame.specs.Weights.{weightCount, tableList}
 use Rattle.window.specs.declared.sums.Sums.{Sums}
 use Rattle.window.specs.Sums.{SumsAt}
 use Rattle.joint.specs.Window.{JointAt}
@@ -32,9 +31,22 @@ pub record Ramp (m : ℕ) (row : List ℕ) : Type 0 where
   pub long : m ≤ length row
   pub is : (f : ℕ) → f < m → getD row f 0 ≡ f
 
--- kind 1's table, decoded
-pub record WeightRows (b : List ℕ) (z : Plan) (row : List ℕ) : Type 0 where
-  pub table : z .kind ≡ 1 → row ≡ tableList b ++ drop (weightCount b) row
+-- the built-in weights from 255 guides below the centre's to 255 above
+pub record Mirror (row : List ℕ) : Type 0 where
+  pub long : 511 ≤ length row
+  pub is : (k : ℕ) → k < 511 → getD row k 0 ≡ builtIn 255 k
+
+-- a 16-bit number with its bytes exchanged; and m such numbers, which stand in the file from a byte on
+unfoldable pub exchanged : ℕ → ℕ
+exchanged v = v % 256 * 256 + v / 256
+
+pub record Lower (b : List ℕ) (first m : ℕ) (row : List ℕ) : Type 0 where
+  pub long : length row ≡ 256
+  pub is : (g : ℕ) → g < m → exchanged (getD row g 0) ≡ plane b first g
+
+-- what a call makes once: the built-in weights, where the file has no table
+pub record WeightRows (z : Plan) (row : List ℕ) : Type 0 where
+  pub mirror : z .weights ≡ 0 → Mirror row
 
 -- ---- a window's part in a walk, with the cut point c and n shifts before it
 

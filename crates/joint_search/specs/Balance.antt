@@ -9,7 +9,7 @@ use Rattle.spec.specs.declared.Plan.{Plan}
 use Rattle.spec.specs.Frame.{Frame, table, frameOf}
 use Rattle.spec.specs.Checks.{Planned}
 use Rattle.spec.specs.Weight.{weight}
-use Rattle.joint.specs.Line.{side}
+use Rattle.joint.specs.Side.{side}
 use Rattle.joint_search.specs.declared.formula.Formula.{Formula}
 use Rattle.joint_search.specs.Formula.{Weighs}
 

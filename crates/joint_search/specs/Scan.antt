@@ -2,7 +2,7 @@
 -- Assumes nothing.
 use mathlib.Core.Path.{_≡_}
 use mathlib.Core.List.{List}
-use Prim.Native.Nat.{ℕ, _+_, _*_, _/_, _%_, _≤_, _<_, min}
+use Prim.Native.Nat.{ℕ, _+_, _*_, _/_, _%_, _^_, _≤_, _<_, min}
 use lib.Count.{trailingZeros}
 use lib.Dec.{eqb}
 use lib.ListN.{length, getD}
@@ -24,6 +24,7 @@ placeOf c = if eqb (c .rest) 0 then 256 else c .word * 64 + trailingZeros 64 (c 
 
 -- where anything is left, the scan is at one of the k words, and from its place on has that word's bits
 pub record Scans (ws : List ℕ) (first k : ℕ) (c : Scan) : Type 0 where
+  pub fits : c .rest < 2 ^ 64
   pub inside : (c .rest ≡ 0 → ⊥) → c .word < k
   pub agrees : (b : ℕ) → b < 64 → trailingZeros 64 (c .rest) ≤ b → (c .rest ≡ 0 → ⊥) → bit (c .rest) b ≡ bit (getD ws (first + c .word) 0) b
 

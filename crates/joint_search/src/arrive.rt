@@ -10,6 +10,7 @@ use window::pixel;
 ghost use mathlib.Core.Path.{_≡_};
 ghost use mathlib.Core.Bool.{true};
 ghost use Prim.Native.Nat.{_<_};
+ghost use lib.IntN.{pos};
 ghost use Rattle.spec.specs.Frame.{frameOf};
 ghost use Rattle.spec.specs.Weight.{monotone};
 ghost use Rattle.spec.specs.Median.{balance, weightless};
@@ -77,11 +78,12 @@ pub fn is_weightless(
     none_weighs(file, z, weights, w, s, t, counts, words)
 }
 
-// The arrival.
-pub fn arrive_table(
+// The arrival, by a row that weighs the window.
+pub fn arrive_by(
     file: &[u8],
     z: Plan,
     weights: &[u16],
+    w: Formula,
     s: usize,
     t: usize,
     cut: Level,
@@ -90,12 +92,11 @@ pub fn arrive_table(
     counts: &[u16],
     words: &[u64],
 ) -> Arrival
-    requires { ⌜ (Counted (now file) z s t (now counts) (now words)) × (WeightRows (now file) z (now weights)) × (z .kind ≡ 1) ⌝ }
+    requires { ⌜ (Ready (now file) z s t (now counts) (now words) (now weights) w) × (z .kind ≡ 1) × (w .slope ≡ pos 1) × (w .offset ≡ pos 0) ⌝ }
     requires { ⌜ (cut .0 < frameOf (now file) .set .levels) × (shifts < 1099511627776) × (now cells ≡ balanceBox (frameOf (now file)) s t (cut .0)) ⌝ }
     ensures { λ r. ⌜ Arrives (frameOf (now (file .entry))) s t (cut .0) shifts r (now (cells .exit)) ⌝ }
 {
     let m = z.guides;
-    let w = rows::table_formula(file, z, weights, s, t);
     let bal = formula::box_balance(cells, weights, w, m);
     if is_weightless(file, z, weights, w, s, t, cut, bal, counts, words) {
         let own = pixel::level_at(file, z, t * z.width + s);
@@ -125,4 +126,47 @@ pub fn arrive_table(
         cut: level,
         shifts: found.shifts,
     }
+}
+
+// The arrival: by the built-in weights, or by the file's own row of the centre's guide.
+pub fn arrive_table(
+    file: &[u8],
+    z: Plan,
+    weights: &[u16],
+    s: usize,
+    t: usize,
+    cut: Level,
+    shifts: u64,
+    cells: &mut [i16; 256],
+    counts: &[u16],
+    words: &[u64],
+) -> Arrival
+    requires { ⌜ (Counted (now file) z s t (now counts) (now words)) × (WeightRows z (now weights)) × (z .kind ≡ 1) ⌝ }
+    requires { ⌜ (cut .0 < frameOf (now file) .set .levels) × (shifts < 1099511627776) × (now cells ≡ balanceBox (frameOf (now file)) s t (cut .0)) ⌝ }
+    ensures { λ r. ⌜ Arrives (frameOf (now (file .entry))) s t (cut .0) shifts r (now (cells .exit)) ⌝ }
+{
+    if z.weights == 0 {
+        let built = rows::built_formula(file, z, weights, s, t);
+        return arrive_by(
+            file,
+            z,
+            weights,
+            built,
+            s,
+            t,
+            cut,
+            shifts,
+            cells,
+            counts,
+            words,
+        );
+    }
+    let centre = pixel::guide_at(file, z, t * z.width + s);
+    let row = rows::own_row(file, z, centre);
+    let own = Formula {
+        row: 0,
+        slope: 1,
+        offset: 0,
+    };
+    arrive_by(file, z, &row, own, s, t, cut, shifts, cells, counts, words)
 }

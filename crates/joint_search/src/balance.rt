@@ -21,7 +21,7 @@ ghost use Rattle.spec.specs.Frame.{frameOf};
 ghost use Rattle.spec.specs.Checks.{Planned};
 ghost use Rattle.spec.specs.Median.{balance};
 ghost use Rattle.window.specs.Line.{InPlanes, lineFold};
-ghost use Rattle.joint.specs.Line.{side};
+ghost use Rattle.joint.specs.Side.{side};
 ghost use Rattle.joint_search.specs.Formula.{Weighs};
 ghost use Rattle.joint_search.specs.Arrive.{Ramp};
 ghost use Rattle.joint_search.specs.Balance.{signedWeight, Weighed, TableRow};

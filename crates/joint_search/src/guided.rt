@@ -3,11 +3,12 @@
 use crate::find;
 use crate::visit::Visit;
 use levels::answer;
+use levels::search;
 use levels::tally;
 use levels::tally::Tally;
 use spec::Level;
 use spec::Plan;
-use window::line::Step;
+use window::coefficients;
 use window::sums;
 use window::sums::Sums;
 ghost use mathlib.Core.Path.{_≡_};
@@ -15,9 +16,9 @@ ghost use Prim.Native.Nat.{_+_, _<_, _≤_};
 ghost use Rattle.spec.specs.Frame.{frameOf};
 ghost use Rattle.spec.specs.Checks.{Planned};
 ghost use Rattle.spec.specs.Joint.{balanceBox};
-ghost use Rattle.window.specs.Line.{Adjacent, stepOf};
 ghost use Rattle.window.specs.Sums.{SumsAt};
-ghost use Rattle.levels.specs.Tally.{BelowAt, Carries};
+ghost use Rattle.levels.specs.Tally.{BelowAt};
+ghost use Rattle.levels.specs.ListTally.{Carries};
 ghost use Rattle.histogram.specs.Histogram.{Blank, Histogram};
 ghost use Rattle.joint_search.specs.Search.{Counted};
 ghost use Rattle.joint_search.specs.Arrive.{Guided, Answers};
@@ -30,16 +31,18 @@ pub fn tally_below(file: &[u8], z: Plan, numbers: &[u32], s: usize, t: usize, en
 {
     let l = z.levels;
     let last = l + l;
-    answer::below(file, z, &numbers[0..l], &numbers[l..last], s, t, end)
+    search::gather(&numbers[0..l], &numbers[l..last], end)
 }
 
-// The window's answer, and the box moved to it; before is the tally of the window that the step d came from.
+// The window's answer, and the box moved to it; before is the tally of the window that the two lists lead from. Only a monotone window needs it, and it is
+// carried there alone.
 pub fn arrive(
     file: &[u8],
     z: Plan,
     a: Sums,
     before: Tally,
-    d: Step,
+    entering: &[u16],
+    leaving: &[u16],
     s: usize,
     t: usize,
     cut: Level,
@@ -50,27 +53,27 @@ pub fn arrive(
     numbers: &[u32],
 ) -> Visit
     requires { ⌜ (Counted (now file) z s t (now counts) (now words)) × (z .kind ≡ 2) × (Histogram (frameOf (now file)) s t (now numbers)) ⌝ }
-    requires { ⌜ (SumsAt (frameOf (now file)) s t a) × (Carries (now file) z d s t (cut .0 + 1) before) ⌝ }
+    requires { ⌜ (SumsAt (frameOf (now file)) s t a) × (Carries (frameOf (now file)) (now entering) (now leaving) s t (cut .0 + 1) before) ⌝ }
     requires { ⌜ (cut .0 < z .levels) × (shifts ≤ 4294967296) × (now cells ≡ balanceBox (frameOf (now file)) s t (cut .0)) ⌝ }
     ensures { λ r. ⌜ Answers (frameOf (now (file .entry))) s t (cut .0) shifts r (now (cells .exit)) (now (numbers .entry)) ⌝ }
 {
     let l = z.levels;
     let last = l + l;
+    let k = answer::coefficients_at(file, z, a, s, t);
+    let monotone = coefficients::monotone(z, k);
+    let below = tally::carried_where(monotone, before, entering, leaving, cut.0 as usize + 1);
     let r = answer::answer(
-        file,
-        z,
         &numbers[0..l],
         &numbers[l..last],
-        d,
-        s,
-        t,
-        a,
-        before,
+        k,
+        z.guides,
+        monotone,
+        below,
         cut,
         shifts,
     );
     let level = r.level;
-    let tally = r.below;
+    let tally = r.tally;
     find::move_to(file, z, s, t, cut, level, cells, counts, words);
     Visit {
         sums: a,
@@ -101,59 +104,19 @@ pub fn enter(
     histogram::start(file, z, s, t, numbers);
     let a = sums::start(file, z, s, t);
     let below = tally_below(file, z, numbers, s, t, cut.0 as usize + 1);
-    let still = tally::still();
+    let entering = [0u16; 2];
+    let leaving = [0u16; 2];
     arrive(
         file,
         z,
         a,
         below,
-        still,
+        &entering[0..0],
+        &leaving[0..0],
         s,
         t,
         cut,
         shifts,
-        cells,
-        counts,
-        words,
-        numbers,
-    )
-}
-
-// From the visit v at (s, t) to the neighbour (s2, t2) by the lines d, the stores and the box being moved.
-pub fn slide(
-    file: &[u8],
-    z: Plan,
-    v: Visit,
-    d: Step,
-    s: usize,
-    t: usize,
-    s2: usize,
-    t2: usize,
-    cells: &mut [i16; 256],
-    counts: &[u16],
-    words: &[u64],
-    numbers: &mut [u32],
-) -> Visit
-    requires { ⌜ (Counted (now file) z s2 t2 (now counts) (now words)) × (z .kind ≡ 2) × (Adjacent z s t s2 t2) × (d ≡ stepOf z s t s2 t2) ⌝ }
-    requires { ⌜ Guided (frameOf (now file)) s t (v .cut .0) (v .sums) (v .below) (now numbers) ⌝ }
-    requires { ⌜ (v .cut .0 < z .levels) × (v .shifts ≤ 4294967296) × (now cells ≡ balanceBox (frameOf (now file)) s2 t2 (v .cut .0)) ⌝ }
-    ensures { λ r. ⌜ Answers (frameOf (now (file .entry))) s2 t2 (v .cut .0) (v .shifts) r (now (cells .exit)) (now (numbers .exit)) ⌝ }
-{
-    let cut = v.cut;
-    let before = v.sums;
-    let low = v.below;
-    let a = sums::moved(file, z, before, d);
-    histogram::slide(file, z, d, s, t, s2, t2, numbers);
-    arrive(
-        file,
-        z,
-        a,
-        low,
-        d,
-        s2,
-        t2,
-        cut,
-        v.shifts,
         cells,
         counts,
         words,

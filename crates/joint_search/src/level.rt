@@ -29,13 +29,12 @@ pub fn level_sums(
     let mut pixels: u32 = 0;
     let mut dot: u32 = 0;
     let mut c = scan::begin(words, first, k, 0);
-    let mut g = scan::guide(c).0 as usize;
-    while g < m {
+    while c.rest != 0 {
+        let g = scan::guide(c).0 as usize;
         let n = counts[base + g] as u32;
         pixels = pixels + n;
         dot = dot + n * (weights[at + g] as u32);
         c = scan::next(words, first, k, c);
-        g = scan::guide(c).0 as usize;
     }
     LevelSums {
         pixels: pixels,

@@ -1,5 +1,5 @@
-// The occupied guides of a level, stepped through by its occupancy words. What is left of the word at hand is carried on, so that the next guide waits
-// for no load.
+// The occupied guides of a level, stepped through by its occupancy words. What is left of the word at hand is carried on, so that the next guide
+// waits for no load.
 use spec::Guide;
 ghost use mathlib.Core.Path.{_≡_};
 ghost use Prim.Native.Nat.{_+_, _*_, _≤_, _<_};
@@ -12,14 +12,11 @@ pub struct Scan {
     pub rest: u64,
 }
 
-// The guide at the scan; 256 where none is left.
+// The guide at the scan, one being left.
 pub fn guide(c: Scan) -> Guide
-    requires { ⌜ placeOf c ≤ 256 ⌝ }
+    requires { ⌜ placeOf c < 256 ⌝ }
     ensures { λ r. ⌜ r .0 ≡ placeOf c ⌝ }
 {
-    if c.rest == 0 {
-        return Guide(256);
-    }
     Guide((c.word * 64) as u16 + (u64::trailing_zeros(c.rest) as u16))
 }
 

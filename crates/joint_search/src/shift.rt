@@ -33,10 +33,9 @@ pub fn shift_level(
     let first = i * k;
     let base = i * m;
     let mut c = scan::begin(words, first, k, 0);
-    let mut g = scan::guide(c).0 as usize;
-    while g < m {
+    while c.rest != 0 {
+        let g = scan::guide(c).0 as usize;
         cells[g] = plus_times(cells[g], by, counts[base + g]);
         c = scan::next(words, first, k, c);
-        g = scan::guide(c).0 as usize;
     }
 }

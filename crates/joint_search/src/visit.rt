@@ -2,9 +2,10 @@
 // the visit on.
 use crate::arrive;
 use crate::guided;
-use joint::slide as store_slide;
+use joint::list;
 use joint::start as store_start;
 use levels::tally::Tally;
+use pixels::sums;
 use spec::Level;
 use spec::Plan;
 use window::line;
@@ -41,7 +42,7 @@ pub fn table_visit(
     counts: &[u16],
     words: &[u64],
 ) -> Visit
-    requires { ⌜ (Counted (now file) z s t (now counts) (now words)) × (WeightRows (now file) z (now weights)) × (z .kind ≡ 1) ⌝ }
+    requires { ⌜ (Counted (now file) z s t (now counts) (now words)) × (WeightRows z (now weights)) × (z .kind ≡ 1) ⌝ }
     requires { ⌜ (cut .0 < z .levels) × (shifts ≤ 4294967296) × (now cells ≡ balanceBox (frameOf (now file)) s t (cut .0)) ⌝ }
     ensures { λ r. ⌜ Says (frameOf (now (file .entry))) s t (cut .0) shifts r (now (cells .exit)) ⌝ }
 {
@@ -78,7 +79,7 @@ pub fn enter(
     numbers: &mut [u32],
 ) -> Visit
     requires { ⌜ (Fresh (now file) z s t (now counts) (now words)) × (Blank (z .levels) (now numbers)) ⌝ }
-    requires { ⌜ (WeightRows (now file) z (now weights)) × (cut .0 < z .levels) × (shifts ≤ 4294967296) ⌝ }
+    requires { ⌜ (WeightRows z (now weights)) × (cut .0 < z .levels) × (shifts ≤ 4294967296) ⌝ }
     ensures { λ r. ⌜ Visited (frameOf (now (file .entry))) s t (cut .0) shifts r (now (counts .entry)) (now (words .entry)) (now (counts .exit)) (now (words .exit)) (now (cells .exit)) (now (numbers .exit)) ⌝ }
 {
     store_start::build(file, z, s, t, cut, cells, counts, words);
@@ -104,14 +105,45 @@ pub fn slide(
     numbers: &mut [u32],
 ) -> Visit
     requires { ⌜ (Held (now file) z s t (v .cut .0) (now counts) (now words) (now cells)) × (Adjacent z s t s2 t2) × (Carried (frameOf (now file)) s t (v .cut .0) (v .sums) (v .below) (now numbers)) ⌝ }
-    requires { ⌜ (WeightRows (now file) z (now weights)) × (v .cut .0 < z .levels) × (v .shifts ≤ 4294967296) ⌝ }
+    requires { ⌜ (WeightRows z (now weights)) × (v .cut .0 < z .levels) × (v .shifts ≤ 4294967296) ⌝ }
     ensures { λ r. ⌜ Visited (frameOf (now (file .entry))) s2 t2 (v .cut .0) (v .shifts) r (now (counts .entry)) (now (words .entry)) (now (counts .exit)) (now (words .exit)) (now (cells .exit)) (now (numbers .exit)) ⌝ }
 {
     let d = line::step_to(z, s, t, s2, t2);
+    let mut entering = [0u16; 62];
+    let mut leaving = [0u16; 62];
+    let n = pixels::read(file, z, d.entering, &mut entering);
+    let k = pixels::read(file, z, d.leaving, &mut leaving);
     let cut = v.cut;
-    store_slide::slide(file, z, d, s, t, s2, t2, cut, cells, counts, words);
+    list::exchange(
+        &entering[0..n],
+        &leaving[0..k],
+        z.guides,
+        cut,
+        cells,
+        counts,
+        words,
+    );
     if z.kind == 2 {
-        return guided::slide(file, z, v, d, s, t, s2, t2, cells, counts, words, numbers);
+        let known = v.sums;
+        let below = v.below;
+        let a = sums::moved(known, &entering[0..n], &leaving[0..k]);
+        histogram::exchange(&entering[0..n], &leaving[0..k], z.levels, numbers);
+        return guided::arrive(
+            file,
+            z,
+            a,
+            below,
+            &entering[0..n],
+            &leaving[0..k],
+            s2,
+            t2,
+            cut,
+            v.shifts,
+            cells,
+            counts,
+            words,
+            numbers,
+        );
     }
     table_visit(
         file,

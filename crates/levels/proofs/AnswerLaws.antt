@@ -28,19 +28,21 @@ use Rattle.spec.proofs.First.{first-unique}
 use Rattle.spec.proofs.Ranges.{natSums}
 use Rattle.spec.proofs.Sums.{over-inWindow, over-both, over-constant, over-mono, over-scale, over-pos}
 use Rattle.spec.proofs.Limits.{Pixel}
-use Rattle.spec.proofs.Plans.{facts}
+use Rattle.spec.proofs.Plans.{facts, pixel-of, place-low}
 use Rattle.spec.proofs.Levels.{levelWeight, weight-linear, level-linear}
 use Rattle.spec.proofs.Totals.{le-leZ, leZ-le, le-balance, balance-le, median-first, median-low}
 use Rattle.spec.proofs.Monotone.{monotone-none, balance-mono}
 use Rattle.spec.proofs.Climb.{cumulativeBelow, cumulativeBelow-zero, cumulativeBelow-suc, cumulativeBelow-next, guided-full}
 use Rattle.window.specs.declared.coefficients.Coefficients.{Coefficients}
-use Rattle.window.specs.Coefficients.{WeighsAt, CoefficientsSmall}
+use Rattle.window.specs.Coefficients.{WeighsAt, CoefficientsSmall, endsNotNegative}
+use Rattle.window.proofs.PixelLaws.{guides-high, guide-low}
+use Rattle.window.proofs.CoefficientLaws.{ends-monotone}
 use Rattle.levels.specs.declared.tally.Tally.{Tally}
 use Rattle.levels.specs.declared.search.Found.{Found}
 use Rattle.levels.specs.Tally.{belowSum, BelowAt}
 use Rattle.levels.specs.Search.{sumTo, TallyTo, weightOf, passes, firstLevel, LevelCells, Searchable, Rising, FoundAt}
 use Rattle.levels.specs.Block.{EndsBelow, Heaviest}
-use Rattle.levels.specs.Answer.{Profiled, Answered}
+use Rattle.levels.specs.Answer.{Profiled, Answerable, Answered}
 use Rattle.levels.proofs.SearchLaws.{sumTo-none, sumTo-more}
 use Rattle.levels.proofs.BlockLaws.{formula-below}
 use Rattle.levels.proofs.TallyLaws.{below-count-high, below-guide-high}
@@ -173,7 +175,7 @@ module _ {p : Frame} {s t : ℕ} (q : Pixel p s t) {counts sums : List ℕ} (c :
 -- ---- what is answered
 pub answered : {p : Frame} {s t : ℕ} → Pixel p s t → {counts sums : List ℕ} → Profiled p s t counts sums → p .set .kind ≡ 2 → {k : Coefficients} → WeighsAt p s t k → {c n : ℕ} {f : Found} {m : Bool}
     → m ≡ monotone p s t → FoundAt k counts sums f → f .shifts ≡ n + (if m then distance (f .level .0) c else f .level .0)
-    → Answered p s t c n (record { below = f .tally; level = f .level; shifts = f .shifts })
+    → Answered p s t c n f
 unfolding arrive
 answered {p} {s} {t} q cells two w {c} {n} {f} {m} em e sh =
     let h = guided-full q two .1 in
@@ -184,3 +186,38 @@ answered {p} {s} {t} q cells two w {c} {n} {f} {m} em e sh =
       shifts = rw h (sh ∙ rw (em, l) refl);
       below = tally-below q cells (omega (arith, l, median-low q)) (e .tally);
     }
+
+-- ---- what a way asks and gets, of its window's two lists and its coefficients
+module _ {b : List ℕ} {z : Plan} (pl : Planned b z) (two : z .kind ≡ 2) {s t : ℕ} (hs : s < z .width) (ht : t < z .height) where
+  pub guides-range : (1 ≤ z .guides) × (z .guides ≤ 256)
+  guides-range = (omega (arith, guide-low pl (place-low z s t hs ht)), guides-high pl)
+
+  q : Pixel (frameOf b) s t
+  q = pixel-of pl hs ht
+
+  module _ {k : Coefficients} (w : WeighsAt (frameOf b) s t k × CoefficientsSmall k) {counts sums : List ℕ} (v : Profiled (frameOf b) s t counts sums) {m : Bool} (em : m ≡ endsNotNegative k (z .guides)) where
+    is-monotone : m ≡ monotone (frameOf b) s t
+    is-monotone = em ∙ ends-monotone pl two (w .0)
+
+    pub answerable : {c n : ℕ} {a : Tally} → c < z .levels → n ≤ 4294967296 → (m ≡ true → BelowAt (frameOf b) s t (c + 1) a) → Answerable k (z .guides) m c n a counts sums
+    answerable lc ln below = record {
+      search = searchable q v (guided pl two) (w .0) (w .1);
+      heaviest = λ y e. heaviest q v (guided pl two) (w .0) (rw (facts pl .guides) at e);
+      guides-some = guides-range .0;
+      guides-high = guides-range .1;
+      cut = omega (arith, v .count-long, facts pl .levels);
+      shifts = ln;
+      tally = λ e. below-tally q v (omega (arith, facts pl .levels)) (below e);
+      rising = λ e. rising q v (guided pl two) (w .0) (sym is-monotone ∙ e);
+    }
+
+    pub answered-at : {c n : ℕ} {f : Found} → FoundAt k counts sums f → f .shifts ≡ n + (if m then distance (f .level .0) c else f .level .0) → Answered (frameOf b) s t c n f
+    answered-at e sh = answered q v (guided pl two) (w .0) is-monotone e sh
+
+-- ---- the tally of the levels below an end
+module _ {b : List ℕ} {z : Plan} (pl : Planned b z) {s t : ℕ} (hs : s < z .width) (ht : t < z .height) {counts sums : List ℕ} (v : Profiled (frameOf b) s t counts sums) {n : ℕ} (h : n ≤ z .levels) where
+  pub gather-asks : LevelCells counts sums × (n ≤ length counts)
+  gather-asks = (level-cells (pixel-of pl hs ht) v, omega (arith, v .count-long, facts pl .levels))
+
+  pub gathered : {a : Tally} → TallyTo counts sums n a → BelowAt (frameOf b) s t n a
+  gathered u = tally-below (pixel-of pl hs ht) v (omega (arith, facts pl .levels)) u

@@ -2,3 +2,4 @@ pub mod SearchLaws
 pub mod BlockLaws
 pub mod TallyLaws
 pub mod AnswerLaws
+pub mod ListTallyLaws

@@ -61,12 +61,22 @@ module _ {counts sums : List ℕ} where
     unfolding firstLevel
     first-here {i} f h e = sym (first-unique (passes k counts sums) (length counts) i (record { within = omega arith; passes = λ _. e; before = f .fails }))
 
-    pub fail-all : Searchable k counts sums → {i : ℕ} → length counts ≤ i → FailTo k counts sums i → ⊥
+    -- some level passes, so those that fall short are not all
+    pub fail-inside : Searchable k counts sums → {i : ℕ} → FailTo k counts sums i → i < length counts
     unfolding firstLevel
-    fail-all q {i} h f =
-        let a = first-is (passes k counts sums) (length counts) .passes (q .some) in
-        let b = f .fails (firstLevel k counts sums) (omega (arith, q .some)) in
-        true≢false (sym a ∙ b)
+    fail-inside q {i} f = go (native.Mathlib.Decide.decLt (firstLevel k counts sums) i)
+      where
+        go : Dec (firstLevel k counts sums < i) → i < length counts
+        go (yes h) = absurd (true≢false (sym (first-is (passes k counts sums) (length counts) .passes (q .some)) ∙ f .fails (firstLevel k counts sums) h))
+        go (no h) = omega (arith, q .some)
+
+    -- and where all but the last do, it passes
+    pub pass-last : Searchable k counts sums → {i : ℕ} → length counts ≤ i + 1 → FailTo k counts sums i → passes k counts sums i ≡ true
+    pass-last q {i} h f = go (passes k counts sums i) refl
+      where
+        go : (b : Bool) → passes k counts sums i ≡ b → passes k counts sums i ≡ true
+        go true e = e
+        go false e = absurd (omega (arith, fail-inside q (fail-next f e)))
 
     -- below a level that falls short every level does, where the cumulative weight never falls
     pub fail-below : Rising k counts sums → {c : ℕ} → c < length counts → passes k counts sums c ≡ false → FailTo k counts sums (c + 1)
@@ -91,7 +101,7 @@ shifted-back shifts cut e h l = rw e (h, l)
 -- ---- upward: the levels below i fall short
 pub record Ascending (k : Coefficients) (counts sums : List ℕ) (from n s i : ℕ) : Type 0 where
   pub from-low : from ≤ i
-  pub to : i ≤ length counts
+  pub to : i < length counts
   pub tally : TallyTo counts sums i (tally n s)
   pub fails : FailTo k counts sums i
 

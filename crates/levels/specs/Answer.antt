@@ -1,15 +1,20 @@
 -- The window's counts and guide sums of each level as two lists, and what is answered from them.
 -- Assumes nothing.
 use mathlib.Core.Path.{_≡_}
+use mathlib.Core.Bool.{Bool, true}
 use mathlib.Core.List.{List}
-use Prim.Native.Nat.{ℕ, _+_, _<_}
+use Prim.Native.Nat.{ℕ, _+_, _≤_, _<_}
 use lib.ListN.{length, getD}
+use lib.IntN.{ℤ}
 use Rattle.spec.specs.Frame.{Frame, guide}
 use Rattle.spec.specs.Window.{levelSum}
 use Rattle.spec.specs.Walk.{arrive}
-use Rattle.levels.specs.declared.answer.Arrival.{Arrival}
+use Rattle.window.specs.declared.coefficients.Coefficients.{Coefficients}
+use Rattle.levels.specs.declared.tally.Tally.{Tally}
 use Rattle.levels.specs.declared.search.Found.{Found}
 use Rattle.levels.specs.Tally.{BelowAt}
+use Rattle.levels.specs.Search.{TallyTo, Searchable, Rising}
+use Rattle.levels.specs.Block.{EndsBelow, Heaviest}
 
 -- the two lists are those of the window at (s, t)
 pub record Profiled (p : Frame) (s t : ℕ) (counts sums : List ℕ) : Type 0 where
@@ -18,12 +23,21 @@ pub record Profiled (p : Frame) (s t : ℕ) (counts sums : List ℕ) : Type 0 wh
   pub count-cell : (i : ℕ) → i < p .set .levels → getD counts i 0 ≡ levelSum p s t (λ x y. 1) i
   pub sum-cell : (i : ℕ) → i < p .set .levels → getD sums i 0 ≡ levelSum p s t (guide p) i
 
-abbrev pub arrivalOf : Found → Arrival
-arrivalOf f = record { below = f .tally; level = f .level; shifts = f .shifts }
+-- what an answer asks, by the coefficients k over so many guides: a search that ends, and what no pixel outweighs; from the cut point c of a monotone window
+-- also the tally of the levels up to it, and that the cumulative weight never falls
+pub record Answerable (k : Coefficients) (guides : ℕ) (monotone : Bool) (c n : ℕ) (a : Tally) (counts sums : List ℕ) : Type 0 where
+  pub search : Searchable k counts sums
+  pub heaviest : (w : ℤ) → EndsBelow k guides w → Heaviest k counts sums w
+  pub guides-some : 1 ≤ guides
+  pub guides-high : guides ≤ 256
+  pub cut : c < length counts
+  pub shifts : n ≤ 4294967296
+  pub tally : monotone ≡ true → TallyTo counts sums (c + 1) a
+  pub rising : monotone ≡ true → Rising k counts sums
 
 -- come to (s, t) with the cut point c and the shift count n: the answer is the new cut point, and the tally is that of the levels up to it
-pub record Answered (p : Frame) (s t c n : ℕ) (r : Arrival) : Type 0 where
-  pub said : r .level .0 ≡ arrive p s t c n .said
-  pub cut : r .level .0 ≡ arrive p s t c n .cut
-  pub shifts : r .shifts ≡ arrive p s t c n .shifts
-  pub below : BelowAt p s t (r .level .0 + 1) (r .below)
+pub record Answered (p : Frame) (s t c n : ℕ) (f : Found) : Type 0 where
+  pub said : f .level .0 ≡ arrive p s t c n .said
+  pub cut : f .level .0 ≡ arrive p s t c n .cut
+  pub shifts : f .shifts ≡ arrive p s t c n .shifts
+  pub below : BelowAt p s t (f .level .0 + 1) (f .tally)

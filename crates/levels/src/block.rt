@@ -1,9 +1,10 @@
-// Blocks of 16 levels. A climb passes over a block at once where its pixels, were each as heavy as a pixel can be, would not lift the cumulative weight to
-// half of the total: in most windows most levels are empty or far below the answer.
+// Blocks of 16 levels. A climb passes over a block at once where its pixels, were each as heavy as a pixel can be, would not lift the cumulative weight
+// to half of the total: in most windows most levels are empty or far below the answer.
+use spec::Level;
 use window::coefficients::Coefficients;
 ghost use mathlib.Core.Path.{_≡_};
 ghost use mathlib.Core.Bool.{true};
-ghost use Prim.Native.Nat.{ℕ, _+_, _≤_};
+ghost use Prim.Native.Nat.{ℕ, _+_, _<_, _≤_};
 ghost use lib.IntN.{natAbs};
 ghost use lib.ListN.{length};
 ghost use lib.Signed.{_≤ℤ_};
@@ -34,11 +35,12 @@ pub fn heaviest(k: Coefficients, guides: usize) -> i64
     larger(low, high)
 }
 
-// The sum of the block that begins at a place.
-pub fn total(numbers: &[u32], at: usize) -> usize
-    requires { ⌜ (at + 16 ≤ length (now numbers)) × (length (now numbers) ≤ 1024) × (sumTo (now numbers) (at + 16) ≤ 245055) ⌝ }
-    ensures { λ r. ⌜ r + sumTo (now (numbers .entry)) at ≡ sumTo (now (numbers .entry)) (at + 16) ⌝ }
+// The sum of the block that begins at a level.
+pub fn total(numbers: &[u32], from: Level) -> usize
+    requires { ⌜ (from .0 + 16 ≤ length (now numbers)) × (length (now numbers) ≤ 1024) × (sumTo (now numbers) (from .0 + 16) ≤ 245055) ⌝ }
+    ensures { λ r. ⌜ r + sumTo (now (numbers .entry)) (from .0) ≡ sumTo (now (numbers .entry)) (from .0 + 16) ⌝ }
 {
+    let at = from.0 as usize;
     let mut sum: u32 = 0;
     let mut j: usize = 0;
     while j < BLOCK {
@@ -48,26 +50,27 @@ pub fn total(numbers: &[u32], at: usize) -> usize
     sum as usize
 }
 
-// Whether a whole block begins at level i and cannot reach half; count and sum are the tally of the levels below it.
+// Whether a whole block begins at the level and cannot reach half; count and sum are the tally of the levels below it.
 pub fn light(
     counts: &[u32],
     k: Coefficients,
     heaviest: i64,
-    i: usize,
+    from: Level,
     count: usize,
     sum: usize,
 ) -> bool
     requires { ⌜ (CoefficientsSmall k) × (natAbs heaviest ≤ 240207812100) × (count ≤ 961) × (sum ≤ 245055) ⌝ }
-    requires { ⌜ (i ≤ length (now counts)) × (length (now counts) ≤ 1024) × ((n : ℕ) → n ≤ length (now counts) → sumTo (now counts) n ≤ 961) ⌝ }
-    ensures { λ r. ⌜ (r ≡ true → Light k heaviest (now (counts .entry)) i count sum) ⌝ }
+    requires { ⌜ (from .0 < length (now counts)) × (length (now counts) ≤ 1024) × ((n : ℕ) → n ≤ length (now counts) → sumTo (now counts) n ≤ 961) ⌝ }
+    ensures { λ r. ⌜ (r ≡ true → Light k heaviest (now (counts .entry)) (from .0) count sum) ⌝ }
 {
+    let i = from.0 as usize;
     if i % BLOCK != 0 {
         return false;
     }
     if counts.len() < i + BLOCK {
         return false;
     }
-    let pixels = total(counts, i);
+    let pixels = total(counts, from);
     let most = k.slope * (sum as i64) + k.offset * (count as i64) + heaviest * (pixels as i64);
     2 * most < k.total
 }

@@ -63,8 +63,8 @@ pub fn gather(counts: &[u32], sums: &[u32], end: usize) -> Tally
     }
 }
 
-// Upward from a level below which none passes; a is the tally of the levels below it. Each level that falls short is a shift, also in a block that is passed
-// over: no pixel outweighs the heaviest.
+// Upward from a level below which none passes; a is the tally of the levels below it. Each level that falls short is a shift, also in a block that is
+// passed over: no pixel outweighs the heaviest. Some level passes: where none below the last does, the last is the answer.
 pub fn ascend(
     counts: &[u32],
     sums: &[u32],
@@ -75,35 +75,38 @@ pub fn ascend(
     shifts: u64,
 ) -> Found
     requires { ⌜ (Searchable k (now counts) (now sums)) × (Heaviest k (now counts) (now sums) heaviest) ⌝ }
-    requires { ⌜ (from .0 ≤ length (now counts)) × (shifts ≤ 8589934592) ⌝ }
+    requires { ⌜ (from .0 < length (now counts)) × (shifts ≤ 8589934592) ⌝ }
     requires { ⌜ TallyTo (now counts) (now sums) (from .0) a ⌝ }
     requires { ⌜ FailTo k (now counts) (now sums) (from .0) ⌝ }
     ensures { λ f. ⌜ (FoundAt k (now (counts .entry)) (now (sums .entry)) f) × (f .shifts + from .0 ≡ shifts + f .level .0) × (from .0 ≤ f .level .0) ⌝ }
 {
-    let levels = counts.len();
+    let last = counts.len() - 1;
     let first = from.0 as usize;
     let mut count = a.count;
     let mut sum = a.sum;
     let mut i = first;
-    while i < levels {
-        if block::light(counts, k, heaviest, i, count, sum) {
-            count += block::total(counts, i);
-            sum += block::total(sums, i);
+    while i < last {
+        let level = Level(i as u16);
+        if block::light(counts, k, heaviest, level, count, sum) {
+            count += block::total(counts, level);
+            sum += block::total(sums, level);
             i += BLOCK;
         } else {
             count += counts[i] as usize;
             sum += sums[i] as usize;
             if reached(k, count, sum) {
-                return ended(Level(i as u16), count, sum, shifts + (i - first) as u64);
+                return ended(level, count, sum, shifts + (i - first) as u64);
             }
             i += 1;
         }
     }
+    count += counts[i] as usize;
+    sum += sums[i] as usize;
     ended(Level(i as u16), count, sum, shifts + (i - first) as u64)
 }
 
-// Downward from a cut point that passes, where the cumulative weight never falls; a is the tally of the levels up to it. Each level that still passes below
-// it is a shift.
+// Downward from a cut point that passes, where the cumulative weight never falls; a is the tally of the levels up to it. Each level that still passes
+// below it is a shift.
 pub fn descend(
     counts: &[u32],
     sums: &[u32],

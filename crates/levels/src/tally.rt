@@ -1,15 +1,11 @@
 // The count and the guide sum of the window's pixels below a level, carried over a move by the pixels that leave and enter.
 use spec::Level;
-use spec::Plan;
-use window::line::Line;
-use window::line::Step;
-use window::pixel;
 ghost use mathlib.Core.Path.{_≡_};
+ghost use mathlib.Core.Bool.{true};
 ghost use lib.Dec.{ltb};
 ghost use Rattle.spec.specs.Base.{if_then_else_};
-ghost use Rattle.spec.specs.Checks.{Planned};
-ghost use Rattle.window.specs.Line.{InPlanes, StepInPlanes};
-ghost use Rattle.levels.specs.Tally.{LineTally, TallyMovable, TallyMoved, stillStep};
+ghost use Rattle.pixels.specs.Pixels.{countOf, PixelsBelow};
+ghost use Rattle.levels.specs.ListTally.{ListTally, Carriable, CarriedBy};
 
 pub struct Tally {
     pub count: usize,
@@ -27,24 +23,22 @@ pub fn if_below(i: Level, end: usize, f: usize) -> usize
     0
 }
 
-// Of the pixels of a line.
-pub fn line_tally(file: &[u8], z: Plan, d: Line, end: usize) -> Tally
-    requires { ⌜ Planned (now file) z ⌝ }
-    requires { ⌜ InPlanes z d ⌝ }
-    ensures { λ r. ⌜ LineTally (now (file .entry)) d end (d .count) r ⌝ }
+// Of a list's pixels.
+pub fn list_tally(p: &[u16], end: usize) -> Tally
+    requires { ⌜ PixelsBelow 1024 256 (now p) ⌝ }
+    ensures { λ r. ⌜ ListTally (now (p .entry)) end (countOf (now (p .entry))) r ⌝ }
 {
-    let first = d.first;
-    let stride = d.stride;
-    let pixels = d.count;
+    let n = p.len() / 2;
     let mut count: usize = 0;
     let mut sum: usize = 0;
     let mut k: usize = 0;
-    while k < pixels {
-        let q = first + k * stride;
-        let i = pixel::level_at(file, z, q);
-        let g = pixel::guide_at(file, z, q);
-        count += if_below(i, end, 1);
-        sum += if_below(i, end, g.0 as usize);
+    while k < n {
+        let at = 2 * k;
+        let next = at + 1;
+        let level = Level(p[at]);
+        let f = p[next] as usize;
+        count += if_below(level, end, 1);
+        sum += if_below(level, end, f);
         k += 1;
     }
     Tally {
@@ -53,39 +47,28 @@ pub fn line_tally(file: &[u8], z: Plan, d: Line, end: usize) -> Tally
     }
 }
 
-// A step that moves nothing.
-pub fn still() -> Step
-    ensures { λ d. ⌜ d ≡ stillStep ⌝ }
+// After a step: one list in, one list out.
+pub fn carried(a: Tally, entering: &[u16], leaving: &[u16], end: usize) -> Tally
+    requires { ⌜ (PixelsBelow 1024 256 (now entering)) × (PixelsBelow 1024 256 (now leaving)) ⌝ }
+    requires { ⌜ Carriable (now entering) (now leaving) end a ⌝ }
+    ensures { λ r. ⌜ CarriedBy (now (entering .entry)) (now (leaving .entry)) end a r ⌝ }
 {
-    let leaving = Line {
-        first: 0,
-        stride: 0,
-        count: 0,
-    };
-    let entering = Line {
-        first: 0,
-        stride: 0,
-        count: 0,
-    };
-    Step {
-        leaving: leaving,
-        entering: entering,
-    }
-}
-
-// After a step of the window: one line out, one line in.
-pub fn moved(file: &[u8], z: Plan, a: Tally, d: Step, end: usize) -> Tally
-    requires { ⌜ Planned (now file) z ⌝ }
-    requires { ⌜ StepInPlanes z d ⌝ }
-    requires { ⌜ TallyMovable (now file) d end a ⌝ }
-    ensures { λ r. ⌜ TallyMoved (now (file .entry)) d end a r ⌝ }
-{
-    let leaving = d.leaving;
-    let entering = d.entering;
-    let less = line_tally(file, z, leaving, end);
-    let more = line_tally(file, z, entering, end);
+    let less = list_tally(leaving, end);
+    let more = list_tally(entering, end);
     Tally {
         count: a.count + more.count - less.count,
         sum: a.sum + more.sum - less.sum,
     }
+}
+
+// After a step where that is asked for, else as it was: only a monotone window needs its tally.
+pub fn carried_where(asked: bool, a: Tally, entering: &[u16], leaving: &[u16], end: usize) -> Tally
+    requires { ⌜ (PixelsBelow 1024 256 (now entering)) × (PixelsBelow 1024 256 (now leaving)) ⌝ }
+    requires { ⌜ Carriable (now entering) (now leaving) end a ⌝ }
+    ensures { λ r. ⌜ (asked ≡ true → CarriedBy (now (entering .entry)) (now (leaving .entry)) end a r) ⌝ }
+{
+    if asked {
+        return carried(a, entering, leaving, end);
+    }
+    a
 }

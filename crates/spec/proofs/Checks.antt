@@ -10,11 +10,11 @@ use lib.ListN.{length}
 use borrow.Author.Tests.{ltb-false, leb-false, le-leb, lt-leb, lt-ltb, le-ltb, eqb-true}
 use Rattle.spec.specs.declared.Settings.{Settings}
 use Rattle.spec.specs.declared.Trailer.{Trailer}
-use Rattle.spec.specs.Base.{if_then_else_, first, First}
+use Rattle.spec.specs.Base.{if_then_else_, first}
 use Rattle.spec.specs.Refusal.{Outcome, accepted, refused, _▷_, refuse}
 use Rattle.spec.specs.Frame.{trailerAt, settingsOf, trailerOf, pixels, tableSize, ownWeights, planOf}
 use Rattle.spec.specs.Checks.{outside, badMark, settingsOutcome, badDistance, scan, valueScan, guideScan, tableScan, contents, trailerOutcome, verdict}
-use Rattle.spec.proofs.First.{first-is, first-unique}
+use Rattle.spec.proofs.First.{First, first-is, first-unique}
 
 -- ---- the first that fires
 abbrev pub IsAccepted : Outcome → Type 0

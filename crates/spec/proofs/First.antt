@@ -7,7 +7,13 @@ use Prim.Native.Nat.{ℕ, zero, suc, _+_, _≤_, _<_}
 use native.Mathlib.Nat.{add-zero, zero-add, add-suc, suc-add, not-suc-le-zero, le-of-suc-le-suc}
 use native.Mathlib.Omega.{arith}
 use lib.ListN.{length, getD}
-use Rattle.spec.specs.Base.{if_then_else_, first, tabulateFrom, tabulate, First}
+use Rattle.spec.specs.Base.{if_then_else_, first, tabulateFrom, tabulate}
+
+-- first p n passes the test where it is below n, is at most n, and every number below it fails
+pub record First (p : ℕ → Bool) (n k : ℕ) : Type 0 where
+  pub within : k ≤ n
+  pub passes : k < n → p k ≡ true
+  pub before : (j : ℕ) → j < k → p j ≡ false
 
 clash : {A : Type 0} {b : Bool} → b ≡ true → b ≡ false → A
 clash t f = absurd (true≢false (sym t ∙ f))

@@ -13,14 +13,14 @@ use borrow.Author.Tests.{eqb-true}
 use Rattle.ints.specs.Order.{add-parts, diff-parts, ≤-or->, <-to-≤, mul-pos, mul-cancel-≤, square-nonneg, 0≤pos, pos-<}
 use Rattle.ints.specs.Linear.{ints}
 use Rattle.ints.specs.Polynomial.{_⊕_, _⊖_, _⊗_, opposite, #_, _≐_, solve1, solve3, solve4}
-use Rattle.spec.specs.Base.{if_then_else_, First}
+use Rattle.spec.specs.Base.{if_then_else_}
 use Rattle.spec.specs.declared.Settings.{Settings}
 use Rattle.spec.specs.Frame.{Frame, level, guide}
 use Rattle.spec.specs.Window.{Σℤ, pixelCount, guideSum, squareSum, InWindow}
 use Rattle.spec.specs.Weight.{scaledVariance, variance, deviation, slope, offset}
 use Rattle.spec.specs.Median.{totalWeight, cumulative, balance, isZero, weightless, median, answer}
 use Rattle.spec.proofs.Ranges.{intSums}
-use Rattle.spec.proofs.First.{first-is, first-unique}
+use Rattle.spec.proofs.First.{First, first-is, first-unique}
 use Rattle.spec.proofs.Sums.{over-inWindow, over-add, over-scale, over-pos, over-nonneg, over-term, over-constantℤ}
 use Rattle.spec.specs.Checks.{SettingsLimits}
 use Rattle.spec.proofs.Limits.{FrameLimits, Pixel}

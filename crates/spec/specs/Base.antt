@@ -1,7 +1,6 @@
 -- Choices, sums over ranges and rectangles, the first number that passes a test, and lists made place by place.
 -- Assumes nothing.
-use mathlib.Core.Path.{_≡_}
-use Prim.Native.Nat.{ℕ, zero, suc, _+_, _-_, _≤_, _<_}
+use Prim.Native.Nat.{ℕ, zero, suc, _+_, _-_}
 use mathlib.Core.Bool.{Bool, true, false}
 use mathlib.Core.List.{List, [], _∷_}
 use lib.IntN.{ℤ, pos, _+ℤ_}
@@ -41,12 +40,6 @@ sumℤ = fold _+ℤ_ (pos 0)
 unfoldable pub first : (ℕ → Bool) → ℕ → ℕ
 first p zero = zero
 first p (suc n) = let k = first p n in if p k then k else suc n
-
--- what first p n is: at most n, passing the test where it is below n, and none below it passing
-pub record First (p : ℕ → Bool) (n k : ℕ) : Type 0 where
-  pub within : k ≤ n
-  pub passes : k < n → p k ≡ true
-  pub before : (j : ℕ) → j < k → p j ≡ false
 
 -- ---- the list of f at a, a + 1, .. , n elements in all; and from 0 on
 unfoldable pub tabulateFrom : {A : Type 0} → (ℕ → A) → ℕ → ℕ → List A

@@ -33,7 +33,7 @@ pub fn enter(
     words: &mut [u64],
     numbers: &mut [u32],
 ) -> Visit
-    requires { ⌜ (Planned (now file) z) × (WeightRows (now file) z (now weights)) × (Serves way z) ⌝ }
+    requires { ⌜ (Planned (now file) z) × (WeightRows z (now weights)) × (Serves way z) ⌝ }
     requires { ⌜ (column < z .width) × (row < z .height) ⌝ }
     requires { ⌜ Fit way (settingsIn z) (stores (now counts) (now words) (now numbers)) ⌝ }
     requires { ⌜ (now cells ≡ zeros) × (Cleared way z (now numbers)) ⌝ }
@@ -70,7 +70,7 @@ pub fn slide(
     words: &mut [u64],
     numbers: &mut [u32],
 ) -> Visit
-    requires { ⌜ (Planned (now file) z) × (WeightRows (now file) z (now weights)) × (Serves way z) ⌝ }
+    requires { ⌜ (Planned (now file) z) × (WeightRows z (now weights)) × (Serves way z) ⌝ }
     requires { ⌜ Within z from ⌝ }
     requires { ⌜ Adjacent z (from .column) (from .row) column row ⌝ }
     requires { ⌜ Fit way (settingsIn z) (stores (now counts) (now words) (now numbers)) ⌝ }

@@ -142,7 +142,7 @@ pub fn joint_enter(
     words: &mut [u64],
     numbers: &mut [u32],
 ) -> Visit
-    requires { ⌜ (Planned (now file) z) × (WeightRows (now file) z (now weights)) ⌝ }
+    requires { ⌜ (Planned (now file) z) × (WeightRows z (now weights)) ⌝ }
     requires { ⌜ (column < z .width) × (row < z .height) ⌝ }
     requires { ⌜ (roomOf Way.Joint (settingsIn z) .counts ≤ length (now counts)) × (roomOf Way.Joint (settingsIn z) .words ≤ length (now words)) ⌝ }
     requires { ⌜ Blank (z .levels) (now numbers) ⌝ }
@@ -177,7 +177,7 @@ pub fn joint_slide(
     words: &mut [u64],
     numbers: &mut [u32],
 ) -> Visit
-    requires { ⌜ (Planned (now file) z) × (WeightRows (now file) z (now weights)) ⌝ }
+    requires { ⌜ (Planned (now file) z) × (WeightRows z (now weights)) ⌝ }
     requires { ⌜ (Within z from) × (Adjacent z (from .column) (from .row) column row) ⌝ }
     requires { ⌜ (roomOf Way.Joint (settingsIn z) .counts ≤ length (now counts)) × (roomOf Way.Joint (settingsIn z) .words ≤ length (now words)) ⌝ }
     requires { ⌜ AtWindow Way.Joint (now file) (stores (now counts) (now words) (now numbers)) (now cells) from ⌝ }

@@ -2,7 +2,7 @@
 use mathlib.Core.Path.{refl}
 use native.Mathlib.Omega.{arith}
 use borrow.Author.Needs.{needs}
-use Rattle.histogram.specs.Histogram.{changed}
+use Rattle.pixels.specs.Additive.{changed}
 use Rattle.histogram.proofs.Laws.{fits-up, fits-down}
 use Rattle.histogram.proofs.change.Statement.{statement}
 use Rattle.histogram.proofs.change.Tie as tie

@@ -1,12 +1,16 @@
 -- `start` meets its contract: after k turns the numbers have k columns. Assumes nothing.
 use mathlib.Core.Path.{_≡_, refl, _∙_, subst}
-use lib.ListN.{length}
+use lib.ListN.{length, take, drop}
 use native.Mathlib.Omega.{arith}
+use borrow.Author.Needs.{needs}
 use Prim.Native.Nat.{ℕ, _+_, _-_, _≤_, _<_}
 use Rattle.window.proofs.PixelLaws.{plan-limits}
+use Rattle.window.proofs.LineLaws.{column-in}
 use Rattle.window.proofs.SumLaws.{in-span, few-columns}
+use Rattle.pixels.specs.Pixels.{LinePixels}
+use Rattle.pixels.proofs.Laws.{line-part}
 use Rattle.histogram.specs.Histogram.{Filled}
-use Rattle.histogram.proofs.Laws.{filled-start, fill-asks, filled-next, filled-end}
+use Rattle.histogram.proofs.PixelLaws.{filled-start, fill-asks, filled-next, filled-end}
 use Rattle.histogram.proofs.start.Statement.{statement}
 use Rattle.histogram.proofs.start.Tie as tie
 
@@ -32,6 +36,17 @@ few c =
     let at = begin h in
     omega (arith, c .loop-test .taken, few-columns (at .args .z) (plan-limits (at .pre .0 .0)) (at .args .s), h .before .span-of .ensures)
 
+-- the places passed: the turn, its column, and the list that the column was read into
+abbrev line : tie.After-read Inv-loop μ-loop → tie.After-column-line Inv-loop μ-loop
+line r = r .before .before
+
+abbrev turn : tie.After-read Inv-loop μ-loop → tie.In-loop Inv-loop μ-loop
+turn r = r .before .before .before
+
+listed : (r : tie.After-read Inv-loop μ-loop) → let at = begin (turn r .before) in LinePixels (at .args .file .now) (at .args .z) (line r .column-line .result)
+    (take (r .read .result - 0) (drop 0 (r .read .last .1 .1 .1 .0)))
+listed r = line-part (r .read .result) (r .read .last .1 .1 .1 .0) (r .read .ensures .1)
+
 low-requires : tie.Need-low-requires Inv-loop μ-loop
 low-requires c κs = tt
 
@@ -47,26 +62,45 @@ add-column-line c = let at = begin (c .before) in omega (arith, wide c, plan-lim
 column-line-requires : tie.Need-column-line-requires Inv-loop μ-loop
 column-line-requires c κs = let at = begin (c .before) in let l = plan-limits (at .pre .0 .0) in (l, (omega (arith, wide c, l .width), at .pre .0 .2))
 
-change-line-requires : tie.Need-change-line-requires Inv-loop μ-loop
-change-line-requires c κs =
-    let d = c .before in
-    let h = d .before .before in
-    let at = begin h in
-    fill-asks (at .pre .0 .0) (few (d .before)) (wide (d .before)) (h .loop .inv .1) (d .column-line .ensures)
+slice-aggregate-read : tie.Need-slice-aggregate-read Inv-loop μ-loop
+slice-aggregate-read c = search needs
+
+read-requires : tie.Need-read-requires Inv-loop μ-loop
+read-requires c κs =
+    let at = begin (c .before .before .before) in
+    let pl = at .pre .0 .0 in
+    (pl, rw (c .before .column-line .ensures) (column-in (plan-limits pl) _ (at .args .t) (wide (c .before .before))), omega arith)
+
+sub-change-pixels : tie.Need-sub-change-pixels Inv-loop μ-loop
+sub-change-pixels c = search needs
+
+part-change-pixels-start : tie.Need-part-change-pixels-start Inv-loop μ-loop
+part-change-pixels-start c = search needs
+
+part-change-pixels-end : tie.Need-part-change-pixels-end Inv-loop μ-loop
+part-change-pixels-end c = search needs
+
+change-pixels-requires : tie.Need-change-pixels-requires Inv-loop μ-loop
+change-pixels-requires c κs =
+    let r = c .before .before .before .before in
+    let h = turn r .before in
+    fill-asks (begin h .pre .0 .0) (h .loop .inv .1) (line r .column-line .ensures) (listed r) (few (turn r))
 
 add-k : tie.Need-add-k Inv-loop μ-loop
-add-k c = omega (arith, few (c .before .before .before .before .before))
+add-k c = omega (arith, few (turn (c .before .before .before .before .before .before .before)))
 
 loop-less : tie.Need-loop-less Inv-loop μ-loop
-loop-less c = omega (arith, c .before .before .before .before .before .loop-test .taken)
+loop-less c = omega (arith, turn (c .before .before .before .before .before .before .before) .loop-test .taken)
 
 loop-again : tie.Need-loop-again Inv-loop μ-loop
 loop-again c =
     let g = c .before .before in
-    let d = g .before .before in
-    let h = d .before .before in
-    let at = begin h in
-    (omega (arith, d .before .loop-test .taken), filled-next (at .pre .0 .0) (few (d .before)) (wide (d .before)) (h .loop .inv .1) (d .column-line .ensures) (g .change-line .ensures), g .change-line .ensures .long ∙ h .loop .inv .2)
+    let r = g .before .before .before .before .before in
+    let h = turn r .before in (
+      omega (arith, turn r .loop-test .taken),
+      filled-next (begin h .pre .0 .0) (h .loop .inv .1) (line r .column-line .ensures) (listed r) (g .change-pixels .kept .1 .1 .1 .0) (g .change-pixels .ensures),
+      g .change-pixels .kept .1 .1 .1 .0 ∙ h .loop .inv .2,
+    )
 
 same-length : tie.Need-same-length Inv-loop μ-loop
 same-length c = c .before .loop .inv .2
@@ -89,7 +123,12 @@ start-spec =
     loop-holds
     add-column-line
     column-line-requires
-    change-line-requires
+    slice-aggregate-read
+    read-requires
+    sub-change-pixels
+    part-change-pixels-start
+    part-change-pixels-end
+    change-pixels-requires
     add-k
     loop-less
     loop-again

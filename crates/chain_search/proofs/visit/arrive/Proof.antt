@@ -47,7 +47,7 @@ weighed k =
 climb-requires : tie.Need-climb-requires
 climb-requires c κs =
     let at = start c in (
-      climbs (at .pre .0) (at .pre .1 .0 .1) (at .pre .1 .0 .2) _ _ (at .pre .1 .1 .1),
+      climbs (at .pre .0) (at .pre .1 .0 .1) (at .pre .1 .0 .2) (at .pre .1 .0 .0) _ (weighed c) _ _ (at .pre .1 .1 .1),
       (
         levels-high (at .pre .0),
         (

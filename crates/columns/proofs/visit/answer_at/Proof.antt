@@ -6,6 +6,7 @@ use lib.ListN.{length, take, drop}
 use Rattle.spec.specs.Frame.{frameOf}
 use Rattle.window.proofs.PixelLaws.{plan-limits, levels-high}
 use Rattle.levels.specs.Answer.{Profiled}
+use Rattle.levels.proofs.AnswerLaws.{answerable, answered-at}
 use Rattle.columns.proofs.VisitLaws.{places-small, part-end, window-cells, visited}
 use borrow.Author.Needs.{needs}
 use Rattle.columns.proofs.visit.answer_at.Statement.{statement}
@@ -60,10 +61,19 @@ part-answer-end-2 : tie.Need-part-answer-end-2
 part-answer-end-2 c = in-store (c .before .before .before .before)
 
 answer-requires : tie.Need-answer-requires
-answer-requires c κs = let st = c .before .before .before .before .before in (st .pre .0, (st .pre .1 .0, (cells st, st .pre .1 .1 .1)))
+answer-requires c κs =
+    let st = c .before .before .before .before .before in
+    let x = st .pre .1 .0 in
+    let w = st .pre .1 .1 .1 in
+    answerable (st .pre .0 .0) (st .pre .0 .1) (x .0) (x .1) (w .0 .1) (cells st) (w .1 .0) (x .2) (x .3) (w .1 .1)
 
 returns : tie.Need-returns
-returns c = let st = c .before .before .before .before .before .before .before .before in visited (st .pre .1 .1 .1 .0) (c .before .before .answer .ensures)
+returns c =
+    let r = c .before .before in
+    let st = r .before .before .before .before .before .before in
+    let x = st .pre .1 .0 in
+    let w = st .pre .1 .1 .1 in
+    visited (w .0 .0) (answered-at (st .pre .0 .0) (st .pre .0 .1) (x .0) (x .1) (w .0 .1) (cells st) (w .1 .0) (r .answer .ensures .0) (r .answer .ensures .1))
 
 pub answer-at-spec : {M : Type 1} → statement M
 answer-at-spec =

@@ -6,6 +6,7 @@ use lib.ListN.{length, take, drop}
 use Rattle.spec.specs.Frame.{frameOf}
 use Rattle.window.proofs.PixelLaws.{plan-limits, levels-high}
 use Rattle.levels.specs.Answer.{Profiled}
+use Rattle.levels.proofs.AnswerLaws.{gather-asks, gathered}
 use Rattle.columns.proofs.VisitLaws.{places-small, part-end, window-cells}
 use borrow.Author.Needs.{needs}
 use Rattle.columns.proofs.visit.tally_below.Statement.{statement}
@@ -35,35 +36,35 @@ add-middle c = omega (arith, places-small (c .before .before .before .pre .0), l
 add-last : tie.Need-add-last
 add-last c = omega (arith, places-small (c .before .before .before .pre .0), levels-high (c .before .before .before .pre .0))
 
-mul-below : tie.Need-mul-below
-mul-below c = omega (arith, places-small (c .before .before .before .pre .0), levels-high (c .before .before .before .pre .0))
+mul-gather : tie.Need-mul-gather
+mul-gather c = omega (arith, places-small (c .before .before .before .pre .0), levels-high (c .before .before .before .pre .0))
 
-sub-below : tie.Need-sub-below
-sub-below c = search needs
+sub-gather : tie.Need-sub-gather
+sub-gather c = search needs
 
-part-below-start : tie.Need-part-below-start
-part-below-start c = search needs
+part-gather-start : tie.Need-part-gather-start
+part-gather-start c = search needs
 
-part-below-end : tie.Need-part-below-end
-part-below-end c = omega (arith, in-store (c .before .before .before))
+part-gather-end : tie.Need-part-gather-end
+part-gather-end c = omega (arith, in-store (c .before .before .before))
 
-mul-below-2 : tie.Need-mul-below-2
-mul-below-2 c = omega (arith, places-small (c .before .before .before .before .pre .0), levels-high (c .before .before .before .before .pre .0))
+mul-gather-2 : tie.Need-mul-gather-2
+mul-gather-2 c = omega (arith, places-small (c .before .before .before .before .pre .0), levels-high (c .before .before .before .before .pre .0))
 
-sub-below-2 : tie.Need-sub-below-2
-sub-below-2 c = search needs
+sub-gather-2 : tie.Need-sub-gather-2
+sub-gather-2 c = search needs
 
-part-below-start-2 : tie.Need-part-below-start-2
-part-below-start-2 c = search needs
+part-gather-start-2 : tie.Need-part-gather-start-2
+part-gather-start-2 c = search needs
 
-part-below-end-2 : tie.Need-part-below-end-2
-part-below-end-2 c = in-store (c .before .before .before .before)
+part-gather-end-2 : tie.Need-part-gather-end-2
+part-gather-end-2 c = in-store (c .before .before .before .before)
 
-below-requires : tie.Need-below-requires
-below-requires c κs = let st = c .before .before .before .before .before in (st .pre .0, (st .pre .1 .0, cells st))
+gather-requires : tie.Need-gather-requires
+gather-requires c κs = let st = c .before .before .before .before .before in gather-asks (st .pre .0) (st .pre .1 .0 .0) (st .pre .1 .0 .1) (cells st) (st .pre .1 .0 .2)
 
 returns : tie.Need-returns
-returns c = c .below .ensures
+returns c = let st = c .before .before .before .before .before .before in gathered (st .pre .0) (st .pre .1 .0 .0) (st .pre .1 .0 .1) (cells st) (st .pre .1 .0 .2) (c .gather .ensures)
 
 pub tally-below-spec : {M : Type 1} → statement M
 tally-below-spec =
@@ -73,13 +74,13 @@ tally-below-spec =
     mul-at-2
     add-middle
     add-last
-    mul-below
-    sub-below
-    part-below-start
-    part-below-end
-    mul-below-2
-    sub-below-2
-    part-below-start-2
-    part-below-end-2
-    below-requires
+    mul-gather
+    sub-gather
+    part-gather-start
+    part-gather-end
+    mul-gather-2
+    sub-gather-2
+    part-gather-start-2
+    part-gather-end-2
+    gather-requires
     returns)

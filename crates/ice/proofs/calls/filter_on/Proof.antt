@@ -1,19 +1,20 @@
 -- `filter_on` meets its contract: by the way, with a histogram or with the caller's numbers. Assumes nothing.
 use mathlib.Core.Path.{_≡_, refl, sym, _∙_}
+use native.Mathlib.Omega.{arith}
 use borrow.Author.Needs.{needs}
 use Rattle.spec.specs.declared.Way.the-variants.{Joint}
-use Rattle.ice.proofs.CallLaws.{weights-fit, joint-is, joint-not, histogram-fit, histogram-blank, numbers-back}
+use Rattle.ice.proofs.CallLaws.{joint-is, joint-not, histogram-fit, histogram-blank, numbers-back}
 use Rattle.ice.proofs.calls.filter_on.Statement.{statement}
 use Rattle.ice.proofs.calls.filter_on.Tie as tie
 
 abbrev begin : tie.After-keeps-histogram → tie.Start
 begin k = k .before .before .before .before .before .before .before .before .before .before
 
-slice-aggregate-decode-rows : tie.Need-slice-aggregate-decode-rows
-slice-aggregate-decode-rows c = search needs
+slice-aggregate-built-rows : tie.Need-slice-aggregate-built-rows
+slice-aggregate-built-rows c = search needs
 
-decode-rows-requires : tie.Need-decode-rows-requires
-decode-rows-requires c κs = let at = c .before .before .before .before .before .before in (at .pre .0 .0, weights-fit (at .pre .0 .0))
+built-rows-requires : tie.Need-built-rows-requires
+built-rows-requires c κs = omega arith
 
 blank-requires : tie.Need-blank-requires
 blank-requires c κs = search needs
@@ -36,7 +37,7 @@ sweep-requires c κs =
     let i = c .before .before .before .before .before in
     let k = i .before in
     let h = (begin k) .pre in
-    ((h .0 .0, k .before .before .before .decode-rows .ensures, h .0 .1), (histogram-fit _ _ _ _ _ _ (joint i) (h .1 .0), (h .1 .1, (k .before .blank .ensures, λ _. histogram-blank (h .0 .0)))))
+    ((h .0 .0, k .before .before .before .built-rows .ensures, h .0 .1), (histogram-fit _ _ _ _ _ _ (joint i) (h .1 .0), (h .1 .1, (k .before .blank .ensures, λ _. histogram-blank (h .0 .0)))))
 
 same-length : tie.Need-same-length
 same-length c = search needs
@@ -65,7 +66,7 @@ sweep-requires-2 c κs =
     let i = c .before .before .before .before .before in
     let k = i .before in
     let h = (begin k) .pre in
-    ((h .0 .0, k .before .before .before .decode-rows .ensures, h .0 .1), (h .1 .0, (h .1 .1, (k .before .blank .ensures, λ e. absurd (other i e)))))
+    ((h .0 .0, k .before .before .before .built-rows .ensures, h .0 .1), (h .1 .0, (h .1 .1, (k .before .blank .ensures, λ e. absurd (other i e)))))
 
 same-length-4 : tie.Need-same-length-4
 same-length-4 c = search needs
@@ -88,8 +89,8 @@ pub filter-on-spec : {M : Type 1} → statement M
 filter-on-spec =
     tie.close
     (tie.spec
-    slice-aggregate-decode-rows
-    decode-rows-requires
+    slice-aggregate-built-rows
+    built-rows-requires
     blank-requires
     keeps-histogram-requires
     slice-aggregate-sweep

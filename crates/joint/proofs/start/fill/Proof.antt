@@ -1,10 +1,14 @@
 -- `fill` meets its contract: after k turns the stores and the box have k columns. Assumes nothing.
 use mathlib.Core.Path.{_≡_}
 use native.Mathlib.Omega.{arith}
+use borrow.Author.Needs.{needs}
 use Prim.Native.Nat.{_-_, _≤_}
+use lib.ListN.{take, drop}
 use Rattle.window.proofs.PixelLaws.{plan-limits}
+use Rattle.pixels.specs.Pixels.{LinePixels}
+use Rattle.pixels.proofs.Laws.{line-part}
 use Rattle.joint.specs.Window.{Filled}
-use Rattle.joint.proofs.StartLaws.{fill-asks, fill-again}
+use Rattle.joint.proofs.StartLaws.{column-planes, fill-asks, fill-again}
 use Rattle.joint.proofs.start.fill.Statement.{statement}
 use Rattle.joint.proofs.start.fill.Tie as tie
 
@@ -18,6 +22,17 @@ abbrev μ-loop : tie.MeasureT-loop
 abbrev start : tie.At-loop Inv-loop μ-loop → tie.Start Inv-loop μ-loop
 start h = h .before .before .before .before
 
+-- the places passed: the turn, its column, and the list that the column was read into
+abbrev line : tie.After-read Inv-loop μ-loop → tie.After-column-line Inv-loop μ-loop
+line r = r .before .before
+
+abbrev turn : tie.After-read Inv-loop μ-loop → tie.In-loop Inv-loop μ-loop
+turn r = r .before .before .before
+
+listed : (r : tie.After-read Inv-loop μ-loop) → let at = start (turn r .before) in LinePixels (at .args .file .now) (at .args .z) (line r .column-line .result)
+    (take (r .read .result - 0) (drop 0 (r .read .last .1 .1 .1 .0)))
+listed r = line-part (r .read .result) (r .read .last .1 .1 .1 .0) (r .read .ensures .1)
+
 loop-holds : tie.Need-loop-holds Inv-loop μ-loop
 loop-holds c = (omega arith, c .before .before .before .pre .1)
 
@@ -29,26 +44,49 @@ column-line-requires c κs =
     let at = start (c .before) in
     (plan-limits (at .pre .0 .0), (omega (arith, at .pre .0 .1 .wide, plan-limits (at .pre .0 .0) .width, c .loop-test .taken), at .pre .0 .1 .row))
 
-change-line-requires : tie.Need-change-line-requires Inv-loop μ-loop
-change-line-requires c κs =
-    let d = c .before .before .before in
+slice-aggregate-read : tie.Need-slice-aggregate-read Inv-loop μ-loop
+slice-aggregate-read c = search needs
+
+read-requires : tie.Need-read-requires Inv-loop μ-loop
+read-requires c κs =
+    let d = c .before in
     let h = d .before .before in
     let at = start h in
-    fill-asks (at .pre .0 .0) (at .pre .0 .1) (d .before .loop-test .taken) (h .loop .inv .1) (d .column-line .ensures)
+    (at .pre .0 .0, column-planes (at .pre .0 .0) (at .pre .0 .1) (d .before .loop-test .taken) (h .loop .inv .1) (d .column-line .ensures), omega arith)
+
+sub-change-pixels : tie.Need-sub-change-pixels Inv-loop μ-loop
+sub-change-pixels c = search needs
+
+part-change-pixels-start : tie.Need-part-change-pixels-start Inv-loop μ-loop
+part-change-pixels-start c = search needs
+
+part-change-pixels-end : tie.Need-part-change-pixels-end Inv-loop μ-loop
+part-change-pixels-end c = search needs
+
+change-pixels-requires : tie.Need-change-pixels-requires Inv-loop μ-loop
+change-pixels-requires c κs =
+    let r = c .before .before .before .before .before .before in
+    let h = turn r .before in
+    let at = start h in
+    fill-asks (at .pre .0 .0) (at .pre .0 .1) (turn r .loop-test .taken) (h .loop .inv .1) (line r .column-line .ensures) (listed r)
 
 add-k : tie.Need-add-k Inv-loop μ-loop
-add-k c = let t = c .before .before .before .before .before .before .before .before .before in omega (arith, t .loop-test .taken, (start (t .before)) .pre .0 .1 .few)
+add-k c =
+    let i = turn (c .before .before .before .before .before .before .before .before .before .before .before) in
+    omega (arith, i .loop-test .taken, start (i .before) .pre .0 .1 .few)
 
 loop-less : tie.Need-loop-less Inv-loop μ-loop
-loop-less c = omega (arith, c .before .before .before .before .before .before .before .before .before .loop-test .taken)
+loop-less c = omega (arith, turn (c .before .before .before .before .before .before .before .before .before .before .before) .loop-test .taken)
 
 loop-again : tie.Need-loop-again Inv-loop μ-loop
 loop-again c =
     let g = c .before .before .before .before in
-    let d = g .before .before .before .before in
-    let h = d .before .before in
-    let at = start h in
-    (omega (arith, d .before .loop-test .taken), fill-again (at .pre .0 .0) (at .pre .0 .1) (d .before .loop-test .taken) (h .loop .inv .1) (d .column-line .ensures) (g .change-line .ensures))
+    let r = g .before .before .before .before .before .before .before in
+    let h = turn r .before in
+    let at = start h in (
+      omega (arith, turn r .loop-test .taken),
+      fill-again (at .pre .0 .0) (at .pre .0 .1) (turn r .loop-test .taken) (h .loop .inv .1) (line r .column-line .ensures) (listed r) (g .change-pixels .ensures .0) (g .change-pixels .ensures .1),
+    )
 
 same-length : tie.Need-same-length Inv-loop μ-loop
 same-length c = c .before .loop .inv .1 .kept .long
@@ -71,7 +109,12 @@ fill-spec =
     loop-holds
     add-column-line
     column-line-requires
-    change-line-requires
+    slice-aggregate-read
+    read-requires
+    sub-change-pixels
+    part-change-pixels-start
+    part-change-pixels-end
+    change-pixels-requires
     add-k
     loop-less
     loop-again

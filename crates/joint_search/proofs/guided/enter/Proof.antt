@@ -1,7 +1,9 @@
 -- `enter` meets its contract: histogram, sums and tally are made, then the window answers. Assumes nothing.
 use borrow.Author.Needs.{needs}
+use mathlib.Core.Path.{refl}
 use native.Mathlib.Omega.{arith}
-use Rattle.levels.proofs.TallyLaws.{carries-still}
+use Rattle.spec.proofs.Plans.{pixel-of}
+use Rattle.levels.proofs.ListTallyLaws.{carries-still}
 use Rattle.joint_search.proofs.guided.enter.Statement.{statement}
 use Rattle.joint_search.proofs.guided.enter.Tie as tie
 
@@ -30,21 +32,35 @@ tally-below-requires c κs =
     let k = at .pre .0 .0 in
     ((k .planned, k .column, k .row, omega (arith, at .pre .1 .0)), h .start .ensures)
 
-still-requires : tie.Need-still-requires
-still-requires c κs = tt
+sub-arrive : tie.Need-sub-arrive
+sub-arrive c = search needs
+
+part-arrive-start : tie.Need-part-arrive-start
+part-arrive-start c = search needs
+
+part-arrive-end : tie.Need-part-arrive-end
+part-arrive-end c = search needs
+
+sub-arrive-2 : tie.Need-sub-arrive-2
+sub-arrive-2 c = search needs
+
+part-arrive-start-2 : tie.Need-part-arrive-start-2
+part-arrive-start-2 c = search needs
+
+part-arrive-end-2 : tie.Need-part-arrive-end-2
+part-arrive-end-2 c = search needs
 
 arrive-requires : tie.Need-arrive-requires
 arrive-requires c κs =
-    let e = c .before .before in
-    let w = e .before in
+    let w = c .before .before .before .before .before .before in
     let a = w .before .before .before in
     let h = a .before .before .before in
     let at = begin h in
     let k = at .pre .0 .0 in
-    ((k, at .pre .0 .1, h .start .ensures), ((a .start2 .ensures, carries-still (k .planned) (k .column) (k .row) (w .tally-below .ensures) (e .still .ensures)), at .pre .1))
+    ((k, at .pre .0 .1, h .start .ensures), ((a .start2 .ensures, carries-still (pixel-of (k .planned) (k .column) (k .row)) (w .tally-below .ensures) refl refl), at .pre .1))
 
 same-length : tie.Need-same-length
-same-length c = search needs
+same-length c = c .before .before .before .before .before .before .before .before .before .before .before .before .before .start .kept .1 .1 .1 .1 .0
 
 returns : tie.Need-returns
 returns c = c .arrive .ensures
@@ -58,7 +74,12 @@ enter-spec =
     cast-tally-below
     add-tally-below
     tally-below-requires
-    still-requires
+    sub-arrive
+    part-arrive-start
+    part-arrive-end
+    sub-arrive-2
+    part-arrive-start-2
+    part-arrive-end-2
     arrive-requires
     same-length
     returns)

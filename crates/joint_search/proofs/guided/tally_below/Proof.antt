@@ -5,6 +5,7 @@ use native.Mathlib.Omega.{arith}
 use lib.ListN.{length}
 use Rattle.window.proofs.PixelLaws.{levels-high}
 use borrow.Author.Needs.{needs}
+use Rattle.levels.proofs.AnswerLaws.{gather-asks, gathered}
 use Rattle.joint_search.proofs.VisitLaws.{numbers-long, profiled}
 use Rattle.joint_search.proofs.guided.tally_below.Statement.{statement}
 use Rattle.joint_search.proofs.guided.tally_below.Tie as tie
@@ -15,46 +16,50 @@ long at = numbers-long (at .pre .0 .0) (at .pre .1) refl refl
 add-last : tie.Need-add-last
 add-last c = omega (arith, levels-high (c .before .before .pre .0 .0))
 
-sub-below : tie.Need-sub-below
-sub-below c = search needs
+sub-gather : tie.Need-sub-gather
+sub-gather c = search needs
 
-part-below-start : tie.Need-part-below-start
-part-below-start c = search needs
+part-gather-start : tie.Need-part-gather-start
+part-gather-start c = search needs
 
-part-below-end : tie.Need-part-below-end
-part-below-end c = omega (arith, long (c .before .before))
+part-gather-end : tie.Need-part-gather-end
+part-gather-end c = omega (arith, long (c .before .before))
 
-mul-below : tie.Need-mul-below
-mul-below c = omega (arith, levels-high (c .before .before .before .pre .0 .0))
+mul-gather : tie.Need-mul-gather
+mul-gather c = omega (arith, levels-high (c .before .before .before .pre .0 .0))
 
-sub-below-2 : tie.Need-sub-below-2
-sub-below-2 c = search needs
+sub-gather-2 : tie.Need-sub-gather-2
+sub-gather-2 c = search needs
 
-part-below-start-2 : tie.Need-part-below-start-2
-part-below-start-2 c = search needs
+part-gather-start-2 : tie.Need-part-gather-start-2
+part-gather-start-2 c = search needs
 
-part-below-end-2 : tie.Need-part-below-end-2
-part-below-end-2 c = long (c .before .before .before)
+part-gather-end-2 : tie.Need-part-gather-end-2
+part-gather-end-2 c = long (c .before .before .before)
 
-below-requires : tie.Need-below-requires
-below-requires c κs =
+gather-requires : tie.Need-gather-requires
+gather-requires c κs =
     let at = c .before .before .before .before in
-    (at .pre .0 .0, ((at .pre .0 .1, at .pre .0 .2, at .pre .0 .3), profiled (at .pre .0 .0) (at .pre .1) refl refl))
+    let q = at .pre .0 in
+    gather-asks (q .0) (q .1) (q .2) (profiled (q .0) (at .pre .1) refl refl) (q .3)
 
 returns : tie.Need-returns
-returns c = c .below .ensures
+returns c =
+    let at = c .before .before .before .before .before in
+    let q = at .pre .0 in
+    gathered (q .0) (q .1) (q .2) (profiled (q .0) (at .pre .1) refl refl) (q .3) (c .gather .ensures)
 
 pub tally-below-spec : {M : Type 1} → statement M
 tally-below-spec =
     tie.close
     (tie.spec
     add-last
-    sub-below
-    part-below-start
-    part-below-end
-    mul-below
-    sub-below-2
-    part-below-start-2
-    part-below-end-2
-    below-requires
+    sub-gather
+    part-gather-start
+    part-gather-end
+    mul-gather
+    sub-gather-2
+    part-gather-start-2
+    part-gather-end-2
+    gather-requires
     returns)

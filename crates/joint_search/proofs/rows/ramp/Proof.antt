@@ -1,19 +1,20 @@
 -- `ramp` meets its contract: the first k numbers are 0 1 2 ... Assumes nothing.
+use mathlib.Core.Path.{refl}
 use native.Mathlib.Omega.{arith}
 use Prim.Native.Nat.{_-_, _≤_}
-use Rattle.joint_search.proofs.RowLaws.{Ramped, ramp-start, ramp-next}
+use Rattle.joint_search.proofs.RowLaws.{Made, made-start, made-next}
 use Rattle.joint_search.proofs.rows.ramp.Statement.{statement}
 use Rattle.joint_search.proofs.rows.ramp.Tie as tie
 
 abbrev Inv-loop : tie.InvT-loop
 Inv-loop row₀ m k₀ row k =
-    (k ≤ m) × Ramped k row₀ row
+    (k ≤ m) × Made (λ f. f) k row₀ row
 
 abbrev μ-loop : tie.MeasureT-loop
 μ-loop row₀ m k₀ row k = m - k
 
 loop-holds : tie.Need-loop-holds Inv-loop μ-loop
-loop-holds c = (omega arith, ramp-start _)
+loop-holds c = (omega arith, made-start _ _)
 
 cast-row : tie.Need-cast-row Inv-loop μ-loop
 cast-row c = omega (arith, c .before .before .pre)
@@ -31,7 +32,7 @@ loop-less : tie.Need-loop-less Inv-loop μ-loop
 loop-less c = omega arith
 
 loop-again : tie.Need-loop-again Inv-loop μ-loop
-loop-again c = (omega arith, ramp-next (c .before .loop .k) _ _ (omega (arith, c .before .before .pre)) (c .before .loop .inv .1))
+loop-again c = (omega arith, made-next (c .before .loop .k) _ _ _ (omega (arith, c .before .before .pre)) refl (c .before .loop .inv .1))
 
 same-length : tie.Need-same-length Inv-loop μ-loop
 same-length c = c .before .loop .inv .1 .long

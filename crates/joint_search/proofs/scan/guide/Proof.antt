@@ -1,27 +1,30 @@
 -- `guide` meets its contract. Assumes nothing.
-use mathlib.Core.Path.{sym}
+use mathlib.Core.Path.{_≡_, sym}
+use Prim.Native.Nat.{_+_, _*_}
 use native.Mathlib.Omega.{arith}
-use Rattle.joint_search.proofs.ScanLaws.{place-none, place-some}
+use lib.Count.{trailingZeros}
+use Rattle.joint_search.specs.Scan.{placeOf}
+use Rattle.joint_search.proofs.ScanLaws.{place-rest, place-some}
 use Rattle.joint_search.proofs.scan.guide.Statement.{statement}
 use Rattle.joint_search.proofs.scan.guide.Tie as tie
 
+is : (c : tie.Start) → placeOf (c .args .c) ≡ c .args .c .word * 64 + trailingZeros 64 (c .args .c .rest)
+is c = place-some (c .args .c) (place-rest (c .args .c) (c .pre))
+
+mul-t2 : tie.Need-mul-t2
+mul-t2 c = omega (arith, c .before .pre, is (c .before))
+
+cast-t3 : tie.Need-cast-t3
+cast-t3 c = omega (arith, c .before .pre, is (c .before))
+
+cast-t5 : tie.Need-cast-t5
+cast-t5 c = omega (arith, c .before .before .pre, is (c .before .before))
+
+add-t6 : tie.Need-add-t6
+add-t6 c = omega (arith, c .before .before .pre, is (c .before .before))
+
 returns : tie.Need-returns
-returns c = sym (place-none (c .before .before .args .c) (c .if1 .taken))
-
-mul-t3 : tie.Need-mul-t3
-mul-t3 c = let at = c .before .before .before in omega (arith, at .pre, place-some (at .args .c) (c .before .if1 .left))
-
-cast-t4 : tie.Need-cast-t4
-cast-t4 c = let at = c .before .before .before in omega (arith, at .pre, place-some (at .args .c) (c .before .if1 .left))
-
-cast-t6 : tie.Need-cast-t6
-cast-t6 c = let at = c .before .before .before .before in omega (arith, at .pre, place-some (at .args .c) (c .before .before .if1 .left))
-
-add-t7 : tie.Need-add-t7
-add-t7 c = let at = c .before .before .before .before in omega (arith, at .pre, place-some (at .args .c) (c .before .before .if1 .left))
-
-returns-2 : tie.Need-returns-2
-returns-2 c = sym (place-some (c .before .before .before .before .args .c) (c .before .before .if1 .left))
+returns c = sym (is (c .before .before))
 
 pub guide-spec : {M : Type 1} → statement M
-guide-spec = tie.close (tie.spec returns mul-t3 cast-t4 cast-t6 add-t7 returns-2)
+guide-spec = tie.close (tie.spec mul-t2 cast-t3 cast-t5 add-t6 returns)

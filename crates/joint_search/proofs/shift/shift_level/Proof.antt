@@ -1,7 +1,7 @@
--- `shift_level` meets its contract: the cells of the guides below g are moved. Assumes nothing.
-use mathlib.Core.Path.{_≡_, subst}
+-- `shift_level` meets its contract: the cells of the guides below the scan's place are moved. Assumes nothing.
+use mathlib.Core.Path.{_≡_, sym, subst}
 use native.Mathlib.Omega.{arith}
-use Prim.Native.Nat.{_*_, _+_, _-_, _≤_, min}
+use Prim.Native.Nat.{ℕ, _*_, _+_, _-_, _≤_, _<_, min}
 use lib.ListN.{getD}
 use lib.IntN.{ℤ, pos}
 use mir.Syntax.{w16}
@@ -9,20 +9,37 @@ use mir.Val.{toZ, ofZ}
 use Rattle.ints.specs.Machine.{read-bounded}
 use Rattle.joint_search.specs.Scan.{placeOf, Scans}
 use Rattle.joint_search.specs.Box.{Shifted}
-use Rattle.joint_search.proofs.ScanLaws.{first-low, base-low, scan-asks, first-guide, later-guide}
+use Rattle.joint_search.proofs.ScanLaws.{first-low, base-low, scan-asks, place-low, place-ended}
 use Rattle.joint_search.proofs.ShiftLaws.{shift-asks, shift-stored, shift-low, shift-start, shift-again, shift-done}
 use Rattle.joint_search.proofs.shift.shift_level.Statement.{statement}
 use Rattle.joint_search.proofs.shift.shift_level.Tie as tie
 
 abbrev Inv-loop : tie.InvT-loop
-Inv-loop m by cells₀ counts words i k first base c₀ g₀ cells c g =
-    (g ≤ 256) × (g ≡ placeOf c) × Scans words first k c × Shifted m i (toZ w16 by) counts (min g m) cells₀ cells
+Inv-loop m by cells₀ counts words i k first base c₀ cells c =
+    (placeOf c ≤ 256) × Scans words first k c × Shifted m i (toZ w16 by) counts (min (placeOf c) m) cells₀ cells
 
 abbrev μ-loop : tie.MeasureT-loop
-μ-loop m by cells₀ counts words i k first base c₀ g₀ cells c g = 256 - g
+μ-loop m by cells₀ counts words i k first base c₀ cells c = 256 - placeOf c
 
 abbrev start : tie.At-loop Inv-loop μ-loop → tie.Start Inv-loop μ-loop
-start h = h .before .before .before .before .before .before .before
+start h = h .before .before .before .before .before
+
+abbrev head : tie.After-guide Inv-loop μ-loop → tie.At-loop Inv-loop μ-loop
+head g = g .before .before .before
+
+-- a guide is left, and it is one of the m
+low : (t : tie.Then1 Inv-loop μ-loop) → placeOf (t .before .before .loop .c) < (start (t .before .before)) .args .m
+low t = let h = t .before .before in place-low ((start h) .pre .0) (h .loop .inv .1) (t .if1 .taken)
+
+guide-low : (g : tie.After-guide Inv-loop μ-loop) → g .guide .result .0 < (start (head g)) .args .m
+guide-low g = omega (arith, g .guide .ensures, low (g .before))
+
+-- what is moved, at that guide
+moved : (g : tie.After-guide Inv-loop μ-loop) → Shifted ((start (head g)) .args .m) ((start (head g)) .args .level .0) (toZ w16 (ofZ w16 ((start (head g)) .args .by))) ((start (head g)) .args .counts .now) (min (g .guide .result .0) ((start (head g)) .args .m)) ((start (head g)) .args .cells .now) (head g .loop .cells)
+moved g =
+    let at = start (head g) in
+    subst (λ (q : ℕ). Shifted (at .args .m) (at .args .level .0) (toZ w16 (ofZ w16 (at .args .by))) (at .args .counts .now) (min q (at .args .m)) (at .args .cells .now) (head g .loop .cells)) (sym (g .guide .ensures))
+    (head g .loop .inv .2)
 
 cast-i : tie.Need-cast-i Inv-loop μ-loop
 cast-i c = omega arith
@@ -39,90 +56,79 @@ mul-base c = let at = c .before .before .before in omega (arith, base-low (at .p
 begin-requires : tie.Need-begin-requires Inv-loop μ-loop
 begin-requires c κs = let at = c .before .before .before in scan-asks (at .pre .0)
 
-guide-requires : tie.Need-guide-requires Inv-loop μ-loop
-guide-requires c κs = c .begin .ensures .next .most
-
-cast-g : tie.Need-cast-g Inv-loop μ-loop
-cast-g c = omega (arith, c .before .guide .ensures, c .before .before .begin .ensures .next .most)
-
 loop-holds : tie.Need-loop-holds Inv-loop μ-loop
 loop-holds c =
-    let g = c .before in
-    let f = g .before .begin .ensures in
-    let at = g .before .before .before .before .before in
-    let n = first-guide f _ (g .guide .ensures) in
-    (n .most, g .guide .ensures, f .scans, shift-start (at .pre .0) _ _ _ n)
+    let f = c .begin .ensures in
+    let at = c .before .before .before .before in
+    (f .next .most, f .scans, shift-start (at .pre .0) _ _ _ (f .next))
+
+guide-requires : tie.Need-guide-requires Inv-loop μ-loop
+guide-requires c κs = omega (arith, low c, (start (c .before .before)) .pre .0 .guides)
+
+cast-g : tie.Need-cast-g Inv-loop μ-loop
+cast-g c = let g = c .before in omega (arith, guide-low g, (start (head g)) .pre .0 .guides)
 
 mul-plus-times : tie.Need-mul-plus-times Inv-loop μ-loop
-mul-plus-times c = omega (arith, c .loop-test .taken, (start (c .before)) .pre .0 .guides)
+mul-plus-times c = let g = c .before in omega (arith, guide-low g, (start (head g)) .pre .0 .guides)
 
 element-copy-out-plus-times : tie.Need-element-copy-out-plus-times Inv-loop μ-loop
-element-copy-out-plus-times c = omega (arith, c .loop-test .taken, (start (c .before)) .pre .0 .guides)
+element-copy-out-plus-times c = let g = c .before in omega (arith, guide-low g, (start (head g)) .pre .0 .guides)
 
 add-plus-times : tie.Need-add-plus-times Inv-loop μ-loop
-add-plus-times c = let t = c .before in let at = start (t .before) in omega (arith, base-low (at .pre .0), t .loop-test .taken, at .pre .0 .guides)
+add-plus-times c = let g = c .before .before in let at = start (head g) in omega (arith, base-low (at .pre .0), guide-low g, at .pre .0 .guides)
 
 mul-plus-times-2 : tie.Need-mul-plus-times-2 Inv-loop μ-loop
-mul-plus-times-2 c = let t = c .before in let at = start (t .before) in omega (arith, base-low (at .pre .0), t .loop-test .taken, at .pre .0 .guides)
+mul-plus-times-2 c = let g = c .before .before in let at = start (head g) in omega (arith, base-low (at .pre .0), guide-low g, at .pre .0 .guides)
 
 shared-slice-read-plus-times : tie.Need-shared-slice-read-plus-times Inv-loop μ-loop
-shared-slice-read-plus-times c = let t = c .before .before in let at = start (t .before) in omega (arith, at .pre .0 .cells, t .loop-test .taken)
+shared-slice-read-plus-times c = let g = c .before .before .before in let at = start (head g) in omega (arith, at .pre .0 .cells, guide-low g)
 
 plus-times-requires : tie.Need-plus-times-requires Inv-loop μ-loop
 plus-times-requires c κs =
-    let t = c .before .before in
-    let h = t .before in
-    let at = start h in
-    shift-asks (at .pre .0) (at .args .by) _ _ _ (h .loop .g) (at .pre .1 .0) (at .pre .1 .1) (t .loop-test .taken) (h .loop .inv .3)
+    let g = c .before .before .before in
+    let at = start (head g) in
+    shift-asks (at .pre .0) (at .args .by) _ _ _ (g .guide .result .0) (at .pre .1 .0) (at .pre .1 .1) (guide-low g) (moved g)
 
 mul-t25 : tie.Need-mul-t25 Inv-loop μ-loop
-mul-t25 c = let t = c .before .before .before in omega (arith, t .loop-test .taken, (start (t .before)) .pre .0 .guides)
+mul-t25 c = let g = c .before .before .before .before in omega (arith, guide-low g, (start (head g)) .pre .0 .guides)
 
 element-set-from-cells : tie.Need-element-set-from-cells Inv-loop μ-loop
-element-set-from-cells c = let t = c .before .before .before in omega (arith, t .loop-test .taken, (start (t .before)) .pre .0 .guides)
+element-set-from-cells c = let g = c .before .before .before .before in omega (arith, guide-low g, (start (head g)) .pre .0 .guides)
 
 next-requires : tie.Need-next-requires Inv-loop μ-loop
 next-requires c κs =
-    let t = c .before .before .before in
-    let h = t .before in
+    let g = c .before .before .before .before in
+    let h = head g in
     let at = start h in
     let q = scan-asks (at .pre .0) in
-    (q .0, q .1, q .3, h .loop .inv .2, omega (arith, h .loop .inv .1, t .loop-test .taken, at .pre .0 .guides))
-
-guide-requires-2 : tie.Need-guide-requires-2 Inv-loop μ-loop
-guide-requires-2 c κs = c .next .ensures .next .most
-
-cast-g-2 : tie.Need-cast-g-2 Inv-loop μ-loop
-cast-g-2 c = omega (arith, c .before .guide2 .ensures, c .before .before .next .ensures .next .most)
+    (q .0, q .1, q .3, h .loop .inv .1, omega (arith, low (g .before), at .pre .0 .guides))
 
 loop-less : tie.Need-loop-less Inv-loop μ-loop
 loop-less c =
-    let t = c .before .before .before .before .before .before in
-    let h = t .before in
-    omega (arith, later-guide (h .loop .c) (c .before .before .next .ensures) (h .loop .g) _ (h .loop .inv .1) (c .before .guide2 .ensures) .from, (start h) .pre .0 .guides, t .loop-test .taken)
+    let g = c .before .before .before .before .before in
+    omega (arith, c .next .ensures .next .from, low (g .before), (start (head g)) .pre .0 .guides)
 
 loop-again : tie.Need-loop-again Inv-loop μ-loop
 loop-again c =
-    let x = c .before .before in
-    let e = x .before in
-    let t = e .before .before .before in
-    let h = t .before in
+    let e = c .before in
+    let g = e .before .before .before .before in
+    let h = head g in
     let at = start h in
-    let n = later-guide (h .loop .c) (x .next .ensures) (h .loop .g) _ (h .loop .inv .1) (c .before .guide2 .ensures) in (
+    let r = g .guide .result .0 in
+    let n = rw (sym (g .guide .ensures)) at (c .next .ensures .next) in (
       n .most,
-      c .before .guide2 .ensures,
-      x .next .ensures .scans,
-      shift-again (at .pre .0) _ _ (h .loop .g) _ _ _ (t .loop-test .taken) (at .pre .1 .1 .long) n (h .loop .inv .3)
-          (shift-stored (getD (h .loop .cells) (h .loop .g) (pos 0)) (toZ w16 (ofZ w16 (at .args .by))) (e .plus-times .result) (getD (at .args .counts .now) (at .args .level .0 * at .args .m + h .loop .g) 0)
-          (shift-low _ (at .args .level .0) _ _ _ _ (h .loop .g) (at .pre .1 .1) (t .loop-test .taken) (h .loop .inv .3)) (e .plus-times .ok) (e .plus-times .ensures)),
+      c .next .ensures .scans,
+      shift-again (at .pre .0) _ _ r _ _ _ (guide-low g) (at .pre .1 .1 .long) n (moved g)
+          (shift-stored (getD (h .loop .cells) r (pos 0)) (toZ w16 (ofZ w16 (at .args .by))) (e .plus-times .result) (getD (at .args .counts .now) (at .args .level .0 * at .args .m + r) 0)
+          (shift-low _ (at .args .level .0) _ _ _ _ r (at .pre .1 .1) (guide-low g) (moved g)) (e .plus-times .ok) (e .plus-times .ensures)),
     )
 
 returns : tie.Need-returns Inv-loop μ-loop
 returns c =
-    let h = c .before in
+    let h = c .before .before in
     let at = start h in
     subst (λ (q : ℤ). Shifted (at .args .m) (at .args .level .0) q (at .args .counts .now) (at .args .m) (at .args .cells .now) (h .loop .cells)) (read-bounded w16 2 (at .pre .1 .0) tt)
-    (shift-done (at .pre .0) _ _ (h .loop .g) _ (c .loop-test .left) (h .loop .inv .3))
+    (shift-done (at .pre .0) _ _ (placeOf (h .loop .c)) _ (place-ended (at .pre .0) (h .loop .c) (c .if1 .left)) (h .loop .inv .2))
 
 pub shift-level-spec : {M : Type 1} → statement M
 shift-level-spec =
@@ -135,9 +141,9 @@ shift-level-spec =
     mul-first
     mul-base
     begin-requires
+    loop-holds
     guide-requires
     cast-g
-    loop-holds
     mul-plus-times
     element-copy-out-plus-times
     add-plus-times
@@ -147,8 +153,6 @@ shift-level-spec =
     mul-t25
     element-set-from-cells
     next-requires
-    guide-requires-2
-    cast-g-2
     loop-less
     loop-again
     returns)

@@ -8,16 +8,16 @@ use mir.Syntax.{w64}
 use Rattle.ints.specs.Machine.{stored, read-bounded}
 use Rattle.levels.specs.Search.{TallyTo, passes}
 use Rattle.levels.specs.Block.{Light}
-use Rattle.levels.proofs.SearchLaws.{tally, Ascending, tally-next, half-at, fail-next, fail-all, found-at, shifted}
+use Rattle.levels.proofs.SearchLaws.{tally, Ascending, tally-next, half-at, fail-next, fail-inside, pass-last, found-at, shifted}
 use Rattle.levels.proofs.BlockLaws.{tally-block, fail-block}
 use Rattle.levels.proofs.search.ascend.Statement.{statement}
 use Rattle.levels.proofs.search.ascend.Tie as tie
 
 abbrev Inv-loop : tie.InvT-loop
-Inv-loop counts sums k heaviest shifts levels first count₀ sum₀ i₀ count sum i = Ascending k counts sums first count sum i
+Inv-loop counts sums k heaviest shifts last first count₀ sum₀ i₀ count sum i = Ascending k counts sums first count sum i
 
 abbrev μ-loop : tie.MeasureT-loop
-μ-loop counts sums k heaviest shifts levels first count₀ sum₀ i₀ count sum i = levels - i
+μ-loop counts sums k heaviest shifts last first count₀ sum₀ i₀ count sum i = last - i
 
 heaviest-is : (c : tie.Start Inv-loop μ-loop) → stored w64 (c .args .heaviest) ≡ c .args .heaviest
 heaviest-is c = read-bounded w64 240207812100 (c .pre .0 .1 .small) tt
@@ -38,13 +38,19 @@ after-block : (c : tie.After-total2 Inv-loop μ-loop)
 after-block c = tally-block (c .before .total .result) (c .total2 .result) (c .before .before .before .before .before .loop .inv .tally) (c .before .total .ensures) (c .total2 .ensures)
 
 -- ---- a level
-after-level : (c : tie.In-loop Inv-loop μ-loop)
-    → TallyTo (c .before .before .before .before .before .args .counts .now) (c .before .before .before .before .before .args .sums .now) (c .before .loop .i + 1) (tally (c .before .loop .count + getD (c .before .before .before .before .before .args .counts .now) (c .before .loop .i) 0) (c .before .loop .sum + getD (c .before .before .before .before .before .args .sums .now) (c .before .loop .i) 0))
-after-level c = tally-next (c .before .loop .inv .tally)
+abbrev start : tie.At-loop Inv-loop μ-loop → tie.Start Inv-loop μ-loop
+start h = h .before .before .before .before
 
-level-small : (c : tie.In-loop Inv-loop μ-loop)
-    → (c .before .loop .count + getD (c .before .before .before .before .before .args .counts .now) (c .before .loop .i) 0 ≤ 961) × (c .before .loop .sum + getD (c .before .before .before .before .before .args .sums .now) (c .before .loop .i) 0 ≤ 245055)
-level-small c = small (c .before .before .before .before .before) (c .before .loop .i + 1) _ _ (omega (arith, c .loop-test .taken)) (after-level c)
+after-level : (h : tie.At-loop Inv-loop μ-loop)
+    → TallyTo (start h .args .counts .now) (start h .args .sums .now) (h .loop .i + 1) (tally (h .loop .count + getD (start h .args .counts .now) (h .loop .i) 0) (h .loop .sum + getD (start h .args .sums .now) (h .loop .i) 0))
+after-level h = tally-next (h .loop .inv .tally)
+
+level-small : (h : tie.At-loop Inv-loop μ-loop)
+    → (h .loop .count + getD (start h .args .counts .now) (h .loop .i) 0 ≤ 961) × (h .loop .sum + getD (start h .args .sums .now) (h .loop .i) 0 ≤ 245055)
+level-small h = small (start h) (h .loop .i + 1) _ _ (omega (arith, h .loop .inv .to)) (after-level h)
+
+sub-last : tie.Need-sub-last Inv-loop μ-loop
+sub-last c = omega (arith, c .before .before .pre .1 .0 .0)
 
 cast-first : tie.Need-cast-first Inv-loop μ-loop
 cast-first c = let st = c .before .before .before in omega (arith, st .pre .1 .0 .0, st .pre .0 .0 .cells .levels)
@@ -52,12 +58,15 @@ cast-first c = let st = c .before .before .before in omega (arith, st .pre .1 .0
 loop-holds : tie.Need-loop-holds Inv-loop μ-loop
 loop-holds c = let st = c .before .before .before in record { from-low = omega arith; to = st .pre .1 .0 .0; tally = st .pre .1 .1 .0; fails = st .pre .1 .1 .1 }
 
+cast-t16 : tie.Need-cast-t16 Inv-loop μ-loop
+cast-t16 c = omega (arith, c .before .loop .inv .to, start (c .before) .pre .0 .0 .cells .levels)
+
 light-requires : tie.Need-light-requires Inv-loop μ-loop
 light-requires c κs =
     let st = c .before .before .before .before .before in
     let v = c .before .loop in
     let q = st .pre .0 .0 in
-    let l = small st (v .i) (v .count) (v .sum) (v .inv .to) (v .inv .tally) in
+    let l = small st (v .i) (v .count) (v .sum) (omega (arith, v .inv .to)) (v .inv .tally) in
     ((q .small, subst (λ (w : ℤ). natAbs w ≤ 240207812100) (sym (heaviest-is st)) (st .pre .0 .1 .small), l .0, l .1), (v .inv .to, q .cells .levels, q .cells .count-high))
 
 total-requires : tie.Need-total-requires Inv-loop μ-loop
@@ -89,19 +98,20 @@ loop-again c =
     let st = c .before .before .before .before .before .before .before .before .before in
     let v = c .before .before .before .before .before .loop .inv in
     let l = is-light (c .before .before) in
-    record { from-low = omega (arith, v .from-low); to = l .whole; tally = after-block c; fails = fail-block (st .pre .0 .1) (v .tally) l (v .fails) }
+    let f = fail-block (st .pre .0 .1) (v .tally) l (v .fails) in
+    record { from-low = omega (arith, v .from-low); to = fail-inside (st .pre .0 .0) f; tally = after-block c; fails = f }
 
 mul-count : tie.Need-mul-count Inv-loop μ-loop
 mul-count c = omega (arith, c .before .before .loop-test .taken, c .before .before .before .before .before .before .before .good)
 
 shared-slice-read-count : tie.Need-shared-slice-read-count Inv-loop μ-loop
-shared-slice-read-count c = c .before .before .before .loop-test .taken
+shared-slice-read-count c = c .before .before .before .before .loop .inv .to
 
 cast-count : tie.Need-cast-count Inv-loop μ-loop
 cast-count c = omega (arith, c .shared-slice-known3 .given (c .before .before .before .before .loop .i))
 
 add-count-2 : tie.Need-add-count-2 Inv-loop μ-loop
-add-count-2 c = omega (arith, level-small (c .before .before .before) .0)
+add-count-2 c = omega (arith, level-small (c .before .before .before .before) .0)
 
 mul-sum : tie.Need-mul-sum Inv-loop μ-loop
 mul-sum c = omega (arith, c .before .before .before .loop-test .taken, c .before .before .before .before .before .before .before .before .pre .0 .0 .cells .long, c .before .before .before .before .before .before .before .before .good)
@@ -113,16 +123,13 @@ cast-sum : tie.Need-cast-sum Inv-loop μ-loop
 cast-sum c = omega (arith, c .shared-slice-known4 .given (c .before .before .before .before .before .loop .i))
 
 add-sum-2 : tie.Need-add-sum-2 Inv-loop μ-loop
-add-sum-2 c = omega (arith, level-small (c .before .before .before .before) .1)
+add-sum-2 c = omega (arith, level-small (c .before .before .before .before .before) .1)
 
 reached-requires : tie.Need-reached-requires Inv-loop μ-loop
-reached-requires c κs = (c .before .before .before .before .before .before .before .before .before .pre .0 .0 .small, level-small (c .before .before .before .before))
+reached-requires c κs = (c .before .before .before .before .before .before .before .before .before .pre .0 .0 .small, level-small (c .before .before .before .before .before))
 
 passes-is : (c : tie.After-reached Inv-loop μ-loop) → c .reached .result ≡ passes (c .before .before .before .before .before .before .before .before .before .before .args .k) (c .before .before .before .before .before .before .before .before .before .before .args .counts .now) (c .before .before .before .before .before .before .before .before .before .before .args .sums .now) (c .before .before .before .before .before .before .loop .i)
-passes-is c = c .reached .ensures ∙ half-at (c .before .before .before .before .before .before .before .before .before .before .args .k) (c .before .before .before .before .before .before .loop .i) (after-level (c .before .before .before .before .before))
-
-cast-t22 : tie.Need-cast-t22 Inv-loop μ-loop
-cast-t22 c = omega (arith, c .before .before .before .before .before .before .loop-test .taken, c .before .before .before .before .before .before .before .before .before .before .before .pre .0 .0 .cells .levels)
+passes-is c = c .reached .ensures ∙ half-at (c .before .before .before .before .before .before .before .before .before .before .args .k) (c .before .before .before .before .before .before .loop .i) (after-level (c .before .before .before .before .before .before))
 
 sub-ended : tie.Need-sub-ended Inv-loop μ-loop
 sub-ended c = c .before .before .before .before .before .before .before .loop .inv .from-low
@@ -138,7 +145,7 @@ returns c =
     let st = c .before .before .before .before .before .before .before .before .before .before .before .before in
     let v = c .before .before .before .before .before .before .before .before .loop .inv in
     let m = shifted (st .args .shifts) (st .args .from .0) (c .ended .ensures) (omega (arith, v .from-low)) (v .from-low) in
-    (found-at (c .ended .ensures) (v .fails) (c .before .before .before .before .before .before .before .loop-test .taken) (sym (passes-is (c .before .before)) ∙ c .before .if2 .taken) (after-level (c .before .before .before .before .before .before .before)), m .0, m .1)
+    (found-at (c .ended .ensures) (v .fails) (v .to) (sym (passes-is (c .before .before)) ∙ c .before .if2 .taken) (after-level (c .before .before .before .before .before .before .before .before)), m .0, m .1)
 
 add-i-2 : tie.Need-add-i-2 Inv-loop μ-loop
 add-i-2 c = omega (arith, c .before .before .before .before .before .before .loop-test .taken, c .before .before .before .before .before .before .before .before .before .before .before .pre .0 .0 .cells .levels)
@@ -149,22 +156,52 @@ loop-less-2 c = omega (arith, c .before .before .before .before .before .before 
 loop-again-2 : tie.Need-loop-again-2 Inv-loop μ-loop
 loop-again-2 c =
     let v = c .before .before .before .before .before .before .before .loop .inv in
-    record { from-low = omega (arith, v .from-low); to = omega (arith, c .before .before .before .before .before .before .loop-test .taken); tally = after-level (c .before .before .before .before .before .before); fails = fail-next (v .fails) (sym (passes-is (c .before)) ∙ c .if2 .left) }
+    record { from-low = omega (arith, v .from-low); to = omega (arith, c .before .before .before .before .before .before .loop-test .taken); tally = after-level (c .before .before .before .before .before .before .before); fails = fail-next (v .fails) (sym (passes-is (c .before)) ∙ c .if2 .left) }
 
-cast-t27 : tie.Need-cast-t27 Inv-loop μ-loop
-cast-t27 c = omega (arith, c .before .loop .inv .to, c .before .before .before .before .before .pre .0 .0 .cells .levels)
+-- ---- the last level: none below it passes, so it does
+mul-count-2 : tie.Need-mul-count-2 Inv-loop μ-loop
+mul-count-2 c = omega (arith, c .before .loop .inv .to, start (c .before) .good)
+
+shared-slice-read-count-2 : tie.Need-shared-slice-read-count-2 Inv-loop μ-loop
+shared-slice-read-count-2 c = c .before .before .loop .inv .to
+
+cast-count-2 : tie.Need-cast-count-2 Inv-loop μ-loop
+cast-count-2 c = omega (arith, c .shared-slice-known5 .given (c .before .before .loop .i))
+
+add-count-3 : tie.Need-add-count-3 Inv-loop μ-loop
+add-count-3 c = omega (arith, level-small (c .before .before) .0)
+
+mul-sum-2 : tie.Need-mul-sum-2 Inv-loop μ-loop
+mul-sum-2 c = let h = c .before .before in omega (arith, h .loop .inv .to, start h .pre .0 .0 .cells .long, start h .good)
+
+shared-slice-read-sum-2 : tie.Need-shared-slice-read-sum-2 Inv-loop μ-loop
+shared-slice-read-sum-2 c = let h = c .before .before .before in omega (arith, h .loop .inv .to, start h .pre .0 .0 .cells .long)
+
+cast-sum-2 : tie.Need-cast-sum-2 Inv-loop μ-loop
+cast-sum-2 c = omega (arith, c .shared-slice-known6 .given (c .before .before .before .loop .i))
+
+add-sum-3 : tie.Need-add-sum-3 Inv-loop μ-loop
+add-sum-3 c = omega (arith, level-small (c .before .before .before) .1)
+
+cast-t32 : tie.Need-cast-t32 Inv-loop μ-loop
+cast-t32 c = let h = c .before .before .before in omega (arith, h .loop .inv .to, start h .pre .0 .0 .cells .levels)
 
 sub-ended-2 : tie.Need-sub-ended-2 Inv-loop μ-loop
-sub-ended-2 c = c .before .loop .inv .from-low
+sub-ended-2 c = c .before .before .before .loop .inv .from-low
 
 add-ended-2 : tie.Need-add-ended-2 Inv-loop μ-loop
-add-ended-2 c = let st = c .before .before .before .before .before in omega (arith, c .before .loop .inv .to, st .pre .0 .0 .cells .levels, st .pre .1 .0 .1)
+add-ended-2 c = let h = c .before .before .before in omega (arith, h .loop .inv .to, start h .pre .0 .0 .cells .levels, start h .pre .1 .0 .1)
 
 ended-requires-2 : tie.Need-ended-requires-2 Inv-loop μ-loop
 ended-requires-2 c κs = tt
 
 returns-2 : tie.Need-returns-2 Inv-loop μ-loop
-returns-2 c = absurd (fail-all (c .before .before .before .before .before .before .pre .0 .0) (c .before .loop-test .left) (c .before .before .loop .inv .fails))
+returns-2 c =
+    let h = c .before .before .before .before in
+    let v = h .loop .inv in
+    let m = shifted (start h .args .shifts) (start h .args .from .0) (c .ended2 .ensures) (omega (arith, v .from-low)) (v .from-low) in
+    let p = pass-last (start h .pre .0 .0) (omega (arith, c .before .before .before .loop-test .left)) (v .fails) in
+    (found-at (c .ended2 .ensures) (v .fails) (v .to) p (after-level h), m .0, m .1)
 
 pub ascend-spec : {M : Type 1} → statement M
 ascend-spec =
@@ -172,8 +209,10 @@ ascend-spec =
     (tie.spec
     Inv-loop
     μ-loop
+    sub-last
     cast-first
     loop-holds
+    cast-t16
     light-requires
     total-requires
     add-count
@@ -191,7 +230,6 @@ ascend-spec =
     cast-sum
     add-sum-2
     reached-requires
-    cast-t22
     sub-ended
     add-ended
     ended-requires
@@ -199,7 +237,15 @@ ascend-spec =
     add-i-2
     loop-less-2
     loop-again-2
-    cast-t27
+    mul-count-2
+    shared-slice-read-count-2
+    cast-count-2
+    add-count-3
+    mul-sum-2
+    shared-slice-read-sum-2
+    cast-sum-2
+    add-sum-3
+    cast-t32
     sub-ended-2
     add-ended-2
     ended-requires-2

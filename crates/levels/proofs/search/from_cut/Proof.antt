@@ -2,7 +2,7 @@
 use Prim.Native.Nat.{_+_}
 use mathlib.Core.Path.{sym, _∙_}
 use native.Mathlib.Omega.{arith}
-use Rattle.levels.proofs.SearchLaws.{half-at, fail-below, distance-down, distance-up}
+use Rattle.levels.proofs.SearchLaws.{half-at, fail-inside, fail-below, distance-down, distance-up}
 use Rattle.levels.proofs.BlockLaws.{handed-on}
 use borrow.Author.Needs.{needs}
 use Rattle.levels.proofs.search.from_cut.Statement.{statement}
@@ -24,7 +24,10 @@ add-ascend : tie.Need-add-ascend
 add-ascend c = search needs
 
 ascend-requires : tie.Need-ascend-requires
-ascend-requires c κs = let st = c .before .before .before .before .before in ((st .pre .0 .0, handed-on (st .pre .0 .1)), ((omega (arith, st .pre .1 .0 .0), omega (arith, st .pre .1 .0 .1)), (st .pre .1 .1 .0, fail-below (st .pre .1 .1 .1) (st .pre .1 .0 .0) (sym (half-at (st .args .k) (st .args .cut .0) (st .pre .1 .1 .0)) ∙ sym (c .before .before .reached .ensures) ∙ c .before .if1 .left))))
+ascend-requires c κs =
+    let st = c .before .before .before .before .before in
+    let f = fail-below (st .pre .1 .1 .1) (st .pre .1 .0 .0) (sym (half-at (st .args .k) (st .args .cut .0) (st .pre .1 .1 .0)) ∙ sym (c .before .before .reached .ensures) ∙ c .before .if1 .left) in
+    ((st .pre .0 .0, handed-on (st .pre .0 .1)), ((fail-inside (st .pre .0 .0) f, omega (arith, st .pre .1 .0 .1)), (st .pre .1 .1 .0, f)))
 
 returns-2 : tie.Need-returns-2
 returns-2 c = let st = c .before .before .before .before .before .before in let e = c .ascend .ensures in (e .0, distance-up (st .args .shifts) (st .args .cut .0) _ _ (e .1) (e .2))

@@ -1,0 +1,90 @@
+-- n, S and Q along a list and over a step of the window.
+-- Assumes nothing.
+use mathlib.Core.Path.{_≡_, sym, ap, ap₂, _∙_}
+use mathlib.Core.List.{List}
+use Prim.Native.Nat.{ℕ, _+_, _-_, _*_, _≤_, _<_}
+use native.Mathlib.Nat.{mul-le-mul, le-trans, le-of-eq}
+use native.Mathlib.Omega.{arith}
+use Rattle.spec.specs.declared.Plan.{Plan}
+use Rattle.spec.specs.Frame.{frameOf}
+use Rattle.spec.specs.Checks.{Planned}
+use Rattle.spec.specs.Window.{pixelCount, guideSum, squareSum}
+use Rattle.spec.proofs.Plans.{pixel-of}
+use Rattle.spec.proofs.Bounds.{pixelCount-high, guideSum-high, squareSum-high}
+use Rattle.window.specs.declared.line.Step.{Step}
+use Rattle.window.specs.declared.sums.Sums.{Sums}
+use Rattle.window.specs.Line.{Adjacent, stepOf}
+use Rattle.window.specs.Sums.{one, itself, squared, SumsAt}
+use Rattle.window.proofs.FormLaws.{both-in}
+use Rattle.window.proofs.PixelLaws.{guides-high, levels-high}
+use Rattle.pixels.specs.Pixels.{countOf, guideIn, PixelsBelow, LinePixels}
+use Rattle.pixels.specs.Sums.{ListSums, Movable, Moved}
+use Rattle.pixels.proofs.AdditiveLaws.{pixels-none, pixels-more, stepped}
+
+abbrev sums : ℕ → ℕ → ℕ → Sums
+sums n s q = record { count = n; sum = s; squares = q }
+
+-- a plan's pixels are below every limit
+pub below-most : {b : List ℕ} {z : Plan} {p : List ℕ} → Planned b z → PixelsBelow (z .levels) (z .guides) p → PixelsBelow 1024 256 p
+below-most pl v = record {
+  few = v .few;
+  level = λ k h. omega (arith, v .level k h, levels-high pl);
+  guide = λ k h. omega (arith, v .guide k h, guides-high pl);
+}
+
+-- ---- along a list
+pub sums-none : (p : List ℕ) → ListSums p 0 (sums 0 0 0)
+sums-none p = record {
+  count = sym (pixels-none _+_ 0 p one);
+  sum = sym (pixels-none _+_ 0 p itself);
+  squares = sym (pixels-none _+_ 0 p squared);
+  count-high = omega arith;
+  sum-high = omega arith;
+  squares-high = omega arith;
+}
+
+module _ {p : List ℕ} (v : PixelsBelow 1024 256 p) {k : ℕ} (h : k < countOf p) where
+  pub guide-small : (guideIn p k ≤ 255) × (guideIn p k * guideIn p k ≤ 65025)
+  guide-small = let l : guideIn p k ≤ 255 = omega (arith, v .guide k h) in (l, mul-le-mul {n₂ = 255} l l)
+
+  pub sums-next : (s q : ℕ) → ListSums p k (sums k s q) → ListSums p (k + 1) (sums (k + 1) (s + guideIn p k) (q + guideIn p k * guideIn p k))
+  sums-next s q a = record {
+    count = ap (λ (n : ℕ). n + 1) (a .count) ∙ sym (pixels-more _+_ 0 p one k);
+    sum = ap (λ (n : ℕ). n + guideIn p k) (a .sum) ∙ sym (pixels-more _+_ 0 p itself k);
+    squares = ap (λ (n : ℕ). n + guideIn p k * guideIn p k) (a .squares) ∙ sym (pixels-more _+_ 0 p squared k);
+    count-high = omega arith;
+    sum-high = omega (arith, a .sum-high, guide-small .0);
+    squares-high = omega (arith, a .squares-high, guide-small .1);
+  }
+
+pub exchanged : {e l : List ℕ} {a less more : Sums} → Movable e l a → ListSums l (countOf l) less → ListSums e (countOf e) more
+    → Moved e l a (sums (a .count + more .count - less .count) (a .sum + more .sum - less .sum) (a .squares + more .squares - less .squares))
+exchanged m l e = record {
+  count = omega (arith, m .count-enough, l .count, e .count);
+  sum = omega (arith, m .sum-enough, l .sum, e .sum);
+  squares = omega (arith, m .squares-enough, l .squares, e .squares);
+}
+
+-- ---- a step of the window
+module _ {b : List ℕ} {z : Plan} (pl : Planned b z) {s t s′ t′ : ℕ} (adj : Adjacent z s t s′ t′) {d : Step} (ed : d ≡ stepOf z s t s′ t′)
+    {e l : List ℕ} (re : LinePixels b z (d .entering) e) (rl : LinePixels b z (d .leaving) l) {a : Sums} (v : SumsAt (frameOf b) s t a) where
+  pub movable : Movable e l a
+  unfolding pixelCount guideSum squareSum
+  movable =
+      let k = pixel-of pl (both-in adj .0) (both-in adj .1) in
+      record {
+        count-high = le-trans (le-of-eq (v .count)) (pixelCount-high k);
+        sum-high = le-trans (le-of-eq (v .sum)) (guideSum-high k);
+        squares-high = le-trans (le-of-eq (v .squares)) (squareSum-high k);
+        count-enough = omega (arith, stepped (λ (g : ℕ → ℕ → ℕ). g) pl adj ed re rl one, v .count);
+        sum-enough = omega (arith, stepped (λ (g : ℕ → ℕ → ℕ). g) pl adj ed re rl itself, v .sum);
+        squares-enough = omega (arith, stepped (λ (g : ℕ → ℕ → ℕ). g) pl adj ed re rl squared, v .squares);
+      }
+
+  pub sums-moved : {r : Sums} → Moved e l a r → SumsAt (frameOf b) s′ t′ r
+  unfolding pixelCount guideSum squareSum
+  sums-moved m = record {
+    count = omega (arith, stepped (λ (g : ℕ → ℕ → ℕ). g) pl adj ed re rl one, v .count, m .count);
+    sum = omega (arith, stepped (λ (g : ℕ → ℕ → ℕ). g) pl adj ed re rl itself, v .sum, m .sum);
+    squares = omega (arith, stepped (λ (g : ℕ → ℕ → ℕ). g) pl adj ed re rl squared, v .squares, m .squares);
+  }

@@ -1,0 +1,3 @@
+pub mod Pixels
+pub mod Additive
+pub mod Sums
