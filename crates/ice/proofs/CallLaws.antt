@@ -24,10 +24,11 @@ use Rattle.spec.proofs.Plans.{facts}
 use Rattle.spec.proofs.Calls.{way-serves, Fits, walk-accepted, filter-accepted, balance-accepted}
 use Rattle.frame.specs.declared.plan.Opened.{Opened}
 use Rattle.frame.specs.Parts.{openedPlan}
-use Rattle.ice.specs.declared.Walked.{Walked}
+use Rattle.ice_walk.specs.declared.Walked.{Walked}
 use Rattle.ice.specs.declared.Balanced.{Balanced}
 use Rattle.ways.specs.Visit.{Stores, stores, lent, Fit, Left, usedOf, Serves}
-use Rattle.ice.specs.Result.{Finished, Zeroed, isJoint}
+use Rattle.ice_walk.specs.Finished.{Finished}
+use Rattle.ice.specs.Result.{Zeroed, isJoint}
 use Rattle.ice.specs.Contract.{Untouched, Ended, Walks, Filters, Balances}
 use Rattle.histogram.specs.Histogram.{Blank}
 use Rattle.ways.proofs.EachLaws.{settings-same, left-same}

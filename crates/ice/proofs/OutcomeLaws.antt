@@ -25,9 +25,6 @@ pub set-of : (b : List ℕ) → frameOf b .set ≡ settingsOf b
 unfolding frameOf
 set-of b = refl
 
-pub settings-limits-in : {b : List ℕ} {z : Plan} → Planned b z → SettingsLimits (settingsIn z)
-settings-limits-in k = subst SettingsLimits (sym (settings-same k)) (facts k .limits .sound)
-
 -- ---- outcomes
 pub stopped : (x y : Outcome) → fires x ≡ true → (x ▷ y) ≡ x
 stopped accepted y e = absurd (true≢false (sym e))

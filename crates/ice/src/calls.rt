@@ -1,11 +1,11 @@
 // The public calls: walk, filter and balance. Each makes checks 1 to 7 on the bytes that it is handed, then its own, and changes no buffer where one
 // fires.
 use crate::Balanced;
-use crate::Walked;
-use crate::filter::sweep;
-use crate::walk::travel;
 use frame::check::stops;
 use frame::plan::open_plan;
+use ice_walk::Walked;
+use ice_walk::filter::sweep;
+use ice_walk::walk::travel;
 use joint_search::balance::balance_at;
 use joint_search::rows;
 use spec::Level;
@@ -23,7 +23,8 @@ ghost use Rattle.spec.specs.Checks.{Planned};
 ghost use Rattle.spec.specs.Walk as definitions;
 ghost use Rattle.spec.specs.Filter.{filtered, filterEnd};
 ghost use Rattle.ways.specs.Visit.{stores, Fit, Serves};
-ghost use Rattle.ice.specs.Result.{Finished, Zeroed, isJoint};
+ghost use Rattle.ice_walk.specs.Finished.{Finished};
+ghost use Rattle.ice.specs.Result.{Zeroed, isJoint};
 ghost use Rattle.ice.specs.Contract.{Walks, Filters, Balances};
 
 // The result of a refused call.

@@ -8,7 +8,7 @@ use lib.ListN.{length}
 use Rattle.spec.specs.declared.Settings.{Settings}
 use Rattle.spec.specs.Writer.{written, writtenSize, writerOutcome, stored}
 use Rattle.spec.specs.Refusal.{Outcome, accepted, refused, numbered}
-use Rattle.ice.specs.declared.Walked.{Walked}
+use Rattle.ice_walk.specs.declared.Walked.{Walked}
 use Rattle.ice.specs.declared.Balanced.{Balanced}
 use Rattle.ways.specs.Visit.{Stores}
 use Rattle.ice.specs.Contract.{Walks, Filters, Balances}

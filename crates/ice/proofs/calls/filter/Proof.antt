@@ -7,7 +7,8 @@ use Rattle.spec.specs.Checks.{Planned}
 use Rattle.spec.specs.Calls.{filterChecks, filterOutcome}
 use Rattle.ways.specs.Visit.{Stores, stores, lent}
 use Rattle.checks.proofs.Laws.{known}
-use Rattle.ice.proofs.OutcomeLaws.{quiet, settings-limits-in}
+use Rattle.ice.proofs.OutcomeLaws.{quiet}
+use Rattle.ice_walk.proofs.Laws.{settings-limits-in}
 use Rattle.ice.proofs.CallLaws.{planned-of, file-decides, own-decides, filters-refused, filters-done, filter-granted}
 use borrow.Author.Needs.{needs}
 use Rattle.ice.proofs.calls.filter.Statement.{statement}

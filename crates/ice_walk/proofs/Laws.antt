@@ -17,7 +17,7 @@ use Rattle.spec.specs.declared.Way.{Way}
 use Rattle.spec.specs.declared.Move.the-variants.{To, Nowhere}
 use Rattle.spec.specs.Base.{if_then_else_}
 use Rattle.spec.specs.Frame.{Frame, frameOf, settingsIn}
-use Rattle.spec.specs.Checks.{Planned}
+use Rattle.spec.specs.Checks.{Planned, SettingsLimits}
 use Rattle.spec.specs.Walk.{State, arrive, toIf, move, step, after, answers}
 use Rattle.spec.proofs.Plans.{facts}
 use Rattle.spec.proofs.Steps.{after-one}
@@ -26,6 +26,10 @@ use Rattle.window.specs.Line.{Adjacent, right, left, down, up}
 use Rattle.ways.specs.declared.Visit.{Visit}
 use Rattle.ways.specs.Visit.{Stores, Fit, Left, usedOf, Kept, stateOf, Within, AtWindow, Visited}
 use Rattle.ways.proofs.EachLaws.{settings-same, left-same}
+
+-- ---- the plan's settings are within document 01's limits
+pub settings-limits-in : {b : List ℕ} {z : Plan} → Planned b z → SettingsLimits (settingsIn z)
+settings-limits-in k = subst SettingsLimits (sym (settings-same k)) (facts k .limits .sound)
 
 -- ---- stores over several calls
 pub left-trans : (n : ℕ) (a b c : List ℕ) → Left n a b → Left n b c → Left n a c

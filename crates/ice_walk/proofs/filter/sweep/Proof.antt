@@ -5,15 +5,15 @@ use borrow.Author.Needs.{needs}
 use lib.ListN.{length, length-set}
 use Rattle.ways.specs.Visit.{stateOf, stores}
 use Rattle.spec.proofs.Plans.{plane-small}
-use Rattle.ice.proofs.Laws.{within-of, fit-going}
-use Rattle.ice.proofs.WalkLoop.{finished}
-use Rattle.ice.proofs.FilterLoop.{Sweeping, first-in, some, sweeping-start, sweeping-low, sweeping-place, sweeping-more, sweeping-end}
-use Rattle.ice.proofs.filter.sweep.Statement.{statement}
-use Rattle.ice.proofs.filter.sweep.Tie as tie
-use Rattle.ice.proofs.filter.sweep.Reads as reads
-use Rattle.ice.proofs.filter.sweep.Lts as lts
+use Rattle.ice_walk.proofs.Laws.{within-of, fit-going}
+use Rattle.ice_walk.proofs.WalkLoop.{finished}
+use Rattle.ice_walk.proofs.FilterLoop.{Sweeping, first-in, some, sweeping-start, sweeping-low, sweeping-place, sweeping-more, sweeping-end}
+use Rattle.ice_walk.proofs.filter.sweep.Statement.{statement}
+use Rattle.ice_walk.proofs.filter.sweep.Tie as tie
+use Rattle.ice_walk.proofs.filter.sweep.Reads as reads
+use Rattle.ice_walk.proofs.filter.sweep.Lts as lts
 use Rattle.checks.proofs.moves.turn_at.Reads as turn-at-reads
-use Rattle.ice.proofs.walk.step.Reads as step-reads
+use Rattle.ice_walk.proofs.walk.step.Reads as step-reads
 use Rattle.spec.proofs.answer_number.Reads as answer-number-reads
 use Rattle.ways.proofs.dispatch.enter.Reads as enter-reads
 

@@ -1,52 +1,43 @@
 use mathlib.Core.Path.{sym, _∙_, refl}
-use Rattle.ice.proofs.OutcomeLaws.{settings-limits-in}
-use Rattle.ice.proofs.Laws.{move-adjacent, visited-moves, visited-stays}
+use Rattle.ice_walk.proofs.Laws.{settings-limits-in}
+use Rattle.ice_walk.proofs.Laws.{move-adjacent, visited-moves, visited-stays}
 use borrow.Author.Needs.{needs}
-use Rattle.ice.proofs.walk.step.Statement.{statement}
-use Rattle.ice.proofs.walk.step.Tie as tie
-use Rattle.ice.proofs.walk.step.Reads as reads
-use Rattle.ice.proofs.walk.step.Lts as lts
+use Rattle.ice_walk.proofs.walk.step.Statement.{statement}
+use Rattle.ice_walk.proofs.walk.step.Tie as tie
+use Rattle.ice_walk.proofs.walk.step.Reads as reads
+use Rattle.ice_walk.proofs.walk.step.Lts as lts
 use Rattle.checks.proofs.moves.next.Reads as next-reads
 use Rattle.ways.proofs.dispatch.slide.Reads as slide-reads
 
--- src/walk.rt:78:9
 next-requires : tie.Need-next-requires
 next-requires c κs = let at = c .before .before .before .before .before in (settings-limits-in (at .pre .0 .0), (at .pre .1 .0 .column, at .pre .1 .0 .row))
 
--- src/walk.rt:80:18
 enum-known-m : tie.Need-enum-known-m
 enum-known-m c = search needs
 
--- src/walk.rt:80:34
 slide-requires : tie.Need-slide-requires
 slide-requires c κs =
     let at = c .before .before .before .before .before .before .before .before .before .before .before .before .before in
     let on = at .pre .1 .0 in
     (at .pre .0, (on, (move-adjacent _ _ _ _ _ _ (on .column) (on .row) (sym (c .before .before .before .before .before .before .before .next .ensures) ∙ c .before .before .before .before .before .m .given .1), (at .pre .1 .1 .0, at .pre .1 .1 .1))))
 
--- src/walk.rt:93:23
 enum-known-m-2 : tie.Need-enum-known-m-2
 enum-known-m-2 c = search needs
 
--- src/walk.rt:60:1
 same-length : tie.Need-same-length
 same-length c = search needs
 
--- src/walk.rt:60:1
 same-length-2 : tie.Need-same-length-2
 same-length-2 c = search needs
 
--- src/walk.rt:60:1
 same-length-3 : tie.Need-same-length-3
 same-length-3 c = search needs
 
--- src/walk.rt:60:1
 returns : tie.Need-returns
 returns c =
     let at = c .before .before .before .before .before .before .before .before .before .before .before .before .before .before .before .before .before .before .before .before in
     visited-moves _ (at .pre .0 .0) (at .args .visit) _ _ _ _ _ _ _ (sym (c .before .before .before .before .before .before .before .before .before .before .before .before .before .before .next .ensures) ∙ c .before .before .before .before .before .before .before .before .before .before .before .before .m .given .1) (c .before .before .before .before .before .before .slide .ensures)
 
--- src/walk.rt:60:1
 returns-2 : tie.Need-returns-2
 returns-2 c =
     let at = c .before .before .before .before .before .before .before .before .before .before .before in

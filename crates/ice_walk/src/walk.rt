@@ -1,4 +1,4 @@
-// The walk: its checks, its loop, one byte of its list.
+// The walk: its loop, and one byte of its list.
 use crate::Walked;
 use checks::moves::next;
 use spec::Answer;
@@ -19,7 +19,7 @@ ghost use Rattle.spec.specs.Walk as definitions;
 ghost use Rattle.spec.specs.Calls.{zeros};
 ghost use Rattle.joint_search.specs.Arrive.{WeightRows};
 ghost use Rattle.ways.specs.Visit.{stateOf, stores, Fit, Cleared, Serves, Within, AtWindow, Visited};
-ghost use Rattle.ice.specs.Result.{Finished};
+ghost use Rattle.ice_walk.specs.Finished.{Finished};
 
 // One byte of the list: the window that it leads to, or the mark.
 pub fn step(

@@ -18,11 +18,11 @@ use Rattle.spec.proofs.Plans.{pixel-of}
 use Rattle.spec.proofs.Steps.{length-answers}
 use Rattle.spec.proofs.Walks.{Held, held-start}
 use Rattle.ways.specs.declared.Visit.{Visit}
-use Rattle.ice.specs.declared.Walked.{Walked}
+use Rattle.ice_walk.specs.declared.Walked.{Walked}
 use Rattle.spec.specs.declared.Verdict.the-variants.{Accepted}
 use Rattle.ways.specs.Visit.{Stores, Kept, Holds, stateOf, AtWindow, Visited}
-use Rattle.ice.specs.Result.{Finished}
-use Rattle.ice.proofs.Laws.{Going, going-start, going-more, going-end, answers-one, told-more}
+use Rattle.ice_walk.specs.Finished.{Finished}
+use Rattle.ice_walk.proofs.Laws.{Going, going-start, going-more, going-end, answers-one, told-more}
 
 -- A₀ are the answers where the loop begins
 pub record Walking (way : Way) (b ms : List ℕ) (x : State) (a : Stores) (A₀ : List ℕ) (z : Stores) (A : List ℕ) (d : List ℤ) (v : Visit) (i : ℕ) : Type 0 where

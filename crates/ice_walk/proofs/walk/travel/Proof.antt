@@ -4,13 +4,13 @@ use native.Mathlib.Omega.{arith}
 use borrow.Author.Needs.{needs}
 use lib.ListN.{length, length-set}
 use Rattle.ways.specs.Visit.{stateOf, stores}
-use Rattle.ice.proofs.Laws.{within-of, fit-going}
-use Rattle.ice.proofs.WalkLoop.{Walking, held-first, finished, walking-start, walking-long, walking-more, walking-end}
-use Rattle.ice.proofs.walk.travel.Statement.{statement}
-use Rattle.ice.proofs.walk.travel.Tie as tie
-use Rattle.ice.proofs.walk.travel.Reads as reads
-use Rattle.ice.proofs.walk.travel.Lts as lts
-use Rattle.ice.proofs.walk.step.Reads as step-reads
+use Rattle.ice_walk.proofs.Laws.{within-of, fit-going}
+use Rattle.ice_walk.proofs.WalkLoop.{Walking, held-first, finished, walking-start, walking-long, walking-more, walking-end}
+use Rattle.ice_walk.proofs.walk.travel.Statement.{statement}
+use Rattle.ice_walk.proofs.walk.travel.Tie as tie
+use Rattle.ice_walk.proofs.walk.travel.Reads as reads
+use Rattle.ice_walk.proofs.walk.travel.Lts as lts
+use Rattle.ice_walk.proofs.walk.step.Reads as step-reads
 use Rattle.spec.proofs.answer_number.Reads as answer-number-reads
 use Rattle.ways.proofs.dispatch.enter.Reads as enter-reads
 

@@ -17,7 +17,7 @@ ghost use Rattle.spec.specs.Filter.{filtered, filterEnd};
 ghost use Rattle.spec.specs.Calls.{zeros};
 ghost use Rattle.joint_search.specs.Arrive.{WeightRows};
 ghost use Rattle.ways.specs.Visit.{stores, Fit, Cleared, Serves};
-ghost use Rattle.ice.specs.Result.{Finished};
+ghost use Rattle.ice_walk.specs.Finished.{Finished};
 
 // The filter's work, after the checks. The box comes and goes by value, and is lent inside.
 pub fn sweep(

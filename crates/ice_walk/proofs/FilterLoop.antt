@@ -27,9 +27,9 @@ use Rattle.spec.proofs.Walks.{Held}
 use Rattle.spec.proofs.Serpentine.{At, at-arrive, at-turn, columnAfter, visited, visited-is, visited-div, visited-mod, visited-twice, visited-low, serpentine-length, serpentine-byte, serpentine-begins}
 use Rattle.ways.specs.declared.Visit.{Visit}
 use Rattle.ways.specs.Visit.{Stores, Left, Kept, stateOf, AtWindow, Visited}
-use Rattle.ice.proofs.WalkLoop.{held-first}
+use Rattle.ice_walk.proofs.WalkLoop.{held-first}
 use Rattle.ways.proofs.EachLaws.{left-same}
-use Rattle.ice.proofs.Laws.{left-trans, left-set, Going, going-start, going-more, going-end}
+use Rattle.ice_walk.proofs.Laws.{left-trans, left-set, Going, going-start, going-more, going-end}
 
 -- ---- the plane, pixel by pixel, when i moves are done
 unfoldable pub Plane : Frame → List ℕ → ℕ → Type 0
