@@ -61,7 +61,7 @@ lengthOf Values t = 2 * pixels (t .settings)
 lengthOf Guides t = 2 * pixels (t .settings)
 lengthOf Table t = 2 * ownWeights t
 
--- its bytes, and that a slice is it
+-- its bytes; and that a slice is exactly that part of a file
 unfoldable pub planeOf : Plane → List ℕ → Trailer → List ℕ
 planeOf which b t = shown b (distanceOf which t) (lengthOf which t)
 

@@ -11,7 +11,7 @@ use Rattle.spec.specs.declared.Room.{Room}
 use Rattle.spec.specs.Base.{fold, foldRect, first, tabulateFrom, tabulate}
 use Rattle.spec.specs.Bytes.{be16, be32, to16, to32, all16}
 use Rattle.spec.specs.Refusal.{Outcome, accepted, refused}
-use Rattle.spec.specs.Frame.{Frame, guide, trailerAt, settingsOf, trailerOf, ownWeights, valuePart, guidePart, tablePart, builtIn, planOf, pixelLevel, pixelGuide, frameOf}
+use Rattle.spec.specs.Frame.{guide, trailerAt, settingsOf, trailerOf, ownWeights, valuePart, guidePart, tablePart, builtIn, planOf, pixelLevel, pixelGuide, frameOf}
 use Rattle.spec.specs.Checks.{badMark, badSize, badCounts, badKind, badRadius, settingsOutcome, badDistance, scan, scanFile, valueScan, guideScan, tableScan, contents, trailerOutcome, verdict}
 use Rattle.spec.specs.Window.{span, over, pixelCount, guideSum, squareSum, count, levelSum}
 use Rattle.spec.specs.Weight.{scaledVariance, guidedWeight, weight, monotone}
@@ -184,8 +184,10 @@ cases =
     ∷ accept (placedA 12 5 0) ⇒ says (refused 6 [])
     ∷ accept (placedA 12 13 0) ⇒ says (refused 6 [])
     ∷ accept (placedA 12 6 12) ⇒ says (refused 6 [])
-    ∷ parts (placedA 8 6 0) ⇒ prints (0 ∷ 3 ∷ 0 ∷ 0 ∷ 0 ∷ 0 ∷ 0 ∷ 0 ∷ 0 ∷ 0 ∷ 0 ∷ 2 ∷ [])
     ∷ accept (placedA 8 6 0) ⇒ says accepted
+    ∷ parts (placedA 8 6 0) ⇒ prints (0 ∷ 3 ∷ 0 ∷ 0 ∷ 0 ∷ 0 ∷ 0 ∷ 0 ∷ 0 ∷ 0 ∷ 0 ∷ 2 ∷ [])
+    ∷ accept (255 ∷ 255 ∷ fileA) ⇒ says accepted
+    ∷ parts (255 ∷ 255 ∷ fileA) ⇒ prints (0 ∷ 5 ∷ 0 ∷ 1 ∷ 0 ∷ 3 ∷ 0 ∷ 0 ∷ 0 ∷ 0 ∷ 0 ∷ 2 ∷ [])
     ∷ accept (placedTable 2 4 8) ⇒ says accepted
     ∷ accept (placedTable 2 4 7) ⇒ says (refused 6 [])
     ∷ accept (placedTable 2 4 13) ⇒ says (refused 6 [])
