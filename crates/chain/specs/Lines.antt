@@ -62,6 +62,7 @@ pub record MergeableLine (adding : Bool) (b : List ℕ) (z : Size) (d : Line) (f
   pub chain : ListOf z (withCounts (not adding) b d cnt) (withGuides (not adding) b d sm) free m
   pub ready : LineReady adding z d cnt sm
 
-pub record MergedLine (adding : Bool) (b : List ℕ) (z : Size) (d : Line) (free : FreeList) (m : List ℕ) (free′ : FreeList) (m′ : List ℕ) : Type 0 where
+pub record MergedLine (adding : Bool) (b : List ℕ) (z : Size) (d : Line) (free : FreeList) (m : List ℕ) (free′ : FreeList)
+    (m′ : List ℕ) : Type 0 where
   pub beyond : Beyond (z .cap) m m′
   pub chain : (a : MergeableLine adding b z d free m) → ListOf z (withCounts adding b d (a .cnt)) (withGuides adding b d (a .sm)) free′ m′

@@ -1,5 +1,5 @@
-// The list of a window: made at a start, whatever the store held, and carried to a neighbour by one line out and one line in. The line goes out first,
-// so that a node is free for each level that comes in.
+// The list of a window: made at a start, whatever the store held, and carried to a neighbour by one line out and one line in. The line goes out
+// first, so that a node is free for each level that comes in.
 use crate::FreeList;
 use crate::line;
 use crate::list;
@@ -37,7 +37,8 @@ pub fn slide(file: &[u8], z: Plan, free: FreeList, d: Step, numbers: &mut [u32])
     requires { ⌜ Planned (now file) z ⌝ }
     requires { ⌜ StepInPlanes z d ⌝ }
     requires { ⌜ Slides (now file) z d free (now numbers) ⌝ }
-    ensures { λ r. ⌜ ((a : Slides (now (file .entry)) z d free (now (numbers .entry))) → Stored (now (file .entry)) z (a .s′) (a .t′) (now (numbers .entry)) r (now (numbers .exit))) ⌝ }
+    ensures { λ r. ⌜ ((a : Slides (now (file .entry)) z d free (now (numbers .entry)))
+        → Stored (now (file .entry)) z (a .s′) (a .t′) (now (numbers .entry)) r (now (numbers .exit))) ⌝ }
 {
     let size = line::size_of(z);
     let leaving = d.leaving;

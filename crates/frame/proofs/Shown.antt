@@ -1,6 +1,7 @@
 -- What an accepted file's opened frame shows: each plane and the table as exactly that part of the bytes, whose numbers are the plan's.
 -- Assumes nothing.
 use mathlib.Core.Path.{_≡_, refl, sym, ap, _∙_}
+use mathlib.Core.Bool.{false}
 use mathlib.Core.List.{List, []}
 use Prim.Native.Nat.{ℕ, _+_, _-_, _*_, _≤_, _<_}
 use native.Mathlib.Nat.{add-assoc}
@@ -15,13 +16,12 @@ use Rattle.spec.specs.Checks.{verdict}
 use Rattle.spec.proofs.Checks.{Near, passed}
 use Rattle.frame.specs.declared.open.Plane.{Plane}
 use Rattle.frame.specs.declared.open.Plane.the-variants.{Values, Guides, Table}
-use Rattle.frame.specs.Open.{shown, opened, planeOf, partOf, sizeOf, startOf}
+use Rattle.frame.specs.Open.{noPart, shown, shownFrom, opened, distanceOf, lengthOf, planeOf, partOf, sizeOf, startOf}
+use Rattle.spec.specs.declared.Trailer.{Trailer}
 
 -- so far back from the trailer
 abbrev backOf : Plane → List ℕ → ℕ
-backOf Values b = trailerOf b .value
-backOf Guides b = trailerOf b .guide
-backOf Table b = trailerOf b .table
+backOf which b = distanceOf which (trailerOf b)
 
 part-is : (which : Plane) (b : List ℕ) → partOf which b ≡ part b (backOf which b) (2 * sizeOf which b)
 unfolding valuePart guidePart tablePart
@@ -35,11 +35,11 @@ start-is Values b = refl
 start-is Guides b = refl
 start-is Table b = refl
 
-plane-is : (which : Plane) (b : List ℕ) → planeOf which b (trailerOf b) ≡ shown b (backOf which b) (2 * sizeOf which b)
-unfolding planeOf trailerOf
-plane-is Values b = refl
-plane-is Guides b = refl
-plane-is Table b = refl
+length-is : (which : Plane) (b : List ℕ) → lengthOf which (trailerOf b) ≡ 2 * sizeOf which b
+unfolding trailerOf
+length-is Values b = refl
+length-is Guides b = refl
+length-is Table b = refl
 
 inside : (which : Plane) (b : List ℕ) → Near (trailerAt b) (trailerOf b) → (2 * sizeOf which b ≤ backOf which b) × (backOf which b ≤ trailerAt b)
 unfolding trailerOf
@@ -47,9 +47,17 @@ inside Values b n = (n .value-long, n .value-in)
 inside Guides b n = (n .guide-long, n .guide-in)
 inside Table b n = (n .table-long, n .table-in)
 
+no-gap : (b : List ℕ) (back n : ℕ) → 28 ≤ length b → back ≤ trailerAt b → n ≤ back → noPart b back n ≡ false
+unfolding noPart
+no-gap b back n h i j = simp (le-ltb _ _ h, le-ltb _ _ i, le-ltb _ _ j)
+
 shows-part : (b : List ℕ) (back n : ℕ) → 28 ≤ length b → back ≤ trailerAt b → n ≤ back → shown b back n ≡ part b back n
 unfolding shown
-shows-part b back n h i j = simp (le-ltb _ _ h, le-ltb _ _ i, le-ltb _ _ j)
+shows-part b back n h i j = simp (no-gap b back n h i j)
+
+starts-part : (b : List ℕ) (back n : ℕ) → 28 ≤ length b → back ≤ trailerAt b → n ≤ back → shownFrom b back n ≡ trailerAt b - back
+unfolding shownFrom
+starts-part b back n h i j = simp (no-gap b back n h i j)
 
 part-long : (b : List ℕ) (back n : ℕ) → 28 ≤ length b → back ≤ trailerAt b → n ≤ back → length (part b back n) ≡ n
 unfolding trailerAt
@@ -70,10 +78,19 @@ module _ (which : Plane) (b : List ℕ) (e : verdict b ≡ accepted) where
 
   -- what `bytes` and `plane_of` give is the part
   pub shows : planeOf which b (opened b) ≡ partOf which b
+  unfolding planeOf
   shows =
       let s = passed b e in
       let i = inside which b (s .near) in
-      ap (planeOf which b) opens ∙ plane-is which b ∙ shows-part b _ _ (s .long) (i .1) (i .0) ∙ sym (part-is which b)
+      ap (planeOf which b) opens ∙ ap (shown b (backOf which b)) (length-is which b) ∙ shows-part b _ _ (s .long) (i .1) (i .0) ∙ sym (part-is which b)
+
+  -- and begins where the plan has it
+  pub starts : shownFrom b (distanceOf which (opened b)) (lengthOf which (opened b)) ≡ startOf which b
+  starts =
+      let s = passed b e in
+      let i = inside which b (s .near) in
+      ap (λ (t : Trailer). shownFrom b (distanceOf which t) (lengthOf which t)) opens ∙ ap (shownFrom b (backOf which b)) (length-is which b)
+      ∙ starts-part b _ _ (s .long) (i .1) (i .0) ∙ sym (start-is which b)
 
   pub shows-long : length (partOf which b) ≡ 2 * sizeOf which b
   shows-long =

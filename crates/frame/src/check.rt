@@ -14,7 +14,8 @@ ghost use lib.ListN.{length};
 ghost use mathlib.Core.List.{[], _∷_};
 ghost use Rattle.spec.specs.Refusal.{refused, numbered, fires};
 ghost use Rattle.spec.specs.Frame.{pixels, tableSize};
-ghost use Rattle.spec.specs.Checks.{outside, badMark, badSize, badCounts, badKind, settingsOutcome, badDistance, scanFile, contents, trailerOutcome, verdict};
+ghost use Rattle.spec.specs.Checks.{outside, badMark, badSize, badCounts, badKind, settingsOutcome};
+ghost use Rattle.spec.specs.Checks.{badDistance, scanFile, contents, trailerOutcome, verdict};
 ghost use Rattle.frame.specs.Parts.{PartsInFile};
 
 // The largest weight.

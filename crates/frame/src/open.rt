@@ -9,7 +9,7 @@ use spec::Verdict;
 ghost use mathlib.Core.Path.{_≡_};
 ghost use Rattle.spec.specs.Refusal.{numbered};
 ghost use Rattle.spec.specs.Checks.{verdict};
-ghost use Rattle.frame.specs.Open.{shown, blankTrailer, opened, Opens, planeOf};
+ghost use Rattle.frame.specs.Open.{blankTrailer, opened, Opens, Shows, ShowsPlane};
 
 pub enum Plane {
     Values,
@@ -25,7 +25,7 @@ pub struct Head {
 
 // n bytes from so far back from the trailer; none where the file has no such part.
 pub fn part(file: &[u8], back: usize, n: usize) -> &[u8]
-    ensures { λ r. ⌜ now r ≡ shown (now (file .entry)) back n ⌝ }
+    ensures { λ r. ⌜ Shows (file .entry) back n r ⌝ }
 {
     if file.len() < read::TRAILER {
         return &file[0..0];
@@ -82,7 +82,7 @@ pub fn read_head(file: &[u8]) -> Head
 
 // The bytes of a plane or of the table, by a head.
 pub fn show(which: Plane, file: &[u8], h: Head) -> &[u8]
-    ensures { λ r. ⌜ now r ≡ planeOf which (now (file .entry)) (h .trailer) ⌝ }
+    ensures { λ r. ⌜ ShowsPlane which (file .entry) (h .trailer) r ⌝ }
 {
     let t = h.trailer;
     let k = t.settings;
@@ -100,7 +100,8 @@ pub struct Frame<'a> {
 }
 
 pub fn open<'a>(file: &'a [u8]) -> Frame<'a>
-    ensures { λ r. ⌜ (r .file ≡ file .entry) × (numbered (r .head .verdict) ≡ verdict (now (file .entry))) × (r .head .trailer ≡ opened (now (file .entry))) ⌝ }
+    ensures { λ r. ⌜ (r .file ≡ file .entry) × (numbered (r .head .verdict) ≡ verdict (now (file .entry)))
+        × (r .head .trailer ≡ opened (now (file .entry))) ⌝ }
 {
     let head = read_head(file);
     Frame { file, head }
@@ -108,14 +109,14 @@ pub fn open<'a>(file: &'a [u8]) -> Frame<'a>
 
 // The bytes of a plane or of the table of an opened frame.
 pub fn bytes<'a>(which: Plane, f: Frame<'a>) -> &'a [u8]
-    ensures { λ r. ⌜ now r ≡ planeOf which (now (f .entry .file)) (f .entry .head .trailer) ⌝ }
+    ensures { λ r. ⌜ ShowsPlane which (f .entry .file) (f .entry .head .trailer) r ⌝ }
 {
     show(which, f.file, f.head)
 }
 
 // The bytes of a plane or of the table of a file.
 pub fn plane_of(which: Plane, file: &[u8]) -> &[u8]
-    ensures { λ r. ⌜ now r ≡ planeOf which (now (file .entry)) (opened (now (file .entry))) ⌝ }
+    ensures { λ r. ⌜ ShowsPlane which (file .entry) (opened (now (file .entry))) r ⌝ }
 {
     bytes(which, open(file))
 }

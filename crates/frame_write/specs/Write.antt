@@ -54,7 +54,8 @@ pub record Returned (k : Settings) (v g a b : List ℕ) : Type 0 where
   pub guides : guidePart b ≡ all16 g
   pub level-at : (j : ℕ) → j < pixels k → pixelLevel b j ≡ getD v j 0
   pub guide-at : (j : ℕ) → j < pixels k → pixelGuide b j ≡ getD g j 0
-  pub weight-at : (f e : ℕ) → f < k .guides → e < k .guides → table (frameOf b) f e ≡ (if eqb (length a) 0 then builtIn f e else getD a (f * k .guides + e) 0)
+  pub weight-at : (f e : ℕ) → f < k .guides → e < k .guides → table (frameOf b) f e
+      ≡ (if eqb (length a) 0 then builtIn f e else getD a (f * k .guides + e) 0)
   pub table : tablePart b ≡ all16 a
 
 -- what opening that file says, by the contract of opening

@@ -104,11 +104,11 @@ pub fn write(
 ) -> Written
     ensures { λ r. ⌜ Writes k (now (values .entry)) (now (guides .entry)) (now (table .entry)) (now (output .entry)) r (now (output .exit)) ⌝ }
 {
-    let v = check_writing(k, values, guides, table, output.len());
-    if check::stops(v) {
-        return answer(v, 0);
+    let verdict = check_writing(k, values, guides, table, output.len());
+    if check::stops(verdict) {
+        return answer(verdict, 0);
     }
     put::put_file(output, k, values, guides, table);
     let size = 4 * values.len() + 2 * table.len() + 28;
-    answer(v, size)
+    answer(verdict, size)
 }

@@ -1,5 +1,5 @@
-// The window's histogram of levels, with guide sums: for l levels, place i of a list is level i's count and place l + i its guide sum. Way 1 keeps it beside
-// its store in kind 2, where a level's weight takes no more than these two numbers.
+// The window's histogram of levels, with guide sums: for l levels, place i of a list is level i's count and place l + i its guide sum. Way 1 keeps
+// it beside its store in kind 2, where a level's weight takes no more than these two numbers.
 use spec::Guide;
 use spec::Level;
 use spec::Plan;

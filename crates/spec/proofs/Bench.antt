@@ -4,14 +4,14 @@ use Prim.Native.Nat.{ℕ, _+_}
 use mathlib.Core.List.{List, [], _∷_, _++_, map}
 use mathlib.Core.Path.{_≡_, refl}
 use lib.Dec.{lit<, lit≤}
-use lib.ListN.{replicate, take}
+use lib.ListN.{replicate, take, drop}
 use lib.IntN.{ℤ, pos, negsuc}
 use Rattle.spec.specs.declared.Settings.{Settings}
 use Rattle.spec.specs.declared.Room.{Room}
 use Rattle.spec.specs.Base.{fold, foldRect, first, tabulateFrom, tabulate}
 use Rattle.spec.specs.Bytes.{be16, be32, to16, to32, all16}
 use Rattle.spec.specs.Refusal.{Outcome, accepted, refused}
-use Rattle.spec.specs.Frame.{Frame, guide, trailerAt, settingsOf, trailerOf, ownWeights, valuePart, guidePart, tablePart, builtIn, planOf, pixelLevel, pixelGuide, frameOf}
+use Rattle.spec.specs.Frame.{guide, trailerAt, settingsOf, trailerOf, ownWeights, valuePart, guidePart, tablePart, builtIn, planOf, pixelLevel, pixelGuide, frameOf}
 use Rattle.spec.specs.Checks.{badMark, badSize, badCounts, badKind, badRadius, settingsOutcome, badDistance, scan, scanFile, valueScan, guideScan, tableScan, contents, trailerOutcome, verdict}
 use Rattle.spec.specs.Window.{span, over, pixelCount, guideSum, squareSum, count, levelSum}
 use Rattle.spec.specs.Weight.{scaledVariance, guidedWeight, weight, monotone}
@@ -108,6 +108,18 @@ fileG = made 1 1 8 2 1 1 0 (2 ∷ []) (0 ∷ []) (1 ∷ 1 ∷ 1 ∷ 1 ∷ [])
 abbrev fileTwoRows : List ℕ
 fileTwoRows = made 3 2 8 16 2 1 1 (6 ∷ 1 ∷ 3 ∷ 7 ∷ 1 ∷ 4 ∷ []) (7 ∷ 15 ∷ 3 ∷ 7 ∷ 0 ∷ 3 ∷ []) []
 
+-- bytes and behind them a trailer with these settings and these distances to value plane, guide plane and table
+abbrev placed : List ℕ → Settings → ℕ → ℕ → ℕ → List ℕ
+placed b k v g a = b ++ fieldBytes k ++ to32 v ++ to32 g ++ to32 a ++ to32 0x49434531
+
+-- A's bytes before its trailer, with A's settings but for the distances
+abbrev placedA : ℕ → ℕ → ℕ → List ℕ
+placedA = placed (take 12 fileA) (settings 3 1 8 4 2 1 1)
+
+-- 12 bytes of which a value plane of one pixel, a guide plane and a table of two by two may be any part, in kind 1
+abbrev placedTable : ℕ → ℕ → ℕ → List ℕ
+placedTable = placed (take 12 fileA) (settings 1 1 8 2 1 0 0)
+
 -- counts, words, 32-bit numbers
 abbrev room : ℕ → ℕ → ℕ → Room
 room a b c = record { counts = a; words = b; numbers = c }
@@ -152,6 +164,36 @@ cases =
     ∷ judge 1024 257 15 65025 ⇒ says (refused 2 [])
     ∷ judge 1024 256 16 65025 ⇒ says (refused 5 [])
     ∷ judge 1024 256 15 65026 ⇒ says (refused 4 [])
+    ∷ judge 1025 1 15 65025 ⇒ says (refused 2 [])
+    ∷ judge 1 1025 15 65025 ⇒ says (refused 2 [])
+    ∷ judge 0 1 15 65025 ⇒ says (refused 2 [])
+    ∷ judge 1 1 0 0 ⇒ says (refused 4 [])
+    ∷ accept (drop 13 fileA) ⇒ says (refused 1 [])
+    ∷ accept (drop 12 fileA) ⇒ says (refused 6 [])
+    ∷ accept (take 39 fileA ++ (0x32 ∷ [])) ⇒ says (refused 1 [])
+    ∷ call (settingsOutcome (settings 1 1 1024 256 2 0 1)) ⇒ says accepted
+    ∷ call (settingsOutcome (settings 1 1 1025 256 2 0 1)) ⇒ says (refused 3 [])
+    ∷ call (settingsOutcome (settings 1 1 1024 257 2 0 1)) ⇒ says (refused 3 [])
+    ∷ call (settingsOutcome (settings 1 1 2 2 1 0 0)) ⇒ says accepted
+    ∷ call (settingsOutcome (settings 1 1 1 2 1 0 0)) ⇒ says (refused 3 [])
+    ∷ call (settingsOutcome (settings 1 1 2 1 1 0 0)) ⇒ says (refused 3 [])
+    ∷ call (settingsOutcome (settings 1 1 2 2 1 0 1)) ⇒ says (refused 4 [])
+    ∷ call (settingsOutcome (settings 1 1 2 2 3 0 0)) ⇒ says (refused 4 [])
+    ∷ accept (placedA 5 6 0) ⇒ says (refused 6 [])
+    ∷ accept (placedA 13 6 0) ⇒ says (refused 6 [])
+    ∷ accept (placedA 12 5 0) ⇒ says (refused 6 [])
+    ∷ accept (placedA 12 13 0) ⇒ says (refused 6 [])
+    ∷ accept (placedA 12 6 12) ⇒ says (refused 6 [])
+    ∷ accept (placedA 8 6 0) ⇒ says accepted
+    ∷ parts (placedA 8 6 0) ⇒ prints (0 ∷ 3 ∷ 0 ∷ 0 ∷ 0 ∷ 0 ∷ 0 ∷ 0 ∷ 0 ∷ 0 ∷ 0 ∷ 2 ∷ [])
+    ∷ accept (255 ∷ 255 ∷ fileA) ⇒ says accepted
+    ∷ parts (255 ∷ 255 ∷ fileA) ⇒ prints (0 ∷ 5 ∷ 0 ∷ 1 ∷ 0 ∷ 3 ∷ 0 ∷ 0 ∷ 0 ∷ 0 ∷ 0 ∷ 2 ∷ [])
+    ∷ accept (placedTable 2 4 8) ⇒ says accepted
+    ∷ accept (placedTable 2 4 7) ⇒ says (refused 6 [])
+    ∷ accept (placedTable 2 4 13) ⇒ says (refused 6 [])
+    ∷ accept (made 3 1 8 4 2 1 1 (5 ∷ 1 ∷ 7 ∷ []) (0 ∷ 0 ∷ 3 ∷ []) []) ⇒ says accepted
+    ∷ accept (made 3 1 8 4 2 1 1 (5 ∷ 1 ∷ 8 ∷ []) (0 ∷ 0 ∷ 4 ∷ []) []) ⇒ says (refused 7 (4 ∷ []))
+    ∷ output (made 3 1 8 4 2 1 1 (5 ∷ 1 ∷ 3 ∷ []) (0 ∷ 0 ∷ 4 ∷ []) []) ⇒ prints (114 ∷ 101 ∷ 102 ∷ 117 ∷ 115 ∷ 101 ∷ 100 ∷ 32 ∷ 55 ∷ 32 ∷ 49 ∷ 48 ∷ 10 ∷ [])
     ∷ accept (made 1 1 8 2 1 1 0 (2 ∷ []) (0 ∷ []) (0 ∷ 256 ∷ 0 ∷ 0 ∷ [])) ⇒ says accepted
     ∷ accept (made 1 1 8 2 1 1 0 (2 ∷ []) (0 ∷ []) (0 ∷ 257 ∷ 0 ∷ 0 ∷ [])) ⇒ says (refused 7 (6 ∷ []))
     ∷ filter (made 2 1 8 2 1 1 0 (2 ∷ 6 ∷ []) (0 ∷ 1 ∷ []) (1 ∷ 2 ∷ 0 ∷ 1 ∷ [])) ⇒ gives (6 ∷ 6 ∷ []) 6

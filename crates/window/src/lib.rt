@@ -1,5 +1,5 @@
-// A window of the picture, as every way of counting needs it: its pixels, the lines that enter and leave as it moves, its sums, and the coefficients of
-// its weights.
+// A window of the picture, as every way of counting needs it: its pixels, the lines that enter and leave as it moves, its sums, and the
+// coefficients of its weights.
 pub mod coefficients;
 pub mod line;
 pub mod pixel;

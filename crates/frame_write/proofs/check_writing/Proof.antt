@@ -1,5 +1,7 @@
 -- `frame_write::check_writing` meets its contract. Assumes nothing.
 use mathlib.Core.Path.{_≡_}
+use lib.ListN.{length}
+use native.Mathlib.Omega.{arith}
 use borrow.Author.Tests.{lt-ltb, le-ltb}
 use Rattle.spec.specs.Refusal.{accepted, _▷_}
 use Rattle.spec.specs.Checks.{settingsOutcome}
@@ -135,8 +137,9 @@ returns-6 c =
     let f = g .before .before .before in
     let d = f .before .before .before in
     let e = d .before .before .before .before in
+    let a = s5 g .args in
     past5 _ _ _ _ _ (q1 (e .before .before)) (q2 e) (q3 d) (q4 f) (q5 g)
-    (simp (lt-ltb _ _ (rw (d .before .before .before .product .ensures .0) at (c .if6 .taken))))
+    (simp (lt-ltb (a .room) (writtenSize (a .k) (length (a .table .now))) (omega (arith, d .before .before .before .product .ensures .0))))
 
 returns-7 : tie.Need-returns-7
 unfolding writtenSize
@@ -145,8 +148,9 @@ returns-7 c =
     let f = g .before .before .before in
     let d = f .before .before .before in
     let e = d .before .before .before .before in
+    let a = s5 g .args in
     past5 _ _ _ _ _ (q1 (e .before .before)) (q2 e) (q3 d) (q4 f) (q5 g)
-    (simp (le-ltb _ _ (rw (d .before .before .before .product .ensures .0) at (c .if6 .left))))
+    (simp (le-ltb (a .room) (writtenSize (a .k) (length (a .table .now))) (omega (arith, d .before .before .before .product .ensures .0))))
 
 pub check-writing-spec : {M : Type 1} → statement M
 check-writing-spec =

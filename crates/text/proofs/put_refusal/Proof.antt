@@ -3,6 +3,8 @@
 use mathlib.Core.Path.{sym}
 use mathlib.Core.List.{[], _∷_, _++_}
 use lib.Dec.{eqb}
+use lib.ListN.{length-append}
+use native.Mathlib.Omega.{arith}
 use Rattle.spec.specs.Base.{if_then_else_}
 use Rattle.spec.specs.Program.{decimal, refusedWord, beside}
 use Rattle.text.specs.Text.{Room, refusalText, spacedOne}
@@ -16,6 +18,11 @@ use Rattle.text.proofs.put_refusal.Tie as tie
 head : (s : tie.Start) → Room (s .args .out .now) (s .args .at) (refusedWord ++ decimal (s .args .number))
 unfolding refusalText
 head s = room-line (s .args .out .now) (s .args .at) (refusedWord ++ decimal (s .args .number)) (beside (if eqb (s .args .number) 7 then s .args .offset ∷ [] else [])) (s .pre)
+
+-- and for the end of the line behind them
+ended : (s : tie.Start) → Room (s .args .out .now) (s .args .at) (refusedWord ++ decimal (s .args .number) ++ (10 ∷ []))
+unfolding refusalText
+ended s = simp length-append (omega (arith, simp length-append at (s .pre)))
 
 slice-aggregate-put-word : tie.Need-slice-aggregate-put-word
 slice-aggregate-put-word c = search needs
@@ -33,7 +40,7 @@ put-decimal-requires c κs =
 put-byte-requires : tie.Need-put-byte-requires
 put-byte-requires c κs =
     let s = c .before .before .before .before .before .before .before .before .before .before .before .before in
-    room-end (rw (refusal-plain (s .args .number) (s .args .offset) (c .before .if1 .taken)) at (s .pre)) (c .before .before .before .before .before .before .before .before .put-word .ensures) (c .before .before .before .before .put-decimal .ensures)
+    room-end (ended s) (c .before .before .before .before .before .before .before .before .put-word .ensures) (c .before .before .before .before .put-decimal .ensures)
 
 same-length : tie.Need-same-length
 same-length c = search needs

@@ -1,23 +1,33 @@
 -- `text::put_size` meets its contract: width, height, the end of the line.
 -- Assumes nothing.
-use Rattle.text.proofs.Putting.{joined, room-line, room-second, room-end}
+use Prim.Native.Nat.{_+_, _≤_}
+use native.Mathlib.Omega.{arith}
+use lib.ListN.{length, length-append}
+use Rattle.text.proofs.Putting.{joined, as-long}
 use Rattle.spec.specs.Program.{decimal}
-use Rattle.text.specs.Text.{spacedOne, sizeText}
+use Rattle.text.specs.Text.{sizeText}
 use borrow.Author.Needs.{needs}
 use Rattle.text.proofs.put_size.Statement.{statement}
 use Rattle.text.proofs.put_size.Tie as tie
 
-put-decimal-requires : tie.Need-put-decimal-requires
+-- room for both numbers and the end of the line
+room : (s : tie.Start) → s .args .at + (length (decimal (s .args .width)) + length (decimal (s .args .height)) + 2) ≤ length (s .args .out .now)
 unfolding sizeText
-put-decimal-requires c κs = let s = c .before .before in room-line (s .args .out .now) (s .args .at) (decimal (s .args .width)) (spacedOne (s .args .height)) (s .pre)
+room s = omega (arith, simp length-append at (s .pre))
+
+put-decimal-requires : tie.Need-put-decimal-requires
+put-decimal-requires c κs = omega (arith, room (c .before .before))
 
 put-spaced-requires : tie.Need-put-spaced-requires
-unfolding sizeText
-put-spaced-requires c κs = room-second (spacedOne (c .before .before .before .before .before .before .args .height)) (c .before .before .before .before .before .before .pre) (c .before .before .before .put-decimal .ensures)
+put-spaced-requires c κs =
+    let e = c .before .before .before .put-decimal .ensures in
+    omega (arith, room (c .before .before .before .before .before .before), e .behind, as-long e)
 
 put-byte-requires : tie.Need-put-byte-requires
-unfolding sizeText
-put-byte-requires c κs = room-end (c .before .before .before .before .before .before .before .before .before .before .pre) (c .before .before .before .before .before .before .before .put-decimal .ensures) (c .before .before .before .put-spaced .ensures)
+put-byte-requires c κs =
+    let e = c .before .before .before .before .before .before .before .put-decimal .ensures in
+    let f = c .before .before .before .put-spaced .ensures in
+    omega (arith, room (c .before .before .before .before .before .before .before .before .before .before), e .behind, as-long e, f .behind, as-long f)
 
 same-length : tie.Need-same-length
 same-length c = search needs

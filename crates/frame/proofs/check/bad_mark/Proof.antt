@@ -1,14 +1,16 @@
 -- `frame::check::bad_mark` meets its contract. Assumes nothing.
 use Rattle.spec.specs.Checks.{badMark}
 use Rattle.spec.specs.Frame.{trailerAt}
-use borrow.Author.Tests.{eq-eqb, ne-eqb, lt-ltb, le-ltb}
+use borrow.Author.Tests.{lt-ltb, le-ltb}
+use lib.ListN.{length}
+use native.Mathlib.Omega.{arith}
 use borrow.Author.Needs.{needs}
 use Rattle.frame.proofs.check.bad_mark.Statement.{statement}
 use Rattle.frame.proofs.check.bad_mark.Tie as tie
 
 returns : tie.Need-returns
 unfolding badMark trailerAt
-returns c = search (needs, eq-eqb, ne-eqb, lt-ltb, le-ltb)
+returns c = simp (lt-ltb (length (c .before .before .args .file .now)) 28 (omega arith))
 
 sub-be32 : tie.Need-sub-be32
 sub-be32 c = search needs

@@ -38,7 +38,7 @@ returns : tie.Need-returns Inv-loop μ-loop
 unfolding scanFile
 returns c =
     c .too-large .ensures
-    ∙ scan-found _ _ _ _ (c .before .before .before .before .loop .k) (c .before .before .before .loop-test .taken) (rw (c .before .before .be16 .ensures) at (c .before .if1 .taken)) (c .before .before .before .before .loop .inv .1)
+    ∙ scan-found _ _ _ _ (c .before .before .before .before .loop .k) (c .before .before .before .loop-test .taken) (omega (arith, c .before .before .be16 .ensures, c .before .if1 .taken)) (c .before .before .before .before .loop .inv .1)
 
 add-k : tie.Need-add-k Inv-loop μ-loop
 add-k c = omega arith
@@ -47,7 +47,7 @@ loop-less : tie.Need-loop-less Inv-loop μ-loop
 loop-less c = omega arith
 
 loop-again : tie.Need-loop-again Inv-loop μ-loop
-loop-again c = (omega arith, below-more _ _ (c .before .before .before .loop .inv .1) (rw (c .before .be16 .ensures) at (c .if1 .left)))
+loop-again c = (omega arith, below-more _ _ (c .before .before .before .loop .inv .1) (omega (arith, c .before .be16 .ensures)))
 
 returns-2 : tie.Need-returns-2 Inv-loop μ-loop
 unfolding scanFile

@@ -25,7 +25,7 @@ use sound.WpLaws.{FmC, fmOf, WpFn-mono}
 use denote.RattleType.{RattleType, owns}
 use denote.Laws.{Is, shows}
 use denote.Builtin.{u8}
-use denote.Ref.{RefT, now}
+use denote.Ref.{RefT}
 use denote.Signature.{namedLft}
 use denote.Slice.{sliceVal, ShrSlice, shr-slice-lawful}
 use denote.Steps.{peeks, heard}
@@ -41,7 +41,7 @@ use denote.Triple.Table.{entered, cited}
 use denote.Triple.Walked.{says, Stays, stay-none, walkOf, goes-none, Walks, ends-at, walked, walk-meets}
 use denote.Exit.{yes}
 use denote.Triple.Clauses.{ensured, lasts}
-use Rattle.frame.specs.Open.{planeOf}
+use Rattle.frame.specs.Open.{ShowsPlane}
 use Rattle.frame.specs.declared.open.Frame.{Frame}
 use Rattle.frame.specs.declared.open.Plane.{Plane}
 use Rattle.frame.proofs.open.Frame as T
@@ -98,7 +98,7 @@ module _ {M : Type 1} (𝓤 : URA M) (H : Heap 𝓤) (A : Atoms 𝓤) (W : Given
   vals = (wv ∷ [], (fv ∷ [], tt))
 
   abbrev Said : RefT (List ℕ) → Type 0
-  Said r = now r ≡ planeOf w (now (d .file)) (d .head .trailer)
+  Said = ShowsPlane w (d .file) (d .head .trailer)
 
   abbrev Post : Val → SProp 𝓤
   Post = walkOf 𝓤 H A bytes.ended stayed (bytes.clauses 𝓤 H A mem run) .post ((κs, (q, tt), tt, (w, (d, tt)), vals), tt)

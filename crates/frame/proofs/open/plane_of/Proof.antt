@@ -1,7 +1,7 @@
 -- `frame::open::plane_of` meets its contract: a walk of its MIR, by hand. A `Frame` that `open` returns is held in a local and passed to `bytes`. All that the proof knows of the two is that each meets its contract.
 -- In a local of a body MIR erases the lifetime of the struct's type, so the value is shown to have the type at `erased`.
 -- Assumes nothing.
-use mathlib.Core.Path.{_≡_, refl, ap, _∙_}
+use mathlib.Core.Path.{_≡_, refl, subst}
 use Prim.Native.Nat.{ℕ}
 use mathlib.Core.List.{List, [], _∷_}
 use lib.ListN.{length}
@@ -39,7 +39,8 @@ use denote.Exit.{yes}
 use denote.Triple.Clauses.{ensured, lasts}
 use Rattle.spec.specs.Refusal.{numbered}
 use Rattle.spec.specs.Checks.{verdict}
-use Rattle.frame.specs.Open.{opened, planeOf}
+use Rattle.frame.specs.Open.{opened, ShowsPlane}
+use Rattle.spec.specs.declared.Trailer.{Trailer}
 use Rattle.frame.specs.declared.open.Frame.{Frame}
 use Rattle.frame.specs.declared.open.Plane.{Plane}
 use Rattle.frame.proofs.open.Frame as T
@@ -129,12 +130,12 @@ module _ {M : Type 1} (𝓤 : URA M) (H : Heap 𝓤) (A : Atoms 𝓤) (W : Given
       nothing ! $ move ! (1 ∷ 0 ∷ []) $ fjoin ! $ owned ! P.the-row (Is P.the-row) (EL.makes P.the-type P′.the-plain 𝓤 H A) w _ isw $ fjoin ! $ move ! (1 ∷ 0 ∷ []) $ join ! $ frame ! $ done !
 
   abbrev Shown : Frame → RefT (List ℕ) → Type 0
-  Shown r x = now x ≡ planeOf w (now (r .file)) (r .head .trailer)
+  Shown r = ShowsPlane w (r .file) (r .head .trailer)
 
   bytes-said : (r : Frame) (x : RefT (List ℕ)) → ent 𝓤 (ensured 𝓤 H A bytes.ended (bytes.clauses 𝓤 H A mem run) κs (w, (r, tt)) tt x) (fact 𝓤 (Shown r x))
   bytes-said r x = exE 𝓤 _ (λ ws. snd∗ 𝓤 (sem 𝓤 H A (lasts bytes.ended κs (w, (r, tt)) ws)) (fact 𝓤 (Shown r x)))
 
-  exits : (x : RefT (List ℕ)) (u : Val) → now x ≡ planeOf w (now s) (opened (now s)) → ent 𝓤 (⋆ 𝓤 H A (‵ (ShrSlice (named 0) κ u8 .own x (u ∷ [])) ∷ (‵ (flft κ q) ⊛ ‵ ftrue) ∷ ‵ Both ∷ [])) (Post u)
+  exits : (x : RefT (List ℕ)) (u : Val) → ShowsPlane w s (opened (now s)) x → ent 𝓤 (⋆ 𝓤 H A (‵ (ShrSlice (named 0) κ u8 .own x (u ∷ [])) ∷ (‵ (flft κ q) ⊛ ‵ ftrue) ∷ ‵ Both ∷ [])) (Post u)
   exits x u e =
       qed W (‵ (ShrSlice (named 0) κ u8 .own x (u ∷ [])) ∷ (‵ (flft κ q) ⊛ ‵ ftrue) ∷ ‵ Both ∷ []) ∵
       suffices ! _ (ends-at 𝓤 H A plane-of.ended stayed (plane-of.clauses 𝓤 H A mem run) W ((κs, (q, tt), tt, (w, (s, tt)), vals), tt) u x (tt, (tt, tt)) (tt, (tt, tt))) $ says ! e $
@@ -163,7 +164,7 @@ module _ {M : Type 1} (𝓤 : URA M) (H : Heap 𝓤) (A : Atoms 𝓤) (W : Given
         land ! (from ! (stop !)) (init ! 9 refl (shr-slice-lawful 𝓤 H A W (named 0) κ u8 .typed x _ is′ .0)) $
         returns ! (look ! 9 refl) $ forget ! 3 refl $ forget ! 5 refl $ forget ! 7 refl $ forget ! 9 refl $
         move ! (9 ∷ 10 ∷ []) $ free1 ! $ move ! (7 ∷ 8 ∷ []) $ free1 ! $ move ! (5 ∷ 6 ∷ []) $ free1 ! $ move ! (3 ∷ 4 ∷ []) $ free1 ! $ free0 ! $
-        by ! (exits x u′ (e′ ∙ ap (λ (y : RefT (List ℕ)). planeOf w (now y) (r .head .trailer)) (e .0) ∙ ap (planeOf w (now s)) (e .2)))))))))))))))
+        by ! (exits x u′ (subst (λ (t : Trailer). ShowsPlane w s t x) (e .2) (subst (λ (y : RefT (List ℕ)). ShowsPlane w y (r .head .trailer) x) (e .0) e′)))))))))))))))
 
 module _ {M : Type 1} (𝓤 : URA M) (H : Heap 𝓤) (A : Atoms 𝓤) (W : Given 𝓤 H A) (mem : Memory → SProp 𝓤) (run : Routine → Fun 𝓤) where
   plane-of-walks : (C : Calls 𝓤 H) (Λ : Loops 𝓤 H) → FmC 𝓤 H (W .laws) C → Triple 𝓤 (C #frame·open) (Open 𝓤 H A mem run) → Triple 𝓤 (C #frame·bytes) (Bytes 𝓤 H A mem run)

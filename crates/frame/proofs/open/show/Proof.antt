@@ -1,5 +1,4 @@
 -- `frame::open::show` meets its contract. Assumes nothing.
-use Rattle.frame.specs.Open.{planeOf}
 use borrow.Author.Needs.{needs}
 use Rattle.frame.proofs.open.show.Statement.{statement}
 use Rattle.frame.proofs.open.show.Tie as tie
@@ -35,15 +34,12 @@ part-requires-3 : tie.Need-part-requires-3
 part-requires-3 c κs = search needs
 
 returns : tie.Need-returns
-unfolding planeOf
 returns c = rw (c .before .before .enum-told .given .1) (rw (c .before .plane-bytes .ensures .0) at (c .part .ensures))
 
 returns-2 : tie.Need-returns-2
-unfolding planeOf
 returns-2 c = rw (c .before .before .enum-told2 .given .1) (rw (c .before .plane-bytes2 .ensures .0) at (c .part2 .ensures))
 
 returns-3 : tie.Need-returns-3
-unfolding planeOf
 returns-3 c = rw (c .before .before .enum-told3 .given .1) (rw (c .before .own-weights .ensures .0) at (c .part3 .ensures))
 
 pub show-spec : {M : Type 1} → statement M

@@ -4,12 +4,13 @@ use lib.Dec.{lit<}
 use borrow.Author.Tests.{eq-eqb, ne-eqb}
 use mathlib.Core.Path.{_∙_}
 use borrow.Author.Needs.{needs}
+use native.Mathlib.Omega.{arith}
 use Rattle.frame.proofs.plan.own_weights.Statement.{statement}
 use Rattle.frame.proofs.plan.own_weights.Tie as tie
 
 returns : tie.Need-returns
 unfolding ownWeights
-returns c = (simp (eq-eqb _ _ (c .if1 .taken)), lit< tt)
+returns c = (simp (eq-eqb (c .before .before .args .t .table) 0 (omega arith)), lit< tt)
 
 product-requires : tie.Need-product-requires
 product-requires c κs = search needs

@@ -48,7 +48,9 @@ be16-requires-5 c κs = search needs
 
 returns : tie.Need-returns
 unfolding settingsOf trailerAt
-returns c = cc
+returns c =
+    let d = c .before .before .before in
+    simp (d .before .before .before .be16 .ensures, d .before .before .be162 .ensures, d .before .be163 .ensures, d .be164 .ensures, c .be165 .ensures)
 
 pub settings-of-spec : {M : Type 1} → statement M
 settings-of-spec =
