@@ -8,7 +8,7 @@ ghost use Rattle.spec.specs.Frame.{frameOf};
 ghost use Rattle.window.specs.Line.{Adjacent, stepOf};
 ghost use Rattle.joint.specs.Window.{JointAt, Held};
 
-// From (s, t) to the neighbour (s2, t2), by the lines d; the box is lent.
+// From (s, t) to the neighbour (s2, t2), by the lines d.
 pub fn slide(
     file: &[u8],
     z: Plan,
@@ -28,27 +28,4 @@ pub fn slide(
 {
     line::change_line(file, z, d.entering, true, cut, cells, counts, words);
     line::change_line(file, z, d.leaving, false, cut, cells, counts, words);
-}
-
-// The same with the box by value: one move of a walk whose stores, box and cut point are handed over from move to move.
-pub fn advance(
-    file: &[u8],
-    z: Plan,
-    s: usize,
-    t: usize,
-    s2: usize,
-    t2: usize,
-    cut: Level,
-    cells: [i16; 256],
-    counts: &mut [u16],
-    words: &mut [u64],
-) -> [i16; 256]
-    requires { ⌜ Held (now file) z s t (cut .0) (now counts) (now words) cells ⌝ }
-    requires { ⌜ Adjacent z s t s2 t2 ⌝ }
-    ensures { λ r. ⌜ JointAt (frameOf (now (file .entry))) s2 t2 (cut .0) (now (counts .entry)) (now (words .entry)) (now (counts .exit)) (now (words .exit)) r ⌝ }
-{
-    let d = window::line::step_to(z, s, t, s2, t2);
-    let mut out = cells;
-    slide(file, z, d, s, t, s2, t2, cut, &mut out, counts, words);
-    out
 }

@@ -13,7 +13,7 @@ use Rattle.window.proofs.CoefficientLaws.{smoothing-high, weighs, coefficients-
 use Rattle.levels.specs.Block.{Heaviest}
 use Rattle.levels.specs.Search.{Searchable}
 use Rattle.levels.proofs.AnswerLaws.{below-tally, searchable, rising, heaviest, answered, guided}
-use Rattle.levels.proofs.SearchLaws.{tally-none, fail-none, fail-inside}
+use Rattle.levels.proofs.SearchLaws.{tally-none, fail-none}
 use Rattle.levels.proofs.BlockLaws.{handed-on}
 use borrow.Author.Needs.{needs}
 use Rattle.levels.proofs.answer.answer.Statement.{statement}
@@ -117,8 +117,10 @@ returns c =
 ascend-requires : tie.Need-ascend-requires
 ascend-requires c κs =
     let h = c .before .before in
-    let st = start (h .before) in
-    ((ready h .0, handed-on (ready h .1)), ((fail-inside (ready h .0) fail-none, omega (arith, st .pre .1 .0 .3)), (tally-none, fail-none)))
+    let st = start (h .before) in (
+      (ready h .0, handed-on (ready h .1)),
+      ((omega (arith, st .pre .1 .1 .0 .count-long, facts (st .pre .0 .0) .levels, st .pre .1 .0 .2), omega (arith, st .pre .1 .0 .3)), (tally-none, fail-none)),
+    )
 
 arrive-at-requires-2 : tie.Need-arrive-at-requires-2
 arrive-at-requires-2 c κs = tt
