@@ -57,7 +57,8 @@ pub record Kept (z : Plan) (xs ws xs′ ws′ : List ℕ) : Type 0 where
   pub rest-words : drop (z .levels * wordsPer (z .guides)) ws′ ≡ drop (z .levels * wordsPer (z .guides)) ws
 
 -- the line's first n pixels have entered or left
-pub record Passed (w : Bool) (b : List ℕ) (z : Plan) (d : Line) (c n : ℕ) (xs ws : List ℕ) (bx : List ℤ) (xs′ ws′ : List ℕ) (bx′ : List ℤ) : Type 0 where
+pub record Passed (w : Bool) (b : List ℕ) (z : Plan) (d : Line) (c n : ℕ) (xs ws : List ℕ) (bx : List ℤ) (xs′ ws′ : List ℕ)
+    (bx′ : List ℤ) : Type 0 where
   pub kept : Kept z xs ws xs′ ws′
   pub held : Rep (z .levels) (z .guides) (λ i f. changed w (countIn (z .guides) xs i f) (lineCount b d n i f)) xs′ ws′
   pub box-long : length bx′ ≡ length bx

@@ -58,7 +58,8 @@ pub fn change_line(
 )
     requires { ⌜ Ready (now file) z (now counts) (now words) ⌝ }
     requires { ⌜ (InPlanes z d) × (Room enters (now file) z d (now counts)) × (BoxRoom (d .count) (now cells)) ⌝ }
-    ensures { λ _. ⌜ Passed enters (now (file .entry)) z d (cut .0) (d .count) (now (counts .entry)) (now (words .entry)) (now (cells .entry)) (now (counts .exit)) (now (words .exit)) (now (cells .exit)) ⌝ }
+    ensures { λ _. ⌜ Passed enters (now (file .entry)) z d (cut .0) (d .count) (now (counts .entry)) (now (words .entry)) (now (cells .entry))
+        (now (counts .exit)) (now (words .exit)) (now (cells .exit)) ⌝ }
 {
     let m = z.guides;
     let first = d.first;

@@ -24,7 +24,8 @@ pub fn slide(
 )
     requires { ⌜ Held (now file) z s t (cut .0) (now counts) (now words) (now cells) ⌝ }
     requires { ⌜ (Adjacent z s t s2 t2) × (d ≡ stepOf z s t s2 t2) ⌝ }
-    ensures { λ _. ⌜ JointAt (frameOf (now (file .entry))) s2 t2 (cut .0) (now (counts .entry)) (now (words .entry)) (now (counts .exit)) (now (words .exit)) (now (cells .exit)) ⌝ }
+    ensures { λ _. ⌜ JointAt (frameOf (now (file .entry))) s2 t2 (cut .0) (now (counts .entry)) (now (words .entry)) (now (counts .exit))
+        (now (words .exit)) (now (cells .exit)) ⌝ }
 {
     line::change_line(file, z, d.entering, true, cut, cells, counts, words);
     line::change_line(file, z, d.leaving, false, cut, cells, counts, words);

@@ -50,7 +50,8 @@ pub fn fill(
 )
     requires { ⌜ (Planned (now file) z) × (Columns z x n t) ⌝ }
     requires { ⌜ Filled (now file) z x t (cut .0) 0 (now counts) (now words) (now counts) (now words) (now cells) ⌝ }
-    ensures { λ _. ⌜ Filled (now (file .entry)) z x t (cut .0) n (now (counts .entry)) (now (words .entry)) (now (counts .exit)) (now (words .exit)) (now (cells .exit)) ⌝ }
+    ensures { λ _. ⌜ Filled (now (file .entry)) z x t (cut .0) n (now (counts .entry)) (now (words .entry)) (now (counts .exit))
+        (now (words .exit)) (now (cells .exit)) ⌝ }
 {
     let mut k = 0;
     while k < n {
@@ -72,7 +73,8 @@ pub fn build(
     words: &mut [u64],
 )
     requires { ⌜ Fresh (now file) z s t (now counts) (now words) ⌝ }
-    ensures { λ _. ⌜ JointAt (frameOf (now (file .entry))) s t (cut .0) (now (counts .entry)) (now (words .entry)) (now (counts .exit)) (now (words .exit)) (now (cells .exit)) ⌝ }
+    ensures { λ _. ⌜ JointAt (frameOf (now (file .entry))) s t (cut .0) (now (counts .entry)) (now (words .entry)) (now (counts .exit))
+        (now (words .exit)) (now (cells .exit)) ⌝ }
 {
     let l = z.levels;
     let m = z.guides;

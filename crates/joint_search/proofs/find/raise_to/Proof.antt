@@ -40,7 +40,7 @@ loop-again c =
     let t = c .before .before in
     let h = t .before in
     let at = start h in
-    (omega (arith, t .loop-test .taken), raised (at .pre .0) (h .loop .i) _ _ (omega (arith, at .pre .1 .1, t .loop-test .taken)) (h .loop .inv .1) (c .shift-level .ensures))
+    (omega (arith, t .loop-test .taken), raised (at .pre .0) (h .loop .i) (h .loop .cells) (c .shift-level .last .1 .1 .1 .0) (omega (arith, at .pre .1 .1, t .loop-test .taken)) (h .loop .inv .1) (c .shift-level .ensures))
 
 returns : tie.Need-returns Inv-loop μ-loop
 returns c =
