@@ -1,5 +1,5 @@
--- The column store as blocks of L numbers: block x the counts of column x, block w + x its guide sums, block 2w the window's counts and block 2w + 1 its guide
--- sums. A change adds D m i to number i of each block m, or takes it off.
+-- The column store as blocks of L numbers: block x the counts of column x, block w + x its guide sums, block 2w the window's counts and block 2w + 1
+-- its guide sums. A change adds D m i to number i of each block m, or takes it off.
 -- Assumes nothing.
 use mathlib.Core.Path.{_≡_}
 use mathlib.Core.Bool.{Bool, true, false, not}

@@ -12,7 +12,8 @@ ghost use Rattle.spec.specs.Checks.{Planned};
 ghost use Rattle.spec.specs.Columns.{columnStore};
 ghost use Rattle.spec.specs.Frame.{frameOf};
 ghost use Rattle.window.specs.Line.{Adjacent};
-ghost use Rattle.columns.specs.Blocks.{when, Put, Able, Cleared, Swap, Ready, Neighbours, block, cellOf, pixelD, stripD, rowD, exchangeOf, storeSize};
+ghost use Rattle.columns.specs.Blocks.{when, Put, Able, Cleared, Swap, Ready, Neighbours};
+ghost use Rattle.columns.specs.Blocks.{block, cellOf, pixelD, stripD, rowD, exchangeOf, storeSize};
 
 // Which column or row enters and which one leaves as the centre moves by one, and whether it is in the picture.
 pub struct Exchange {
@@ -27,7 +28,8 @@ pub fn change(numbers: &mut [u32], at: usize, v: u32, add: bool)
     requires { ⌜ at < length (now numbers) ⌝ }
     requires { ⌜ (add ≡ true → getD (now numbers) at 0 + v < 4294967296) ⌝ }
     requires { ⌜ (add ≡ false → v ≤ getD (now numbers) at 0) ⌝ }
-    ensures { λ _. ⌜ now (numbers .exit) ≡ set (now (numbers .entry)) at (if add then getD (now (numbers .entry)) at 0 + v else getD (now (numbers .entry)) at 0 - v) ⌝ }
+    ensures { λ _. ⌜ now (numbers .exit) ≡ set (now (numbers .entry)) at (if add then getD (now (numbers .entry)) at 0 + v
+        else getD (now (numbers .entry)) at 0 - v) ⌝ }
 {
     let n = numbers[at];
     if add {
@@ -80,7 +82,8 @@ pub fn count_strip(
     requires { ⌜ (y < z .height) × (first + count ≤ z .width) × (2 * (z .width * z .levels) + 2 * z .levels ≤ length (now numbers)) ⌝ }
     requires { ⌜ ((x : ℕ) → x < z .width → (a + x * apart < 2 * z .width + 2) × (b + x * apart < 2 * z .width + 2)) ⌝ }
     requires { ⌜ Able add (z .levels) (stripD (frameOf (now file)) y a b apart first count) (now numbers) ⌝ }
-    ensures { λ _. ⌜ Put add (z .levels) (stripD (frameOf (now (file .entry))) y a b apart first count) (now (numbers .entry)) (now (numbers .exit)) ⌝ }
+    ensures { λ _. ⌜ Put add (z .levels) (stripD (frameOf (now (file .entry))) y a b apart first count) (now (numbers .entry))
+        (now (numbers .exit)) ⌝ }
 {
     let mut k: usize = 0;
     while k < count {
@@ -121,7 +124,8 @@ pub fn clear(numbers: &mut [u32], n: usize)
 pub fn start(file: &[u8], z: Plan, numbers: &mut [u32], s: usize, t: usize)
     requires { ⌜ Planned (now file) z ⌝ }
     requires { ⌜ (s < z .width) × (t < z .height) × (storeSize (frameOf (now file)) ≤ length (now numbers)) ⌝ }
-    ensures { λ _. ⌜ now (numbers .exit) ≡ columnStore (frameOf (now (file .entry))) s t ++ drop (storeSize (frameOf (now (file .entry)))) (now (numbers .entry)) ⌝ }
+    ensures { λ _. ⌜ now (numbers .exit) ≡ columnStore (frameOf (now (file .entry))) s t
+        ++ drop (storeSize (frameOf (now (file .entry)))) (now (numbers .entry)) ⌝ }
 {
     let n = 2 * (z.width * z.levels) + 2 * z.levels;
     clear(numbers, n);
@@ -170,7 +174,8 @@ pub fn count_row_if(
     requires { ⌜ Planned (now file) z ⌝ }
     requires { ⌜ (s < z .width) × (on ≡ true → y < z .height) × (2 * (z .width * z .levels) + 2 * z .levels ≤ length (now numbers)) ⌝ }
     requires { ⌜ Able add (z .levels) (λ m i. when on (rowD (frameOf (now file)) s y m i)) (now numbers) ⌝ }
-    ensures { λ _. ⌜ Put add (z .levels) (λ m i. when on (rowD (frameOf (now (file .entry))) s y m i)) (now (numbers .entry)) (now (numbers .exit)) ⌝ }
+    ensures { λ _. ⌜ Put add (z .levels) (λ m i. when on (rowD (frameOf (now (file .entry))) s y m i)) (now (numbers .entry))
+        (now (numbers .exit)) ⌝ }
 {
     if on {
         count_row(file, z, numbers, s, y, add);
@@ -182,7 +187,8 @@ pub fn vertical(file: &[u8], z: Plan, numbers: &mut [u32], s: usize, t: usize, t
     requires { ⌜ Planned (now file) z ⌝ }
     requires { ⌜ (s < z .width) × Neighbours t t2 (z .height) ⌝ }
     requires { ⌜ now numbers ≡ columnStore (frameOf (now file)) s t ++ drop (storeSize (frameOf (now file))) (now numbers) ⌝ }
-    ensures { λ _. ⌜ now (numbers .exit) ≡ columnStore (frameOf (now (file .entry))) s t2 ++ drop (storeSize (frameOf (now (file .entry)))) (now (numbers .entry)) ⌝ }
+    ensures { λ _. ⌜ now (numbers .exit) ≡ columnStore (frameOf (now (file .entry))) s t2
+        ++ drop (storeSize (frameOf (now (file .entry)))) (now (numbers .entry)) ⌝ }
 {
     let d = exchange_of(t, t2, z.radius, z.height);
     count_row_if(file, z, numbers, s, d.entering, d.enters, true);
@@ -213,7 +219,8 @@ pub fn update_block(
     requires { ⌜ (l ≤ 1024) × (at ≤ 4096) × (more ≤ 4096) × (less ≤ 4096) × (at * l + l ≤ length (now numbers)) ⌝ }
     requires { ⌜ (gain ≡ true → more < at) × (lose ≡ true → less < at) ⌝ }
     requires { ⌜ Ready l at (cellOf gain l more (now numbers)) (cellOf lose l less (now numbers)) (now numbers) ⌝ }
-    ensures { λ _. ⌜ Swap l (block at (cellOf gain l more (now (numbers .entry)))) (block at (cellOf lose l less (now (numbers .entry)))) (now (numbers .entry)) (now (numbers .exit)) ⌝ }
+    ensures { λ _. ⌜ Swap l (block at (cellOf gain l more (now (numbers .entry)))) (block at (cellOf lose l less (now (numbers .entry))))
+        (now (numbers .entry)) (now (numbers .exit)) ⌝ }
 {
     let a = at * l;
     let b = more * l;
@@ -227,12 +234,14 @@ pub fn update_block(
     }
 }
 
-// From column s to the neighbour s2: the window gains a column and loses one; the columns stay. No pixel is read: file and t say which window's store it is.
+// From column s to the neighbour s2: the window gains a column and loses one; the columns stay. No pixel is read: file and t say which window's store
+// it is.
 pub fn sideways(file: &[u8], z: Plan, numbers: &mut [u32], s: usize, s2: usize, t: usize)
     requires { ⌜ Planned (now file) z ⌝ }
     requires { ⌜ (t < z .height) × Neighbours s s2 (z .width) ⌝ }
     requires { ⌜ now numbers ≡ columnStore (frameOf (now file)) s t ++ drop (storeSize (frameOf (now file))) (now numbers) ⌝ }
-    ensures { λ _. ⌜ now (numbers .exit) ≡ columnStore (frameOf (now (file .entry))) s2 t ++ drop (storeSize (frameOf (now (file .entry)))) (now (numbers .entry)) ⌝ }
+    ensures { λ _. ⌜ now (numbers .exit) ≡ columnStore (frameOf (now (file .entry))) s2 t
+        ++ drop (storeSize (frameOf (now (file .entry)))) (now (numbers .entry)) ⌝ }
 {
     let w = z.width;
     let l = z.levels;
@@ -254,7 +263,8 @@ pub fn slide(file: &[u8], z: Plan, numbers: &mut [u32], s: usize, t: usize, s2: 
     requires { ⌜ Planned (now file) z ⌝ }
     requires { ⌜ Adjacent z s t s2 t2 ⌝ }
     requires { ⌜ now numbers ≡ columnStore (frameOf (now file)) s t ++ drop (storeSize (frameOf (now file))) (now numbers) ⌝ }
-    ensures { λ _. ⌜ now (numbers .exit) ≡ columnStore (frameOf (now (file .entry))) s2 t2 ++ drop (storeSize (frameOf (now (file .entry)))) (now (numbers .entry)) ⌝ }
+    ensures { λ _. ⌜ now (numbers .exit) ≡ columnStore (frameOf (now (file .entry))) s2 t2
+        ++ drop (storeSize (frameOf (now (file .entry)))) (now (numbers .entry)) ⌝ }
 {
     if s == s2 {
         vertical(file, z, numbers, s, t, t2);

@@ -37,8 +37,8 @@ pub fn emptied(left: u16) -> u64
     (65536 - (left as u64)) >> 16
 }
 
-// A pixel that enters the window or leaves it: its count and its bit. The bit of a cell that falls to 0 is cleared without a branch, because which cells
-// do can't be foretold; the branch on enters goes one way along a whole line.
+// A pixel that enters the window or leaves it: its count and its bit. The bit of a cell that falls to 0 is cleared without a branch, because which
+// cells do can't be foretold; the branch on enters goes one way along a whole line.
 pub fn change_pixel(
     level: Level,
     guide: Guide,

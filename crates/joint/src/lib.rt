@@ -3,5 +3,4 @@ pub mod bits;
 pub mod cell;
 pub mod list;
 pub mod side;
-pub mod slide;
 pub mod start;

@@ -50,7 +50,8 @@ pub fn fill(
 )
     requires { ⌜ (Planned (now file) z) × (Columns z x n t) ⌝ }
     requires { ⌜ Filled (now file) z x t (cut .0) 0 (now counts) (now words) (now counts) (now words) (now cells) ⌝ }
-    ensures { λ _. ⌜ Filled (now (file .entry)) z x t (cut .0) n (now (counts .entry)) (now (words .entry)) (now (counts .exit)) (now (words .exit)) (now (cells .exit)) ⌝ }
+    ensures { λ _. ⌜ Filled (now (file .entry)) z x t (cut .0) n (now (counts .entry)) (now (words .entry)) (now (counts .exit))
+        (now (words .exit)) (now (cells .exit)) ⌝ }
 {
     let mut k = 0;
     while k < n {
@@ -62,7 +63,7 @@ pub fn fill(
     }
 }
 
-// The stores and the lent box of the window at (s, t), at the cut point.
+// The stores and the box of the window at (s, t), at the cut point.
 pub fn build(
     file: &[u8],
     z: Plan,
@@ -74,7 +75,8 @@ pub fn build(
     words: &mut [u64],
 )
     requires { ⌜ Fresh (now file) z s t (now counts) (now words) ⌝ }
-    ensures { λ _. ⌜ JointAt (frameOf (now (file .entry))) s t (cut .0) (now (counts .entry)) (now (words .entry)) (now (counts .exit)) (now (words .exit)) (now (cells .exit)) ⌝ }
+    ensures { λ _. ⌜ JointAt (frameOf (now (file .entry))) s t (cut .0) (now (counts .entry)) (now (words .entry)) (now (counts .exit))
+        (now (words .exit)) (now (cells .exit)) ⌝ }
 {
     let l = z.levels;
     let m = z.guides;
@@ -84,23 +86,4 @@ pub fn build(
     let x = low(s, z.radius);
     let n = span_of(s, z.radius, z.width);
     fill(file, z, x, n, t, cut, cells, counts, words);
-}
-
-// The same with the box by value, as document 01 passes it.
-pub fn start(
-    file: &[u8],
-    z: Plan,
-    s: usize,
-    t: usize,
-    cut: Level,
-    cells: [i16; 256],
-    counts: &mut [u16],
-    words: &mut [u64],
-) -> [i16; 256]
-    requires { ⌜ Fresh (now file) z s t (now counts) (now words) ⌝ }
-    ensures { λ r. ⌜ JointAt (frameOf (now (file .entry))) s t (cut .0) (now (counts .entry)) (now (words .entry)) (now (counts .exit)) (now (words .exit)) r ⌝ }
-{
-    let mut out = cells;
-    build(file, z, s, t, cut, &mut out, counts, words);
-    out
 }

@@ -1,5 +1,5 @@
-// Kind 1: a window's part in a walk: its answer, the cut point after it, and the shifts that it adds. A window without weight answers its centre's own
-// level and keeps both.
+// Kind 1: a window's part in a walk: its answer, the cut point after it, and the shifts that it adds. A window without weight answers its centre's
+// own level and keeps both.
 use crate::answer;
 use crate::formula;
 use crate::formula::Formula;
@@ -66,7 +66,8 @@ pub fn is_weightless(
     words: &[u64],
 ) -> bool
     requires { ⌜ Ready (now file) z s t (now counts) (now words) (now weights) w ⌝ }
-    requires { ⌜ (monotone (frameOf (now file)) s t ≡ true) × (bal ≡ balance (frameOf (now file)) s t (cut .0)) × (cut .0 < frameOf (now file) .set .levels) ⌝ }
+    requires { ⌜ (monotone (frameOf (now file)) s t ≡ true) × (bal ≡ balance (frameOf (now file)) s t (cut .0))
+        × (cut .0 < frameOf (now file) .set .levels) ⌝ }
     ensures { λ r. ⌜ r ≡ weightless (frameOf (now (file .entry))) s t ⌝ }
 {
     if bal < 0 {
@@ -93,7 +94,8 @@ pub fn arrive_by(
     words: &[u64],
 ) -> Arrival
     requires { ⌜ (Ready (now file) z s t (now counts) (now words) (now weights) w) × (z .kind ≡ 1) × (w .slope ≡ pos 1) × (w .offset ≡ pos 0) ⌝ }
-    requires { ⌜ (cut .0 < frameOf (now file) .set .levels) × (shifts < 1099511627776) × (now cells ≡ balanceBox (frameOf (now file)) s t (cut .0)) ⌝ }
+    requires { ⌜ (cut .0 < frameOf (now file) .set .levels) × (shifts < 1099511627776)
+        × (now cells ≡ balanceBox (frameOf (now file)) s t (cut .0)) ⌝ }
     ensures { λ r. ⌜ Arrives (frameOf (now (file .entry))) s t (cut .0) shifts r (now (cells .exit)) ⌝ }
 {
     let m = z.guides;

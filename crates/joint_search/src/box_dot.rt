@@ -1,5 +1,5 @@
-// The balance box times a row of weights, in 32 bits: the cells' sizes add up to at most a window's 961 pixels, and a weight has 15 bits. Sixteen products
-// at a time are added as a tree, because processors then multiply and add pairs of them at once.
+// The balance box times a row of weights, in 32 bits: the cells' sizes add up to at most a window's 961 pixels, and a weight has 15 bits. Sixteen
+// products at a time are added as a tree, because processors then multiply and add pairs of them at once.
 ghost use mathlib.Core.Path.{_≡_};
 ghost use Prim.Native.Nat.{_≤_};
 ghost use lib.IntN.{pos, natAbs, _+ℤ_, _*ℤ_};

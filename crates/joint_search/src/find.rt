@@ -1,5 +1,5 @@
-// Levels looked through one by one, a shift counted for each; and the box's cut point moved after them. The looking only reads, so that no box is moved
-// to a level where the search does not rest.
+// Levels looked through one by one, a shift counted for each; and the box's cut point moved after them. The looking only reads, so that no box is
+// moved to a level where the search does not rest.
 use crate::formula;
 use crate::formula::Formula;
 use crate::shift;
@@ -72,7 +72,8 @@ pub fn descend(
     words: &[u64],
 ) -> Found
     requires { ⌜ Ready (now file) z s t (now counts) (now words) (now weights) w ⌝ }
-    requires { ⌜ (from .0 < frameOf (now file) .set .levels) × (bal ≡ balance (frameOf (now file)) s t (from .0)) × (shifts < 1099511627776) × (pos 0 ≤ℤ bal) ⌝ }
+    requires { ⌜ (from .0 < frameOf (now file) .set .levels) × (bal ≡ balance (frameOf (now file)) s t (from .0)) × (shifts < 1099511627776)
+        × (pos 0 ≤ℤ bal) ⌝ }
     ensures { λ r. ⌜ Descended (frameOf (now (file .entry))) s t (from .0) (r .level .0) shifts (r .shifts) ⌝ }
 {
     let m = z.guides;
@@ -164,7 +165,8 @@ pub fn move_to(
     words: &[u64],
 )
     requires { ⌜ Counted (now file) z s t (now counts) (now words) ⌝ }
-    requires { ⌜ (from .0 < frameOf (now file) .set .levels) × (to .0 < frameOf (now file) .set .levels) × (now cells ≡ balanceBox (frameOf (now file)) s t (from .0)) ⌝ }
+    requires { ⌜ (from .0 < frameOf (now file) .set .levels) × (to .0 < frameOf (now file) .set .levels)
+        × (now cells ≡ balanceBox (frameOf (now file)) s t (from .0)) ⌝ }
     ensures { λ _. ⌜ now (cells .exit) ≡ balanceBox (frameOf (now (file .entry))) s t (to .0) ⌝ }
 {
     if from.0 <= to.0 {

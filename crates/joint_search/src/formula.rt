@@ -34,7 +34,8 @@ pub fn level_weight(
     words: &[u64],
 ) -> i64
     requires { ⌜ (Marked m (level .0) (now counts) (now words)) × (Row m (w .row) (now weights)) × (Small w) ⌝ }
-    ensures { λ r. ⌜ r ≡ w .slope *ℤ pos (cellDot m (level .0) (w .row) (now (counts .entry)) (now (weights .entry)) m) +ℤ w .offset *ℤ pos (cellSum m (level .0) (now (counts .entry)) m) ⌝ }
+    ensures { λ r. ⌜ r ≡ w .slope *ℤ pos (cellDot m (level .0) (w .row) (now (counts .entry)) (now (weights .entry)) m)
+        +ℤ w .offset *ℤ pos (cellSum m (level .0) (now (counts .entry)) m) ⌝ }
 {
     let e = level::level_sums(weights, w.row, level, m, counts, words);
     combine(w.slope, w.offset, e.dot as i64, e.pixels as i64)

@@ -1,5 +1,5 @@
-// Kind 2: a window's part in a walk. Its weights can be negative, so that most windows are searched from level 0: the search goes by the window's histogram
-// of levels, two numbers a level, and the box is moved to the answer once that is known.
+// Kind 2: a window's part in a walk. Its weights can be negative, so that most windows are searched from level 0: the search goes by the window's
+// histogram of levels, two numbers a level, and the box is moved to the answer once that is known.
 use crate::find;
 use crate::visit::Visit;
 use levels::answer;

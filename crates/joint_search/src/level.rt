@@ -20,7 +20,8 @@ pub fn level_sums(
 ) -> LevelSums
     requires { ⌜ Marked m (level .0) (now counts) (now words) ⌝ }
     requires { ⌜ Row m at (now weights) ⌝ }
-    ensures { λ r. ⌜ (r .pixels ≡ cellSum m (level .0) (now (counts .entry)) m) × (r .dot ≡ cellDot m (level .0) at (now (counts .entry)) (now (weights .entry)) m) ⌝ }
+    ensures { λ r. ⌜ (r .pixels ≡ cellSum m (level .0) (now (counts .entry)) m)
+        × (r .dot ≡ cellDot m (level .0) at (now (counts .entry)) (now (weights .entry)) m) ⌝ }
 {
     let i = level.0 as usize;
     let k = (m + 63) / 64;

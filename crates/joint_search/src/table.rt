@@ -1,5 +1,5 @@
-// The weights of a frame's table, built-in or its own: one, and all of them decoded once for a call. An inner layer: the caller has made sure that the
-// file is accepted.
+// The weights of a frame's table, built-in or its own: one, and all of them decoded once for a call. An inner layer: the caller has made sure that
+// the file is accepted.
 use big_endian::be16;
 use frame::weight;
 use spec::Guide;

@@ -1,5 +1,5 @@
-// Way 1 at a pixel of a walk: entered from nothing, or reached by one move. The walk lends file, rows, box, stores and the histogram's numbers, and hands
-// the visit on.
+// Way 1 at a pixel of a walk: entered from nothing, or reached by one move. The walk lends file, rows, box, stores and the histogram's numbers, and
+// hands the visit on.
 use crate::arrive;
 use crate::guided;
 use joint::list;
@@ -80,7 +80,8 @@ pub fn enter(
 ) -> Visit
     requires { ⌜ (Fresh (now file) z s t (now counts) (now words)) × (Blank (z .levels) (now numbers)) ⌝ }
     requires { ⌜ (WeightRows z (now weights)) × (cut .0 < z .levels) × (shifts ≤ 4294967296) ⌝ }
-    ensures { λ r. ⌜ Visited (frameOf (now (file .entry))) s t (cut .0) shifts r (now (counts .entry)) (now (words .entry)) (now (counts .exit)) (now (words .exit)) (now (cells .exit)) (now (numbers .exit)) ⌝ }
+    ensures { λ r. ⌜ Visited (frameOf (now (file .entry))) s t (cut .0) shifts r (now (counts .entry)) (now (words .entry))
+        (now (counts .exit)) (now (words .exit)) (now (cells .exit)) (now (numbers .exit)) ⌝ }
 {
     store_start::build(file, z, s, t, cut, cells, counts, words);
     if z.kind == 2 {
@@ -104,9 +105,11 @@ pub fn slide(
     words: &mut [u64],
     numbers: &mut [u32],
 ) -> Visit
-    requires { ⌜ (Held (now file) z s t (v .cut .0) (now counts) (now words) (now cells)) × (Adjacent z s t s2 t2) × (Carried (frameOf (now file)) s t (v .cut .0) (v .sums) (v .below) (now numbers)) ⌝ }
+    requires { ⌜ (Held (now file) z s t (v .cut .0) (now counts) (now words) (now cells)) × (Adjacent z s t s2 t2)
+        × (Carried (frameOf (now file)) s t (v .cut .0) (v .sums) (v .below) (now numbers)) ⌝ }
     requires { ⌜ (WeightRows z (now weights)) × (v .cut .0 < z .levels) × (v .shifts ≤ 4294967296) ⌝ }
-    ensures { λ r. ⌜ Visited (frameOf (now (file .entry))) s2 t2 (v .cut .0) (v .shifts) r (now (counts .entry)) (now (words .entry)) (now (counts .exit)) (now (words .exit)) (now (cells .exit)) (now (numbers .exit)) ⌝ }
+    ensures { λ r. ⌜ Visited (frameOf (now (file .entry))) s2 t2 (v .cut .0) (v .shifts) r (now (counts .entry)) (now (words .entry))
+        (now (counts .exit)) (now (words .exit)) (now (cells .exit)) (now (numbers .exit)) ⌝ }
 {
     let d = line::step_to(z, s, t, s2, t2);
     let mut entering = [0u16; 62];

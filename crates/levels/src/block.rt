@@ -1,5 +1,5 @@
-// Blocks of 16 levels. A climb passes over a block at once where its pixels, were each as heavy as a pixel can be, would not lift the cumulative weight
-// to half of the total: in most windows most levels are empty or far below the answer.
+// Blocks of 16 levels. A climb passes over a block at once where its pixels, were each as heavy as a pixel can be, would not lift the cumulative
+// weight to half of the total: in most windows most levels are empty or far below the answer.
 use spec::Level;
 use window::coefficients::Coefficients;
 ghost use mathlib.Core.Path.{_≡_};

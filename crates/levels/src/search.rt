@@ -78,7 +78,8 @@ pub fn ascend(
     requires { ⌜ (from .0 < length (now counts)) × (shifts ≤ 8589934592) ⌝ }
     requires { ⌜ TallyTo (now counts) (now sums) (from .0) a ⌝ }
     requires { ⌜ FailTo k (now counts) (now sums) (from .0) ⌝ }
-    ensures { λ f. ⌜ (FoundAt k (now (counts .entry)) (now (sums .entry)) f) × (f .shifts + from .0 ≡ shifts + f .level .0) × (from .0 ≤ f .level .0) ⌝ }
+    ensures { λ f. ⌜ (FoundAt k (now (counts .entry)) (now (sums .entry)) f) × (f .shifts + from .0 ≡ shifts + f .level .0)
+        × (from .0 ≤ f .level .0) ⌝ }
 {
     let last = counts.len() - 1;
     let first = from.0 as usize;
@@ -120,7 +121,8 @@ pub fn descend(
     requires { ⌜ TallyTo (now counts) (now sums) (cut .0 + 1) a ⌝ }
     requires { ⌜ Rising k (now counts) (now sums) ⌝ }
     requires { ⌜ passes k (now counts) (now sums) (cut .0) ≡ true ⌝ }
-    ensures { λ f. ⌜ (FoundAt k (now (counts .entry)) (now (sums .entry)) f) × (f .shifts + f .level .0 ≡ shifts + cut .0) × (f .level .0 ≤ cut .0) ⌝ }
+    ensures { λ f. ⌜ (FoundAt k (now (counts .entry)) (now (sums .entry)) f) × (f .shifts + f .level .0 ≡ shifts + cut .0)
+        × (f .level .0 ≤ cut .0) ⌝ }
 {
     let mut count = a.count;
     let mut sum = a.sum;

@@ -47,7 +47,7 @@ shared-slice-read-count : tie.Need-shared-slice-read-count Inv-loop μ-loop
 shared-slice-read-count c = omega (arith, node-in (state (c .before .before)))
 
 add-count : tie.Need-add-count Inv-loop μ-loop
-add-count c = omega (arith, node-count (state (c .before .before)))
+add-count c = let s = state (c .before .before) in omega (arith, node-count s, node-sum s)
 
 sub-sum : tie.Need-sub-sum Inv-loop μ-loop
 sub-sum c = omega (arith, node-from (state (c .before .before)))
@@ -59,10 +59,13 @@ shared-slice-read-sum : tie.Need-shared-slice-read-sum Inv-loop μ-loop
 shared-slice-read-sum c = omega (arith, node-in (state (c .before .before .before)))
 
 add-sum : tie.Need-add-sum Inv-loop μ-loop
-add-sum c = let s = state (c .before .before .before) in omega (arith, node-count s, node-sum s)
+add-sum c = omega (arith, node-sum (state (c .before .before .before)))
 
 reaches-requires : tie.Need-reaches-requires Inv-loop μ-loop
-reaches-requires c κs = let h = c .before .before .before in (start h .pre .1 .1 .0, (node-count (state h), node-sum (state h)))
+reaches-requires c κs =
+    let h = c .before .before .before in
+    let s = state h in
+    (start h .pre .1 .1 .0, (omega (arith, node-count s, node-sum s), omega (arith, node-count s, node-sum s)))
 
 sub-t19 : tie.Need-sub-t19 Inv-loop μ-loop
 sub-t19 c = omega (arith, node-from (state (c .before .before .before .before .before)))

@@ -29,7 +29,7 @@ add-update-block-3 : tie.Need-add-update-block-3
 add-update-block-3 c = let st = c .before .before .before .before .before .before .before .before .before .before in let q = first-places (st .pre .0) (st .args .s) (st .args .t) (st .args .numbers .now) (st .pre .1 .1) (st .pre .1 .0 .1) (c .before .before .before .before .before .before .before .exchange-of .ensures) in omega (arith, q .0, plan-limits (st .pre .0) .width)
 
 update-block-requires-2 : tie.Need-update-block-requires-2
-update-block-requires-2 c κs = let st = c .before .before .before .before .before .before .before .before .before .before in let ed = c .before .before .before .before .before .before .before .exchange-of .ensures in let u = c .before .before .before .before .before .update-block .ensures in let q = second-places (st .pre .0) (st .args .s) (st .args .t) (st .args .numbers .now) (st .pre .1 .1) (st .pre .1 .0 .1) ed (c .before .before .before .before .before .update-block .last .0) (u .len) in (q .0, (q .1, counts-done (st .pre .0) (st .args .s) (st .args .t) (st .args .numbers .now) (st .pre .1 .1) (st .pre .1 .0 .1) ed _ u))
+update-block-requires-2 c κs = let st = c .before .before .before .before .before .before .before .before .before .before in let ed = c .before .before .before .before .before .before .before .exchange-of .ensures in let u = c .before .before .before .before .before .update-block .ensures in let q = second-places (st .pre .0) (st .args .s) (st .args .t) (st .args .numbers .now) (st .pre .1 .1) (st .pre .1 .0 .1) ed (c .before .before .before .before .before .update-block .last .0) (u .len) in ((q .0 .0, q .0 .1, omega (arith, q .0), q .0 .3, q .0 .4), (q .1, counts-done (st .pre .0) (st .args .s) (st .args .t) (st .args .numbers .now) (st .pre .1 .1) (st .pre .1 .0 .1) ed _ u))
 
 same-length : tie.Need-same-length
 same-length c = search needs

@@ -1,6 +1,10 @@
 -- `change_pixel` meets its contract: the two cases. Assumes nothing.
 use borrow.Author.Needs.{needs}
+use mathlib.Core.Path.{sym, ap, ap₂, _∙_}
+use Prim.Native.Nat.{ℕ, _+_, _-_, _%_}
+use lib.ListN.{getD, set}
 use native.Mathlib.Omega.{arith}
+use Rattle.joint.specs.Bit.{withBit, withoutBit}
 use Rattle.joint.proofs.RepLaws.{enters-counts, enters-words, leaves-counts, leaves-words, enters-room, leaves-some}
 use Rattle.joint.proofs.cell.change_pixel.Statement.{statement}
 use Rattle.joint.proofs.cell.change_pixel.Tie as tie
@@ -52,11 +56,19 @@ same-length c = search needs
 same-length-2 : tie.Need-same-length-2
 same-length-2 c = search needs
 
+-- the cell's place is known, and the word's with its bit
 returns : tie.Need-returns
 returns c =
-    let at = c .before .before .before .before .before .before .before .before .before in
-    let e = c .before .before .before .if1 .taken in
-    (cc (enters-counts (at .args .enters) (at .args .m) (at .args .level .0) (at .args .guide .0) (at .args .counts .now) (at .args .words .now) e), cc (enters-words (at .args .enters) (at .args .m) (at .args .level .0) (at .args .guide .0) (at .args .counts .now) (at .args .words .now) e))
+    let t = c .before .before .before in
+    let b = t .before in
+    let w = b .before in
+    let at = w .before .before .before .before in
+    let xs = at .args .counts .now in
+    let ws = at .args .words .now in (
+      ap (λ (x : ℕ). set xs x (getD xs x 0 + 1)) (w .before .cell-at .ensures) ∙ sym (enters-counts (at .args .enters) (at .args .m) (at .args .level .0) (at .args .guide .0) xs ws (t .if1 .taken)),
+      ap (set ws (w .word-at .result)) (c .with-bit .ensures) ∙ ap₂ (λ (q j : ℕ). set ws q (withBit (getD ws q 0) j)) (w .word-at .ensures) (b .bit-at .ensures)
+          ∙ sym (enters-words (at .args .enters) (at .args .m) (at .args .level .0) (at .args .guide .0) xs ws (t .if1 .taken)),
+    )
 
 mul-left : tie.Need-mul-left
 mul-left c = search needs
@@ -101,9 +113,19 @@ same-length-4 c = search needs
 
 returns-2 : tie.Need-returns-2
 returns-2 c =
-    let at = c .before .before .before .before .before .before .before .before .before .before in
-    let e = c .before .before .before .before .if1 .left in
-    (cc (leaves-counts (at .args .enters) (at .args .m) (at .args .level .0) (at .args .guide .0) (at .args .counts .now) (at .args .words .now) e), cc (leaves-words (at .args .enters) (at .args .m) (at .args .level .0) (at .args .guide .0) (at .args .counts .now) (at .args .words .now) e))
+    let g = c .before .before in
+    let t = g .before .before in
+    let b = t .before in
+    let w = b .before in
+    let k = w .before in
+    let at = k .before .before .before in
+    let xs = at .args .counts .now in
+    let ws = at .args .words .now in (
+      ap (λ (x : ℕ). set xs x (getD xs x 0 - 1)) (k .cell-at .ensures) ∙ sym (leaves-counts (at .args .enters) (at .args .m) (at .args .level .0) (at .args .guide .0) xs ws (t .if1 .left)),
+      ap (set ws (w .word-at .result)) (c .without-bit .ensures ∙ ap₂ (withoutBit (getD ws (w .word-at .result) 0)) (b .bit-at .ensures) (g .emptied .ensures))
+          ∙ ap₂ (λ (q x : ℕ). set ws q (withoutBit (getD ws q 0) (at .args .guide .0 % 64) (1 - (getD xs x 0 - 1)))) (w .word-at .ensures) (k .cell-at .ensures)
+          ∙ sym (leaves-words (at .args .enters) (at .args .m) (at .args .level .0) (at .args .guide .0) xs ws (t .if1 .left)),
+    )
 
 pub change-pixel-spec : {M : Type 1} → statement M
 change-pixel-spec =

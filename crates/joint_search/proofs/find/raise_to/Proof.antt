@@ -29,7 +29,8 @@ shift-level-requires : tie.Need-shift-level-requires Inv-loop μ-loop
 shift-level-requires c κs =
     let h = c .before .before in
     let at = start h in
-    asks-shift (at .pre .0) (h .loop .i + 1) (h .loop .i) (pos 2) _ (omega (arith, at .pre .1 .1, c .before .loop-test .taken)) (omega arith) (h .loop .inv .1)
+    let q = asks-shift (at .pre .0) (h .loop .i + 1) (h .loop .i) (pos 2) _ (omega (arith, at .pre .1 .1, c .before .loop-test .taken)) (omega arith) (h .loop .inv .1) in
+    (q .0, (omega arith, q .1 .1))
 
 loop-less : tie.Need-loop-less Inv-loop μ-loop
 loop-less c = omega (arith, c .before .before .loop-test .taken)
@@ -39,7 +40,7 @@ loop-again c =
     let t = c .before .before in
     let h = t .before in
     let at = start h in
-    (omega (arith, t .loop-test .taken), raised (at .pre .0) (h .loop .i) _ _ (omega (arith, at .pre .1 .1, t .loop-test .taken)) (h .loop .inv .1) (c .shift-level .ensures))
+    (omega (arith, t .loop-test .taken), raised (at .pre .0) (h .loop .i) (h .loop .cells) (c .shift-level .last .1 .1 .1 .0) (omega (arith, at .pre .1 .1, t .loop-test .taken)) (h .loop .inv .1) (c .shift-level .ensures))
 
 returns : tie.Need-returns Inv-loop μ-loop
 returns c =

@@ -89,7 +89,8 @@ move-to-requires c κs =
     let r = c .before .before .before in
     let at = start (r .before .before .before) in
     let k = at .pre .0 .0 in
-    (k, (level-in (k .planned) (at .pre .1 .1 .0), answer-low (k .planned) (k .column) (k .row) (at .pre .0 .1) (says r), at .pre .1 .1 .2))
+    let low = level-in (k .planned) (at .pre .1 .1 .0) in
+    (k, (low, omega (arith, low, answer-low (k .planned) (k .column) (k .row) (at .pre .0 .1) (says r)), at .pre .1 .1 .2))
 
 returns : tie.Need-returns
 returns c =

@@ -99,7 +99,7 @@ loop-again c =
     let v = c .before .before .before .before .before .loop .inv in
     let l = is-light (c .before .before) in
     let f = fail-block (st .pre .0 .1) (v .tally) l (v .fails) in
-    record { from-low = omega (arith, v .from-low); to = fail-inside (st .pre .0 .0) f; tally = after-block c; fails = f }
+    record { from-low = omega (arith, v .from-low); to = omega (arith, fail-inside (st .pre .0 .0) f); tally = after-block c; fails = f }
 
 mul-count : tie.Need-mul-count Inv-loop μ-loop
 mul-count c = omega (arith, c .before .before .loop-test .taken, c .before .before .before .before .before .before .before .good)
