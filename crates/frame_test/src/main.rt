@@ -280,7 +280,7 @@ fn weights() {
     weighed(b"write guide 2", k, 6, 2, 257);
 }
 
-// Checks 1 to 6 alone, plans, and decoded tables.
+// Checks 1 to 6 alone, plans, and weights.
 fn plans() {
     let mut file = [0u8; 40];
     put_sample(&mut file);

@@ -3,10 +3,12 @@ use big_endian::be16;
 use frame::open;
 use frame::open::Plane;
 use frame::plan;
+use frame::weight;
 use frame_write::Written;
-use joint_search::table;
+use spec::Guide;
 use spec::Refusal;
 use spec::Verdict;
+ghost use Prim.Native.Nat.{_<_};
 
 pub(crate) fn text(s: &[u8]) {
     let _done = io::write_all(1, s);
@@ -61,11 +63,33 @@ pub(crate) fn planned(name: &[u8], file: &[u8]) {
     text(b"\n");
 }
 
-fn wide(n: u16) -> usize {
-    n as usize
+fn guide(n: usize) -> Guide {
+    if 255 < n {
+        return Guide(255);
+    }
+    Guide(n as u16)
 }
 
-// The first 16 weights of the decoded table of an accepted file; 9 stands behind it.
+// Weight k of a table of m guides, row by row: of the file's own bytes or, where it has none, built-in. 9 where the table has fewer.
+fn weight_at(own: &[u8], m: usize, k: usize) -> u16
+    requires { ⌜ k < 16 ⌝ }
+{
+    if m == 0 {
+        return 9;
+    }
+    if m <= k / m {
+        return 9;
+    }
+    if own.len() == 0 {
+        return weight::built_in(guide(k / m), guide(k % m));
+    }
+    if own.len() <= 2 * k + 1 {
+        return 9;
+    }
+    be16(own, 2 * k)
+}
+
+// The first 16 weights of an accepted file; nothing of another.
 pub(crate) fn weights(name: &[u8], file: &[u8]) {
     let o = plan::open_plan(file);
     let v = o.verdict;
@@ -73,12 +97,12 @@ pub(crate) fn weights(name: &[u8], file: &[u8]) {
         return;
     }
     let z = o.plan;
-    let mut all = [9u16; 65536];
-    table::decode(file, z, &mut all);
+    let m = z.guides;
+    let own = open::plane_of(Plane::Table, file);
     text(name);
     let mut k = 0;
     while k < 16 {
-        number(wide(all[k]));
+        number(weight_at(own, m, k) as usize);
         k += 1;
     }
     text(b"\n");

@@ -8,7 +8,6 @@ use spec::Guide;
 use spec::Level;
 use spec::Plan;
 use window::coefficients;
-use window::line::Line;
 use window::line::column_line;
 use window::line::low;
 use window::line::span_of;
@@ -20,11 +19,9 @@ ghost use lib.IntN.{pos, natAbs, _+ℤ_, _*ℤ_};
 ghost use Rattle.spec.specs.Frame.{frameOf};
 ghost use Rattle.spec.specs.Checks.{Planned};
 ghost use Rattle.spec.specs.Median.{balance};
-ghost use Rattle.window.specs.Line.{InPlanes, lineFold};
+ghost use Rattle.pixels.specs.Pixels.{pixelFold};
 ghost use Rattle.joint.specs.Side.{side};
-ghost use Rattle.joint_search.specs.Formula.{Weighs};
-ghost use Rattle.joint_search.specs.Arrive.{Ramp};
-ghost use Rattle.joint_search.specs.Balance.{signedWeight, Weighed, TableRow};
+ghost use Rattle.joint_search.specs.Balance.{signedBy, PixelsWeighed, Weighed, TableRow};
 
 // A sum with a pixel's weight more, or less where the pixel's level is above the given one.
 pub fn add_signed(sum: i64, weight: i64, level: Level, top: Level) -> i64
@@ -44,34 +41,22 @@ pub fn add(a: i64, b: i64) -> i64
     a + b
 }
 
-// What a line of the window adds.
-pub fn line_balance(
-    file: &[u8],
-    z: Plan,
-    weights: &[u16],
-    w: Formula,
-    s: usize,
-    t: usize,
-    d: Line,
-    top: Level,
-) -> i64
-    requires { ⌜ (Weighed (now file) z s t (now weights) w) × (InPlanes z d) ⌝ }
-    ensures { λ r. ⌜ r ≡ lineFold _+ℤ_ (pos 0) (now (file .entry)) d (signedWeight (frameOf (now (file .entry))) s t (top .0)) ⌝ }
+// What a list's pixels add.
+pub fn line_balance(p: &[u16], weights: &[u16], w: Formula, top: Level) -> i64
+    requires { ⌜ PixelsWeighed (now p) (now weights) w ⌝ }
+    ensures { λ r. ⌜ r ≡ pixelFold _+ℤ_ (pos 0) (now (p .entry)) (signedBy (now (weights .entry)) w (top .0)) ⌝ }
 {
     let row = w.row;
-    let slope = w.slope;
-    let offset = w.offset;
-    let first = d.first;
-    let stride = d.stride;
-    let n = d.count;
+    let n = p.len() / 2;
     let mut sum: i64 = 0;
     let mut k = 0;
     while k < n {
-        let q = first + k * stride;
-        let level = pixel::level_at(file, z, q);
-        let g = pixel::guide_at(file, z, q);
+        let at = 2 * k;
+        let next = at + 1;
+        let level = Level(p[at]);
+        let g = Guide(p[next]);
         let x = weights[row + (g.0 as usize)] as i64;
-        sum = add_signed(sum, formula::combine(slope, offset, x, 1), level, top);
+        sum = add_signed(sum, formula::combine(w.slope, w.offset, x, 1), level, top);
         k += 1;
     }
     sum
@@ -95,8 +80,10 @@ pub fn window_balance(
     let mut sum: i64 = 0;
     let mut k = 0;
     while k < n {
+        let mut places = [0u16; 62];
         let d = column_line(z, x + k, t);
-        sum = add(sum, line_balance(file, z, weights, w, s, t, d, top));
+        let e = pixels::read(file, z, d, &mut places);
+        sum = add(sum, line_balance(&places[0..e], weights, w, top));
         k += 1;
     }
     sum

@@ -1,17 +1,15 @@
--- `frame_test::say::weights` meets its contract. What opening says makes the plan one of an accepted file. Assumes nothing.
+-- `frame_test::say::weights` meets its contract. Assumes nothing.
 use native.Mathlib.Omega.{arith}
 use borrow.Author.Needs.{needs}
 use Prim.Native.Nat.{_≤_, _-_}
-use Rattle.frame.proofs.Planning.{planned}
-use Rattle.joint_search.proofs.TableLaws.{count-is, count-within}
 use Rattle.frame_test.proofs.say.weights.Statement.{statement}
 use Rattle.frame_test.proofs.say.weights.Tie as tie
 
 abbrev Inv-loop : tie.InvT-loop
-Inv-loop name file all k₀ t8 k = k ≤ 16
+Inv-loop name file m own k₀ t9 k = k ≤ 16
 
 abbrev μ-loop : tie.MeasureT-loop
-μ-loop name file all k₀ t8 k = 16 - k
+μ-loop name file m own k₀ t9 k = 16 - k
 
 open-plan-requires : tie.Need-open-plan-requires Inv-loop μ-loop
 open-plan-requires c κs = search needs
@@ -22,13 +20,8 @@ stops-requires c κs = search needs
 returns : tie.Need-returns Inv-loop μ-loop
 returns c = search needs
 
-slice-aggregate-decode : tie.Need-slice-aggregate-decode Inv-loop μ-loop
-slice-aggregate-decode c = search needs
-
-decode-requires : tie.Need-decode-requires Inv-loop μ-loop
-decode-requires c κs =
-    let pl = planned _ (c .before .before .before .before .open-plan .ensures .0) (c .before .before .before .before .open-plan .ensures .1) (c .before .before .before .stops .ensures) (c .before .before .if1 .left) in
-    (pl, omega (arith, count-is pl, count-within pl))
+plane-of-requires : tie.Need-plane-of-requires Inv-loop μ-loop
+plane-of-requires c κs = search needs
 
 text-requires : tie.Need-text-requires Inv-loop μ-loop
 text-requires c κs = search needs
@@ -36,14 +29,11 @@ text-requires c κs = search needs
 loop-holds : tie.Need-loop-holds Inv-loop μ-loop
 loop-holds c = omega arith
 
-mul-wide : tie.Need-mul-wide Inv-loop μ-loop
-mul-wide c = search needs
+weight-at-requires : tie.Need-weight-at-requires Inv-loop μ-loop
+weight-at-requires c κs = search needs
 
-array-read-wide : tie.Need-array-read-wide Inv-loop μ-loop
-array-read-wide c = search needs
-
-wide-requires : tie.Need-wide-requires Inv-loop μ-loop
-wide-requires c κs = search needs
+cast-number : tie.Need-cast-number Inv-loop μ-loop
+cast-number c = search needs
 
 number-requires : tie.Need-number-requires Inv-loop μ-loop
 number-requires c κs = search needs
@@ -75,13 +65,11 @@ weights-spec =
     open-plan-requires
     stops-requires
     returns
-    slice-aggregate-decode
-    decode-requires
+    plane-of-requires
     text-requires
     loop-holds
-    mul-wide
-    array-read-wide
-    wide-requires
+    weight-at-requires
+    cast-number
     number-requires
     add-k
     loop-less

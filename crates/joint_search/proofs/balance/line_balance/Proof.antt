@@ -1,105 +1,126 @@
--- `line_balance` meets its contract: after k turns the sum is that of the line's first k pixels. Assumes nothing.
+-- `line_balance` meets its contract: after k turns the sum is that of the list's first k pixels. Assumes nothing.
 use mathlib.Core.Path.{_≡_, sym, ap, _∙_}
 use native.Mathlib.Omega.{arith}
-use Prim.Native.Nat.{_-_, _≤_}
+use Prim.Native.Nat.{_+_, _-_, _≤_, _<_}
+use lib.ListN.{length, getD}
 use lib.IntN.{pos, _+ℤ_}
 use mir.Syntax.{w64}
 use mir.Val.{toZ}
-use Rattle.spec.specs.Frame.{frameOf}
-use Rattle.spec.specs.Weight.{weight}
-use Rattle.window.specs.Line.{lineFoldTo}
-use Rattle.window.proofs.LineLaws.{line-none}
-use Rattle.window.proofs.PixelLaws.{place-small}
-use Rattle.joint_search.specs.Balance.{signedWeight}
-use Rattle.joint_search.proofs.BalanceLaws.{place-in, weight-asks, weight-is, sum-asks, sum-again}
+use Rattle.pixels.specs.Pixels.{countOf, guideIn, pixelFoldTo}
+use Rattle.pixels.proofs.Laws.{places-in}
+use Rattle.pixels.proofs.AdditiveLaws.{pixels-none}
+use Rattle.joint_search.specs.Formula.{weightBy}
+use Rattle.joint_search.specs.Balance.{signedBy}
+use Rattle.joint_search.proofs.BalanceLaws.{weight-asks, weight-is, sum-asks, sum-again}
 use Rattle.joint_search.proofs.balance.line_balance.Statement.{statement}
 use Rattle.joint_search.proofs.balance.line_balance.Tie as tie
 
 abbrev Inv-loop : tie.InvT-loop
-Inv-loop file z weights s t top row slope offset first stride n sum₀ k₀ sum k =
-    (k ≤ n) × (toZ w64 sum ≡ lineFoldTo _+ℤ_ (pos 0) file (record { first = first; stride = stride; count = n }) (signedWeight (frameOf file) s t (top .0)) k)
+Inv-loop p weights w top row n sum₀ k₀ sum k = (k ≤ n) × (toZ w64 sum ≡ pixelFoldTo _+ℤ_ (pos 0) p (signedBy weights w (top .0)) k)
 
 abbrev μ-loop : tie.MeasureT-loop
-μ-loop file z weights s t top row slope offset first stride n sum₀ k₀ sum k = n - k
+μ-loop p weights w top row n sum₀ k₀ sum k = n - k
 
 abbrev start : tie.At-loop Inv-loop μ-loop → tie.Start Inv-loop μ-loop
-start h = h .before .before .before .before .before
+start h = h .before .before .before
 
-abbrev head : tie.After-guide-at Inv-loop μ-loop → tie.At-loop Inv-loop μ-loop
-head g = g .before .before .before
+-- the places passed: the turn, and the weight's number read
+abbrev turn : tie.After-struct-known Inv-loop μ-loop → tie.In-loop Inv-loop μ-loop
+turn g = g .before .before .before
 
-abbrev test : tie.After-guide-at Inv-loop μ-loop → tie.In-loop Inv-loop μ-loop
-test g = g .before .before
+abbrev read : tie.After-combine Inv-loop μ-loop → tie.After-shared-slice-known5 Inv-loop μ-loop
+read e = e .before .before .before
 
-weighed : (e : tie.After-combine Inv-loop μ-loop) → e .combine .result ≡ weight (frameOf ((start (head (e .before .before .before))) .args .file .now)) ((start (head (e .before .before .before))) .args .s) ((start (head (e .before .before .before))) .args .t) (e .before .before .before .guide-at .result .0)
+-- a turn's pixel is one of 31
+turn-low : (c : tie.In-loop Inv-loop μ-loop) → c .before .loop .k < 31
+turn-low c = omega (arith, c .loop-test .taken, start (c .before) .pre .few)
+
+-- its guide's number is in the row, and has 16 bits
+inside : (g : tie.After-struct-known Inv-loop μ-loop) → let at = start (turn g .before) in at .args .w .row + guideIn (at .args .p .now) (turn g .before .loop .k) < length (at .args .weights .now)
+inside g = start (turn g .before) .pre .inside (turn g .before .loop .k) (turn g .loop-test .taken)
+
+number-low : (c : tie.After-shared-slice-known5 Inv-loop μ-loop) → let t = turn (c .before) in let at = start (t .before) in
+    getD (at .args .weights .now) (at .args .w .row + guideIn (at .args .p .now) (t .before .loop .k)) 0 ≤ 65535
+number-low c = let t = turn (c .before) in let at = start (t .before) in omega (arith, c .shared-slice-known5 .given (at .args .w .row + guideIn (at .args .p .now) (t .before .loop .k)))
+
+weighed : (e : tie.After-combine Inv-loop μ-loop) → let t = turn (read e .before) in let at = start (t .before) in e .combine .result ≡ weightBy (at .args .weights .now) (at .args .w) (guideIn (at .args .p .now) (t .before .loop .k))
 weighed e =
-    let g = e .before .before .before in
-    let at = start (head g) in
-    weight-is (at .pre .0) (at .pre .1) (at .args .top .0) (test g .loop-test .taken) (g .guide-at .ensures) (e .combine .result) (e .combine .ensures)
+    let t = turn (read e .before) in
+    let at = start (t .before) in
+    weight-is (at .pre) (at .args .top .0) (t .loop-test .taken) (number-low (read e)) (e .combine .result) (e .combine .ensures)
 
 loop-holds : tie.Need-loop-holds Inv-loop μ-loop
-loop-holds c = (omega arith, sym (line-none _+ℤ_ (pos 0) _ _ _))
+loop-holds c = (omega arith, sym (pixels-none _+ℤ_ (pos 0) _ _))
 
-mul-q : tie.Need-mul-q Inv-loop μ-loop
-mul-q c = let at = start (c .before) in omega (arith, place-small (at .pre .0 .planned) (at .pre .1 .inside (c .before .loop .k) (c .loop-test .taken)))
+mul-at : tie.Need-mul-at Inv-loop μ-loop
+mul-at c = omega (arith, turn-low c)
 
-add-q : tie.Need-add-q Inv-loop μ-loop
-add-q c = let at = start (c .before) in omega (arith, place-small (at .pre .0 .planned) (at .pre .1 .inside (c .before .loop .k) (c .loop-test .taken)))
-
-level-at-requires : tie.Need-level-at-requires Inv-loop μ-loop
-level-at-requires c κs = let at = start (c .before) in (at .pre .0 .planned, at .pre .1 .inside (c .before .loop .k) (c .loop-test .taken))
-
-guide-at-requires : tie.Need-guide-at-requires Inv-loop μ-loop
-guide-at-requires c κs = let at = start (c .before .before) in (at .pre .0 .planned, at .pre .1 .inside (c .before .before .loop .k) (c .before .loop-test .taken))
-
-cast-x : tie.Need-cast-x Inv-loop μ-loop
-cast-x c = let g = c .before in let at = start (head g) in omega (arith, place-in (at .pre .0) (at .pre .1) (at .args .top .0) (test g .loop-test .taken) (g .guide-at .ensures))
-
-add-x : tie.Need-add-x Inv-loop μ-loop
-add-x c = let g = c .before in let at = start (head g) in omega (arith, place-in (at .pre .0) (at .pre .1) (at .args .top .0) (test g .loop-test .taken) (g .guide-at .ensures))
+add-next : tie.Need-add-next Inv-loop μ-loop
+add-next c = omega (arith, turn-low c)
 
 mul-x : tie.Need-mul-x Inv-loop μ-loop
-mul-x c = let g = c .before in let at = start (head g) in omega (arith, place-in (at .pre .0) (at .pre .1) (at .args .top .0) (test g .loop-test .taken) (g .guide-at .ensures))
+mul-x c = omega (arith, turn-low c)
 
 shared-slice-read-x : tie.Need-shared-slice-read-x Inv-loop μ-loop
-shared-slice-read-x c = let g = c .before .before in let at = start (head g) in omega (arith, place-in (at .pre .0) (at .pre .1) (at .args .top .0) (test g .loop-test .taken) (g .guide-at .ensures))
+shared-slice-read-x c = let t = c .before in places-in (start (t .before) .args .p .now) (t .before .loop .k) (t .loop-test .taken) .0
+
+mul-x-2 : tie.Need-mul-x-2 Inv-loop μ-loop
+mul-x-2 c = omega (arith, turn-low (c .before))
+
+shared-slice-read-x-2 : tie.Need-shared-slice-read-x-2 Inv-loop μ-loop
+shared-slice-read-x-2 c = let t = c .before .before in places-in (start (t .before) .args .p .now) (t .before .loop .k) (t .loop-test .taken) .1
+
+cast-x : tie.Need-cast-x Inv-loop μ-loop
+cast-x c = let t = turn c in omega (arith, inside c, start (t .before) .good .1 .0)
+
+add-x : tie.Need-add-x Inv-loop μ-loop
+add-x c = let t = turn c in omega (arith, inside c, start (t .before) .good .1 .0)
+
+mul-x-3 : tie.Need-mul-x-3 Inv-loop μ-loop
+mul-x-3 c = let t = turn c in omega (arith, inside c, start (t .before) .good .1 .0)
+
+shared-slice-read-x-3 : tie.Need-shared-slice-read-x-3 Inv-loop μ-loop
+shared-slice-read-x-3 c = inside (c .before)
 
 cast-x-2 : tie.Need-cast-x-2 Inv-loop μ-loop
-cast-x-2 c = let g = c .before .before in let at = start (head g) in omega (arith, place-in (at .pre .0) (at .pre .1) (at .args .top .0) (test g .loop-test .taken) (g .guide-at .ensures))
+cast-x-2 c = omega (arith, number-low c)
 
 combine-requires : tie.Need-combine-requires Inv-loop μ-loop
-combine-requires c κs = let g = c .before .before in let at = start (head g) in weight-asks (at .pre .0) (at .pre .1) (at .args .top .0) (test g .loop-test .taken) (g .guide-at .ensures)
+combine-requires c κs =
+    let r = c .before .before in
+    let t = turn (r .before) in
+    let at = start (t .before) in
+    weight-asks (at .pre) (at .args .top .0) (t .loop-test .taken) (number-low r)
 
 add-signed-requires : tie.Need-add-signed-requires Inv-loop μ-loop
 add-signed-requires c κs =
-    let g = c .before .before .before in
-    let h = head g in
+    let t = turn (read c .before) in
+    let h = t .before in
     let at = start h in
-    sum-asks (at .pre .0) (at .pre .1) (at .args .top .0) (h .loop .k) (toZ w64 (h .loop .sum)) (c .combine .result) (test g .loop-test .taken) (g .guide-at .ensures) (h .loop .inv .1) (weighed c)
+    sum-asks (at .pre) (at .args .top .0) (t .loop-test .taken) (toZ w64 (h .loop .sum)) (c .combine .result) (h .loop .inv .1) (weighed c)
 
 add-k : tie.Need-add-k Inv-loop μ-loop
-add-k c = let t = c .before .before .before .before .before .before in omega (arith, t .loop-test .taken, (start (t .before)) .pre .1 .few)
+add-k c = omega (arith, turn-low (turn (read (c .before) .before)))
 
 loop-less : tie.Need-loop-less Inv-loop μ-loop
-loop-less c = omega (arith, c .before .before .before .before .before .before .loop-test .taken)
+loop-less c = omega (arith, turn (read (c .before) .before) .loop-test .taken)
 
 loop-again : tie.Need-loop-again Inv-loop μ-loop
 loop-again c =
     let e = c .before in
-    let g = e .before .before .before in
-    let h = head g in
+    let t = turn (read e .before) in
+    let h = t .before in
     let at = start h in (
-      omega (arith, test g .loop-test .taken),
-      sum-again (at .pre .0) (at .pre .1) (at .args .top .0) (h .loop .k) (g .before .level-at .result .0) (toZ w64 (h .loop .sum)) (e .combine .result) (c .add-signed .result)
-          (test g .loop-test .taken) (g .before .level-at .ensures) (g .guide-at .ensures) (h .loop .inv .1) (weighed e) (c .add-signed .ok) (c .add-signed .ensures),
+      omega (arith, t .loop-test .taken),
+      sum-again (at .pre) (at .args .top .0) (t .loop-test .taken) (toZ w64 (h .loop .sum)) (e .combine .result) (h .loop .inv .1) (weighed e) (c .add-signed .result) (c .add-signed .ok) (c .add-signed .ensures),
     )
 
 returns : tie.Need-returns Inv-loop μ-loop
 returns c =
     let h = c .before in
     let at = start h in
-    let done : h .loop .k ≡ at .args .d .count = omega (arith, h .loop .inv .0, c .loop-test .left) in
-    h .loop .inv .1 ∙ ap (lineFoldTo _+ℤ_ (pos 0) (at .args .file .now) (at .args .d) (signedWeight (frameOf (at .args .file .now)) (at .args .s) (at .args .t) (at .args .top .0))) done
+    let done : h .loop .k ≡ countOf (at .args .p .now) = omega (arith, h .loop .inv .0, c .loop-test .left) in
+    h .loop .inv .1 ∙ ap (pixelFoldTo _+ℤ_ (pos 0) (at .args .p .now) (signedBy (at .args .weights .now) (at .args .w) (at .args .top .0))) done
 
 pub line-balance-spec : {M : Type 1} → statement M
 line-balance-spec =
@@ -108,14 +129,16 @@ line-balance-spec =
     Inv-loop
     μ-loop
     loop-holds
-    mul-q
-    add-q
-    level-at-requires
-    guide-at-requires
-    cast-x
-    add-x
+    mul-at
+    add-next
     mul-x
     shared-slice-read-x
+    mul-x-2
+    shared-slice-read-x-2
+    cast-x
+    add-x
+    mul-x-3
+    shared-slice-read-x-3
     cast-x-2
     combine-requires
     add-signed-requires

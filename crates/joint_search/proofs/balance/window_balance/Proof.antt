@@ -1,7 +1,9 @@
 -- `window_balance` meets its contract: after k turns the sum is that of the window's first k columns. Assumes nothing.
 use mathlib.Core.Path.{_≡_, sym, ap, _∙_}
 use native.Mathlib.Omega.{arith}
+use borrow.Author.Needs.{needs}
 use Prim.Native.Nat.{_-_, _≤_}
+use lib.ListN.{take, drop}
 use lib.IntN.{pos, _+ℤ_}
 use mir.Syntax.{w64}
 use mir.Val.{toZ}
@@ -11,8 +13,10 @@ use Rattle.window.specs.Line.{columnLine, lineFold}
 use Rattle.window.proofs.PixelLaws.{plan-limits}
 use Rattle.window.proofs.LineLaws.{fold-none}
 use Rattle.window.proofs.SumLaws.{few-columns}
+use Rattle.pixels.specs.Pixels.{LinePixels}
+use Rattle.pixels.proofs.Laws.{line-part}
 use Rattle.joint_search.specs.Balance.{signedWeight}
-use Rattle.joint_search.proofs.BalanceLaws.{columns, column-asks, column-in-planes, columns-asks, columns-again, columns-balance}
+use Rattle.joint_search.proofs.BalanceLaws.{pixels-weighed, columns, column-asks, column-in-planes, columns-asks, columns-again, columns-balance}
 use Rattle.joint_search.proofs.balance.window_balance.Statement.{statement}
 use Rattle.joint_search.proofs.balance.window_balance.Tie as tie
 
@@ -25,6 +29,20 @@ abbrev μ-loop : tie.MeasureT-loop
 
 abbrev start : tie.At-loop Inv-loop μ-loop → tie.Start Inv-loop μ-loop
 start h = h .before .before .before .before .before
+
+-- the places passed: the turn, its column, and the list that the column was read into
+abbrev line : tie.After-read Inv-loop μ-loop → tie.After-column-line Inv-loop μ-loop
+line r = r .before .before
+
+abbrev turn : tie.After-read Inv-loop μ-loop → tie.In-loop Inv-loop μ-loop
+turn r = r .before .before .before
+
+abbrev list : tie.After-line-balance Inv-loop μ-loop → tie.After-read Inv-loop μ-loop
+list e = e .before .before .before .before
+
+listed : (r : tie.After-read Inv-loop μ-loop) → let at = start (turn r .before) in LinePixels (at .args .file .now) (at .args .z) (line r .column-line .result)
+    (take (r .read .result - 0) (drop 0 (r .read .last .1 .1 .1 .0)))
+listed r = line-part (r .read .result) (r .read .last .1 .1 .1 .0) (r .read .ensures .1)
 
 low-requires : tie.Need-low-requires Inv-loop μ-loop
 low-requires c κs = tt
@@ -41,37 +59,55 @@ add-column-line c = let h = c .before in let at = start h in omega (arith, colum
 column-line-requires : tie.Need-column-line-requires Inv-loop μ-loop
 column-line-requires c κs = let h = c .before in let at = start h in column-asks (at .pre) (at .args .top .0) (c .loop-test .taken) (h .before .span-of .ensures) (h .before .before .low .ensures)
 
-line-balance-requires : tie.Need-line-balance-requires Inv-loop μ-loop
-line-balance-requires c κs =
-    let h = c .before .before in
+slice-aggregate-read : tie.Need-slice-aggregate-read Inv-loop μ-loop
+slice-aggregate-read c = search needs
+
+read-requires : tie.Need-read-requires Inv-loop μ-loop
+read-requires c κs =
+    let d = c .before in
+    let h = d .before .before in
     let at = start h in
-    (at .pre, column-in-planes (at .pre) (at .args .top .0) (c .before .loop-test .taken) (h .before .span-of .ensures) (h .before .before .low .ensures) (c .column-line .ensures))
+    (at .pre .planned, column-in-planes (at .pre) (at .args .top .0) (d .before .loop-test .taken) (h .before .span-of .ensures) (h .before .before .low .ensures) (d .column-line .ensures), omega arith)
+
+sub-line-balance : tie.Need-sub-line-balance Inv-loop μ-loop
+sub-line-balance c = search needs
+
+part-line-balance-start : tie.Need-part-line-balance-start Inv-loop μ-loop
+part-line-balance-start c = search needs
+
+part-line-balance-end : tie.Need-part-line-balance-end Inv-loop μ-loop
+part-line-balance-end c = search needs
+
+line-balance-requires : tie.Need-line-balance-requires Inv-loop μ-loop
+line-balance-requires c κs = let r = c .before .before .before in pixels-weighed (start (turn r .before) .pre) (listed r)
 
 add-requires : tie.Need-add-requires Inv-loop μ-loop
 add-requires c κs =
-    let l = c .before in
-    let h = l .before .before in
+    let r = list c in
+    let h = turn r .before in
     let at = start h in
-    columns-asks (at .pre) (at .args .top .0) (l .before .loop-test .taken) (h .before .span-of .ensures) (h .before .before .low .ensures) (l .column-line .ensures) (toZ w64 (h .loop .sum)) (c .line-balance .result) (h .loop .inv .1) (c .line-balance .ensures)
+    columns-asks (at .pre) (at .args .top .0) (turn r .loop-test .taken) (h .before .span-of .ensures) (h .before .before .low .ensures) (line r .column-line .ensures) (listed r)
+    (toZ w64 (h .loop .sum)) (c .line-balance .result) (h .loop .inv .1) (c .line-balance .ensures)
 
 add-k : tie.Need-add-k Inv-loop μ-loop
 add-k c =
-    let t = c .before .before .before in
+    let t = turn (list (c .before)) in
     let h = t .before in
     let at = start h in
     omega (arith, t .loop-test .taken, h .before .span-of .ensures, few-columns (at .args .z) (plan-limits (at .pre .planned)) (at .args .s))
 
 loop-less : tie.Need-loop-less Inv-loop μ-loop
-loop-less c = omega (arith, c .before .before .before .loop-test .taken)
+loop-less c = omega (arith, turn (list (c .before)) .loop-test .taken)
 
 loop-again : tie.Need-loop-again Inv-loop μ-loop
 loop-again c =
     let e = c .before in
-    let l = e .before in
-    let h = l .before .before in
+    let r = list e in
+    let h = turn r .before in
     let at = start h in (
-      omega (arith, l .before .loop-test .taken),
-      columns-again (at .pre) (at .args .top .0) (l .before .loop-test .taken) (h .before .span-of .ensures) (h .before .before .low .ensures) (l .column-line .ensures) (toZ w64 (h .loop .sum)) (e .line-balance .result) (c .add .result) (h .loop .inv .1) (e .line-balance .ensures) (c .add .ok) (c .add .ensures),
+      omega (arith, turn r .loop-test .taken),
+      columns-again (at .pre) (at .args .top .0) (turn r .loop-test .taken) (h .before .span-of .ensures) (h .before .before .low .ensures) (line r .column-line .ensures) (listed r)
+          (toZ w64 (h .loop .sum)) (e .line-balance .result) (c .add .result) (h .loop .inv .1) (e .line-balance .ensures) (c .add .ok) (c .add .ensures),
     )
 
 returns : tie.Need-returns Inv-loop μ-loop
@@ -92,6 +128,11 @@ window-balance-spec =
     loop-holds
     add-column-line
     column-line-requires
+    slice-aggregate-read
+    read-requires
+    sub-line-balance
+    part-line-balance-start
+    part-line-balance-end
     line-balance-requires
     add-requires
     add-k
