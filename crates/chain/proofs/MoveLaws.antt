@@ -1,10 +1,9 @@
--- The list of a window column by column, and from a window to its neighbour.
+-- A step's two lists of pixels, one out and one in; the list of a window column by column, and from a window to its neighbour.
 -- Assumes nothing.
 use mathlib.Core.Path.{_≡_, refl, sym, ap, _∙_, subst}
 use mathlib.Core.Bool.{true, false}
 use mathlib.Core.List.{List}
-use Prim.Native.Nat.{ℕ, suc, _+_, _-_, _*_, _≤_, _<_}
-use native.Mathlib.Nat.{suc-mul, mul-le-mul}
+use Prim.Native.Nat.{ℕ, _+_, _-_, _*_, _≤_, _<_}
 use native.Mathlib.Omega.{arith}
 use lib.ListN.{length, getD}
 use Rattle.spec.specs.declared.Plan.{Plan}
@@ -14,38 +13,51 @@ use Rattle.spec.specs.Window.{span, pixelCount, levelSum}
 use Rattle.spec.specs.Chain.{nodeCount, ChainStore, Reads, entries}
 use Rattle.spec.specs.Calls.{roomOf}
 use Rattle.spec.proofs.Plans.{facts, pixel-of}
-use Rattle.spec.proofs.Ranges.{natSums, fold-same, fold-both, fold-parts}
-use Rattle.spec.proofs.Sums.{sum-const}
-use Rattle.spec.proofs.Histogram.{turn}
+use Rattle.spec.proofs.Ranges.{natSums, fold-both, fold-parts}
+use Rattle.spec.proofs.Sums.{sum-le}
 use Rattle.spec.proofs.Bounds.{pixelCount-nodes, guidesOf-high}
+use Rattle.window.specs.declared.line.Line.{Line}
 use Rattle.window.specs.declared.line.Step.{Step}
-use Rattle.window.specs.Line.{columnLine, stepOf, Adjacent, StepInPlanes, lineFold}
+use Rattle.window.specs.Line.{columnLine, stepOf, Adjacent, lineFold}
 use Rattle.window.proofs.FormLaws.{both-in}
-use Rattle.window.proofs.PixelLaws.{plan-limits}
-use Rattle.window.proofs.LineLaws.{span-in, fold-none, fold-more, columns-law, step-law, column-in, lines-in}
+use Rattle.window.proofs.LineLaws.{fold-none, fold-more, columns-law}
 use Rattle.window.proofs.SumLaws.{columnsTo}
+use Rattle.pixels.specs.Pixels.{countOf, pixelFold, PixelsBelow, LinePixels}
+use Rattle.pixels.proofs.AdditiveLaws.{stepped}
+use Rattle.pixels.proofs.SumLaws.{below-most}
 use Rattle.chain.specs.declared.FreeList.{FreeList}
 use Rattle.chain.specs.declared.Size.{Size}
 use Rattle.chain.specs.Chain.{sumBelow, Beyond, Cleared}
 use Rattle.chain.specs.Lines.{nodesOf, sizeOf, counted, guided, lineCount, lineGuides, withCounts, withGuides, ListOf, MergeableLine, MergedLine}
-use Rattle.chain.specs.Moves.{levelCounts, levelGuides, Listed, storeSize, Stored}
+use Rattle.chain.specs.Moves.{levelCounts, levelGuides, Listed, storeSize, Stored, Slides, Slid}
 use Rattle.chain.proofs.SumLaws.{sum-ext}
 use Rattle.chain.proofs.MergeLaws.{chain-ext}
-use Rattle.chain.proofs.LineLaws.{cap-is, levels-is}
+use Rattle.chain.proofs.LineLaws.{cap-is, levels-is, lacking, line-total, line-mixed}
 use Rattle.chain.proofs.ReadLaws.{chain-reads, rest-kept}
-use Rattle.chain.proofs.WindowLaws.{level-total, lacking, window, line-total, line-mixed, window-mixed, leaving-part}
+use Rattle.chain.proofs.WindowLaws.{level-total, window, window-mixed, leaving-part}
 
 -- counts and guide sums that are the same level by level
 list-ext : (z : Size) (cnt sm cnt′ sm′ : ℕ → ℕ) (free : FreeList) (m : List ℕ) → ListOf z cnt sm free m → ((i : ℕ) → cnt i ≡ cnt′ i) → ((i : ℕ) → sm i ≡ sm′ i) → ListOf z cnt′ sm′ free m
 list-ext z cnt sm cnt′ sm′ free m c p q = chain-ext (z .cap) (z .levels) (free .head) (free .count) cnt sm cnt′ sm′ m c p q
 
--- the first k columns of a window
+-- ---- one list of pixels out, another in
+module _ {size : Size} {e l : List ℕ} {free : FreeList} {m : List ℕ} where
+  pub slide-removable : Slides size e l free m → MergeableLine false size l free m
+  slide-removable a = record { cnt = a .cnt; sm = a .sm; chain = a .chain; ready = a .none-left }
+
+  module _ {kept : FreeList} {m₁ : List ℕ} (o : MergedLine false size l free m kept m₁) where
+    pub slide-insertable : Slides size e l free m → MergeableLine true size e kept m₁
+    unfolding slide-removable
+    slide-insertable a = record { cnt = a .cnt; sm = a .sm; chain = o .chain (slide-removable a); ready = a .ready }
+
+    pub slide-slid : {free′ : FreeList} {m′ : List ℕ} → MergedLine true size e kept m₁ free′ m′ → Slid size e l free m free′ m′
+    unfolding slide-insertable
+    slide-slid i = record { beyond = λ j b. i .beyond j b ∙ o .beyond j b; chain = λ a. i .chain (slide-insertable a) }
+
+-- ---- the window
+-- the first k columns
 abbrev pub ColumnsListed : List ℕ → Plan → Size → ℕ → ℕ → ℕ → FreeList → List ℕ → Type 0
 ColumnsListed b z size s t k free m = ListOf size (λ i. columnsTo b z s t (counted i) k) (λ i. columnsTo b z s t (guided i) k) free m
-
-span-side : (r c size : ℕ) → span r c size ≤ 2 * r + 1
-unfolding span
-span-side r c size = omega arith
 
 module _ {b : List ℕ} {z : Plan} (pl : Planned b z) where
   -- a node for each pixel of a window
@@ -88,6 +100,10 @@ module _ {b : List ℕ} {z : Plan} (pl : Planned b z) where
   guides-high : {s t : ℕ} → s < z .width → t < z .height → (i : ℕ) → levelGuides b s t i ≤ 245055
   guides-high hs ht i = guidesOf-high (pixel-of pl hs ht) i
 
+  -- a plan's pixels are pixels of its list
+  pub line-below : {size : Size} → size ≡ sizeOf z → {p : List ℕ} → PixelsBelow (z .levels) (z .guides) p → PixelsBelow (size .levels) 256 p
+  line-below {size} is v = rw (levels-is pl size is) (record { few = v .few; level = v .level; guide = below-most pl v .guide })
+
   module _ (size : Size) (is : size ≡ sizeOf z) where
     -- ---- column by column
     module _ (s t : ℕ) (hs : s < z .width) (ht : t < z .height) where
@@ -111,126 +127,116 @@ module _ {b : List ℕ} {z : Plan} (pl : Planned b z) where
           let q : columnsTo b z s t h (k + (n - k)) ≡ columnsTo b z s t h n = ap (columnsTo b z s t h) e in
           omega (arith, q, columns-all h, fold-parts _+_ 0 natSums (λ x. lineFold _+_ 0 b (columnLine z x t) h) (s - z .radius) k (n - k))
 
-      tall : (x : ℕ) → columnLine z x t .count ≡ span (z .radius) t (z .height)
-      unfolding columnLine
-      tall x = refl
-
-      columns-total : (k : ℕ) → k ≤ span (z .radius) s (z .width) → sumBelow (λ i. columnsTo b z s t (counted i) k) (z .levels) ≡ k * span (z .radius) t (z .height)
-      unfolding columnsTo
-      columns-total k l =
-          turn _+_ 0 natSums (λ i x. lineCount b (columnLine z x t) i) 0 (z .levels) (s - z .radius) k
-          ∙ fold-same _+_ 0 natSums _ (λ x. span (z .radius) t (z .height)) (s - z .radius) k
-          (λ x lo hi. line-total pl (columnLine z x t) (column-in (plan-limits pl) x t (wide x lo hi)) ∙ tall x)
-          ∙ sum-const (span (z .radius) t (z .height)) (s - z .radius) k
-        where
-          wide : (x : ℕ) → s - z .radius ≤ x → x < s - z .radius + k → x < z .width
-          wide x lo hi = omega (arith, span-in (z .radius) s (z .width) (x - (s - z .radius)) (omega arith))
-
       pub columns-empty : {m₀ : List ℕ} {m : List ℕ} (free : FreeList) → Cleared (size .cap) (size .levels) m₀ (free .head) (free .count) m → ColumnsListed b z size s t 0 free m
       columns-empty free c = list-ext size _ _ _ _ free _ (c .chain) (λ i. columns-none (counted i)) (λ i. columns-none (guided i))
-
-      pub columns-insertable : {k : ℕ} {free : FreeList} {m : List ℕ} → k < span (z .radius) s (z .width) → ColumnsListed b z size s t k free m
-          → MergeableLine true b size (columnLine z (s - z .radius + k) t) free m
-      columns-insertable {k} {free} {m} l c = record {
-        cnt = λ i. columnsTo b z s t (counted i) k;
-        sm = λ i. columnsTo b z s t (guided i) k;
-        chain = c;
-        ready = record {
-          space =
-              let n = span (z .radius) t (z .height) in
-              let q : sumBelow (λ i. columnsTo b z s t (counted i) k) (size .levels) ≡ sumBelow (λ i. columnsTo b z s t (counted i) k) (z .levels) = ap (sumBelow (λ i. columnsTo b z s t (counted i) k)) (levels-is pl size is) in
-              let w : suc k ≤ 2 * z .radius + 1 = omega (arith, span-side (z .radius) s (z .width)) in
-              omega (arith, q, columns-total k (omega arith), tall (s - z .radius + k), suc-mul k n, mul-le-mul w (span-side (z .radius) t (z .height)), cap-is pl size is);
-          fits = λ i. omega (arith, columns-part (guided i) k (omega arith), guides-is s t i, guides-high hs ht i);
-        };
-      }
-
-      pub columns-inserted : {k : ℕ} {free free′ : FreeList} {m m′ : List ℕ} → k < span (z .radius) s (z .width) → ColumnsListed b z size s t k free m
-          → MergedLine true b size (columnLine z (s - z .radius + k) t) free m free′ m′ → ColumnsListed b z size s t (k + 1) free′ m′
-      unfolding columns-insertable
-      columns-inserted {k} {free} {free′} {m} {m′} l c i =
-          list-ext size _ _ _ _ free′ m′ (i .chain (columns-insertable l c)) (λ j. columns-more (counted j) k) (λ j. columns-more (guided j) k)
 
       pub columns-listed : {free : FreeList} {m : List ℕ} → ColumnsListed b z size s t (span (z .radius) s (z .width)) free m → Listed b z s t free m
       columns-listed {free} {m} c =
           subst (λ (q : Size). ListOf q (levelCounts b s t) (levelGuides b s t) free m) is
           (list-ext size _ _ _ _ free m c (λ i. columns-all (counted i) ∙ sym (counts-is s t i)) (λ i. columns-all (guided i) ∙ sym (guides-is s t i)))
 
-    -- ---- to a neighbour: the leaving line out, the entering line in
-    module _ {s t s′ t′ : ℕ} (adj : Adjacent z s t s′ t′) (d : Step) (ed : d ≡ stepOf z s t s′ t′) (free : FreeList) (m : List ℕ) (c : Listed b z s t free m) where
-      stepped : (h : ℕ → ℕ → ℕ) → window pl h s′ t′ + lineFold _+_ 0 b (d .leaving) h ≡ window pl h s t + lineFold _+_ 0 b (d .entering) h
-      stepped h = rw ed (step-law _+_ 0 pl h natSums adj)
+      -- the next column, read into the list p
+      module _ {k : ℕ} (l : k < span (z .radius) s (z .width)) {d : Line} (ed : d ≡ columnLine z (s - z .radius + k) t) {p : List ℕ} (r : LinePixels b z d p)
+          {free : FreeList} {m : List ℕ} (c : ColumnsListed b z size s t k free m) where
+        column-more : (h : ℕ → ℕ → ℕ) → columnsTo b z s t h k + pixelFold _+_ 0 p h ≡ columnsTo b z s t h (k + 1)
+        column-more h = ap (λ (n : ℕ). columnsTo b z s t h k + n) (r .sum h ∙ ap (λ (y : Line). lineFold _+_ 0 b y h) ed) ∙ columns-more h k
 
-      part : (h : ℕ → ℕ → ℕ) → lineFold _+_ 0 b (d .leaving) h ≤ window pl h s t
-      part h = rw ed (leaving-part pl h adj)
+        -- these columns' pixels are some of the window's
+        columns-few : sumBelow (λ i. columnsTo b z s t (counted i) k) (z .levels) + countOf p ≤ nodesOf z
+        columns-few = omega (
+          arith,
+          line-total (r .below),
+          fold-both _+_ 0 natSums (λ i. columnsTo b z s t (counted i) k) (lineCount p) 0 (z .levels),
+          sum-ext (λ i. columnsTo b z s t (counted i) (k + 1)) (λ i. columnsTo b z s t (counted i) k + lineCount p i) (z .levels) (λ i h. column-more (counted i)),
+          sum-le (λ i. columnsTo b z s t (counted i) (k + 1)) (levelCounts b s t) 0 (z .levels) (λ i x y. omega (arith, columns-part (counted i) (k + 1) (omega arith), counts-is s t i)),
+          counts-total hs ht,
+        )
 
-      inside : StepInPlanes z d
-      inside = rw ed (lines-in (plan-limits pl) adj)
-
-      -- what stays
-      stayCounts : ℕ → ℕ
-      stayCounts i = levelCounts b s t i - lineCount b (d .leaving) i
-
-      stayGuides : ℕ → ℕ
-      stayGuides i = levelGuides b s t i - lineGuides b (d .leaving) i
-
-      counts-out : (i : ℕ) → levelCounts b s t i ≡ withCounts true b (d .leaving) stayCounts i
-      unfolding stayCounts
-      counts-out i = omega (arith, counts-is s t i, part (counted i))
-
-      guides-out : (i : ℕ) → levelGuides b s t i ≡ withGuides true b (d .leaving) stayGuides i
-      unfolding stayGuides
-      guides-out i = omega (arith, guides-is s t i, part (guided i))
-
-      counts-in : (i : ℕ) → withCounts true b (d .entering) stayCounts i ≡ levelCounts b s′ t′ i
-      counts-in i = omega (arith, counts-out i, counts-is s t i, counts-is s′ t′ i, stepped (counted i))
-
-      guides-in : (i : ℕ) → withGuides true b (d .entering) stayGuides i ≡ levelGuides b s′ t′ i
-      guides-in i = omega (arith, guides-out i, guides-is s t i, guides-is s′ t′ i, stepped (guided i))
-
-      -- no pixel of a level, no guide: the line has its part of what the level lacks of 255 a pixel
-      stay-none : (i : ℕ) → stayCounts i ≡ 0 → stayGuides i ≡ 0
-      stay-none i e =
-          omega (arith, counts-out i, guides-out i, counts-is s t i, guides-is s t i, part (lacking i), window-mixed pl s t i, line-mixed pl (d .leaving) (inside .leaving) i)
-
-      pub slide-removable : MergeableLine false b size (d .leaving) free m
-      slide-removable = record {
-        cnt = stayCounts;
-        sm = stayGuides;
-        chain =
-            subst (λ (q : Size). ListOf q (withCounts true b (d .leaving) stayCounts) (withGuides true b (d .leaving) stayGuides) free m) (sym is)
-            (list-ext (sizeOf z) _ _ _ _ free m c counts-out guides-out);
-        ready = stay-none;
-      }
-
-      module _ (free′ : FreeList) (m′ : List ℕ) (r : MergedLine false b size (d .leaving) free m free′ m′) where
-        stay-total : sumBelow stayCounts (z .levels) + d .entering .count ≤ nodesOf z
-        stay-total =
-            let k = both-in adj in
-            omega (
-              arith,
-              sum-ext (levelCounts b s′ t′) (withCounts true b (d .entering) stayCounts) (z .levels) (λ i h. counts-in i),
-              fold-both _+_ 0 natSums stayCounts (lineCount b (d .entering)) 0 (z .levels),
-              line-total pl (d .entering) (inside .entering),
-              counts-total (k .2) (k .3),
-            )
-
-        pub slide-insertable : MergeableLine true b size (d .entering) free′ m′
-        unfolding slide-removable
-        slide-insertable = record {
-          cnt = stayCounts;
-          sm = stayGuides;
-          chain = r .chain slide-removable;
+        pub columns-insertable : MergeableLine true size p free m
+        columns-insertable = record {
+          cnt = λ i. columnsTo b z s t (counted i) k;
+          sm = λ i. columnsTo b z s t (guided i) k;
+          chain = c;
           ready = record {
             space =
-                let q : sumBelow stayCounts (size .levels) ≡ sumBelow stayCounts (z .levels) = ap (sumBelow stayCounts) (levels-is pl size is) in
-                omega (arith, q, stay-total, cap-is pl size is);
-            fits = λ i. let k = both-in adj in omega (arith, guides-out i, guides-high (k .0) (k .1) i);
+                let q : sumBelow (λ i. columnsTo b z s t (counted i) k) (size .levels) ≡ sumBelow (λ i. columnsTo b z s t (counted i) k) (z .levels) = ap (sumBelow (λ i. columnsTo b z s t (counted i) k)) (levels-is pl size is) in
+                omega (arith, q, columns-few, cap-is pl size is);
+            fits = λ i. omega (arith, columns-part (guided i) k (omega arith), guides-is s t i, guides-high hs ht i);
           };
         }
 
-        pub slide-listed : (free″ : FreeList) (m″ : List ℕ) → MergedLine true b size (d .entering) free′ m′ free″ m″ → Listed b z s′ t′ free″ m″
-        unfolding slide-insertable
-        slide-listed free″ m″ i =
-            subst (λ (q : Size). ListOf q (levelCounts b s′ t′) (levelGuides b s′ t′) free″ m″) is
-            (list-ext size _ _ _ _ free″ m″ (i .chain slide-insertable) counts-in guides-in)
+        pub columns-inserted : {free′ : FreeList} {m′ : List ℕ} → MergedLine true size p free m free′ m′ → ColumnsListed b z size s t (k + 1) free′ m′
+        unfolding columns-insertable
+        columns-inserted {free′} {m′} i = list-ext size _ _ _ _ free′ m′ (i .chain columns-insertable) (λ j. column-more (counted j)) (λ j. column-more (guided j))
+
+    -- ---- to a neighbour: e and l are the lists of the entering and the leaving line
+    module _ {s t s′ t′ : ℕ} (adj : Adjacent z s t s′ t′) {d : Step} (ed : d ≡ stepOf z s t s′ t′) {e l : List ℕ} (re : LinePixels b z (d .entering) e) (rl : LinePixels b z (d .leaving) l)
+        {free : FreeList} {m : List ℕ} (c : Listed b z s t free m) where
+      moved : (h : ℕ → ℕ → ℕ) → window pl h s′ t′ + pixelFold _+_ 0 l h ≡ window pl h s t + pixelFold _+_ 0 e h
+      moved h = stepped (λ (g : ℕ → ℕ → ℕ). g) pl adj ed re rl h
+
+      part : (h : ℕ → ℕ → ℕ) → pixelFold _+_ 0 l h ≤ window pl h s t
+      part h = rw (rl .sum h, ed) (leaving-part pl h adj)
+
+      -- what stays
+      stayCounts : ℕ → ℕ
+      stayCounts i = levelCounts b s t i - lineCount l i
+
+      stayGuides : ℕ → ℕ
+      stayGuides i = levelGuides b s t i - lineGuides l i
+
+      counts-out : (i : ℕ) → levelCounts b s t i ≡ withCounts true l stayCounts i
+      unfolding stayCounts
+      counts-out i = omega (arith, counts-is s t i, part (counted i))
+
+      guides-out : (i : ℕ) → levelGuides b s t i ≡ withGuides true l stayGuides i
+      unfolding stayGuides
+      guides-out i = omega (arith, guides-is s t i, part (guided i))
+
+      counts-in : (i : ℕ) → withCounts true e stayCounts i ≡ levelCounts b s′ t′ i
+      counts-in i = omega (arith, counts-out i, counts-is s t i, counts-is s′ t′ i, moved (counted i))
+
+      guides-in : (i : ℕ) → withGuides true e stayGuides i ≡ levelGuides b s′ t′ i
+      guides-in i = omega (arith, guides-out i, guides-is s t i, guides-is s′ t′ i, moved (guided i))
+
+      -- no pixel of a level, no guide: the line has its part of what the level lacks of 255 a pixel
+      stay-none : (i : ℕ) → stayCounts i ≡ 0 → stayGuides i ≡ 0
+      stay-none i o =
+          omega (arith, counts-out i, guides-out i, counts-is s t i, guides-is s t i, part (lacking i), window-mixed pl s t i, line-mixed (line-below is (rl .below)) i)
+
+      stay-total : sumBelow stayCounts (z .levels) + countOf e ≤ nodesOf z
+      stay-total =
+          let k = both-in adj in
+          omega (
+            arith,
+            sum-ext (levelCounts b s′ t′) (withCounts true e stayCounts) (z .levels) (λ i h. counts-in i),
+            fold-both _+_ 0 natSums stayCounts (lineCount e) 0 (z .levels),
+            line-total (re .below),
+            counts-total (k .2) (k .3),
+          )
+
+      pub slides : Slides size e l free m
+      slides = record {
+        cnt = stayCounts;
+        sm = stayGuides;
+        chain =
+            subst (λ (q : Size). ListOf q (withCounts true l stayCounts) (withGuides true l stayGuides) free m) (sym is)
+            (list-ext (sizeOf z) _ _ _ _ free m c counts-out guides-out);
+        none-left = stay-none;
+        ready = record {
+          space =
+              let q : sumBelow stayCounts (size .levels) ≡ sumBelow stayCounts (z .levels) = ap (sumBelow stayCounts) (levels-is pl size is) in
+              omega (arith, q, stay-total, cap-is pl size is);
+          fits = λ i. let k = both-in adj in omega (arith, guides-out i, guides-high (k .0) (k .1) i);
+        };
+      }
+
+      -- what `slide` asks for, and what it leaves
+      pub slide-asks : (PixelsBelow (size .levels) 256 e × PixelsBelow (size .levels) 256 l) × Slides size e l free m
+      slide-asks = ((line-below is (re .below), line-below is (rl .below)), slides)
+
+      pub slid-stored : {free′ : FreeList} {m′ : List ℕ} → length m′ ≡ length m → Slid size e l free m free′ m′ → Stored b z s′ t′ m free′ m′
+      unfolding slides
+      slid-stored {free′} {m′} n r =
+          listed-stored m free′ m′ n (subst (λ (k : ℕ). Beyond k m m′) (cap-is pl size is) (r .beyond))
+          (subst (λ (q : Size). ListOf q (levelCounts b s′ t′) (levelGuides b s′ t′) free′ m′) is (list-ext size _ _ _ _ free′ m′ (r .chain slides) counts-in guides-in))

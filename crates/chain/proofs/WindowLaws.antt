@@ -1,30 +1,31 @@
--- Counts and guide sums of a window's levels, from those of its lines: how many they are in all, and that a leaving line is a part of the window.
+-- Counts and guide sums of a window's levels: how many they are in all, and that a leaving line is a part of the window.
 -- Assumes nothing.
 use mathlib.Core.Path.{_≡_, refl, sym, ap, ap₂, _∙_, fun-ext}
 use mathlib.Core.Bool.{Bool, true, false}
 use mathlib.Core.List.{List}
-use Prim.Native.Nat.{ℕ, zero, suc, _+_, _-_, _*_, _≤_, _<_}
+use Prim.Native.Nat.{ℕ, _+_, _-_, _*_, _≤_, _<_}
 use native.Mathlib.Nat.{mul-one, zero-mul}
 use native.Mathlib.Omega.{arith}
 use lib.Dec.{eqb, leb, ltb}
 use borrow.Author.Tests.{leb-true, ltb-true}
 use Rattle.spec.specs.declared.Plan.{Plan}
-use Rattle.spec.specs.Base.{if_then_else_, fold, foldRect, sum}
-use Rattle.spec.specs.Frame.{Frame, level, guide, frameOf, pixelLevel, pixelGuide}
+use Rattle.spec.specs.Base.{if_then_else_, foldRect, sum}
+use Rattle.spec.specs.Frame.{Frame, level, guide, frameOf}
 use Rattle.spec.specs.Checks.{Planned}
 use Rattle.spec.specs.Window.{span, over, inRow, Σ, levelSum, InWindow}
 use Rattle.spec.proofs.Limits.{Pixel}
 use Rattle.spec.proofs.Plans.{facts}
-use Rattle.spec.proofs.Ranges.{natSums, fold-same, foldRect-turn}
-use Rattle.spec.proofs.Sums.{sum-const, sum-term, in-window}
-use Rattle.spec.proofs.Histogram.{turn, fold-pick, over-fold, over-same}
+use Rattle.spec.proofs.Ranges.{natSums, foldRect-turn}
+use Rattle.spec.proofs.Sums.{sum-term, in-window}
+use Rattle.spec.proofs.Histogram.{fold-pick, over-fold, over-same}
 use Rattle.window.specs.declared.line.Line.{Line}
-use Rattle.window.specs.Line.{columnLine, rowLine, shift, advance, columnStep, rowStep, reverse, stepOf, Adjacent, right, left, down, up, pixelOf, InPlanes, lineFoldTo, lineFold}
+use Rattle.window.specs.Line.{columnLine, rowLine, shift, advance, columnStep, rowStep, reverse, stepOf, Adjacent, right, left, down, up, lineFold}
 use Rattle.window.proofs.FormLaws.{is-right, is-left, is-down, is-up}
 use Rattle.window.proofs.LineLaws.{line-none, row-fold, columns-law}
 use Rattle.chain.specs.Chain.{sumBelow}
-use Rattle.chain.specs.Lines.{counted, guided, lineCount, lineGuides}
-use Rattle.chain.proofs.LineLaws.{line-level, line-guide}
+use Rattle.chain.specs.Lines.{counted, guided}
+use Rattle.chain.proofs.SumLaws.{sum-mixed}
+use Rattle.chain.proofs.LineLaws.{lacking, mixed}
 
 -- the window's sum by levels is its sum
 pub level-total : {p : Frame} {s t : ℕ} → Pixel p s t → (f : ℕ → ℕ → ℕ) → sumBelow (levelSum p s t f) (p .set .levels) ≡ Σ p s t f
@@ -33,37 +34,10 @@ level-total {p} {s} {t} k f =
     sym (over-fold _+_ 0 natSums p s t (λ i x y. if eqb (level p x y) i then f x y else 0) (p .set .levels))
     ∙ over-same _+_ 0 natSums p s t _ f (λ x y a b. fold-pick _+_ 0 natSums (λ i. f x y) (level p x y) (p .set .levels) (k .good .level-low x y a b))
 
--- where u and v make 255 for each one of w, so do their sums
-sum-mixed : (u v w : ℕ → ℕ) (a n : ℕ) → ((k : ℕ) → a ≤ k → k < a + n → u k + v k ≡ 255 * w k) → sum u a n + sum v a n ≡ 255 * sum w a n
-unfolding fold
-sum-mixed u v w a zero h = omega arith
-sum-mixed u v w a (suc n) h = omega (arith, sum-mixed u v w a n (λ k x y. h k x (omega arith)), h (a + n) (omega arith) (omega arith))
-
--- what a pixel of level i lacks of 255
-abbrev pub lacking : ℕ → ℕ → ℕ → ℕ
-lacking i i′ f′ = if eqb i′ i then 255 - f′ else 0
-
-mixed : (b : Bool) (f : ℕ) → f ≤ 255 → (if b then 255 - f else 0) + (if b then f else 0) ≡ 255 * (if b then 1 else 0)
-mixed true f h = omega arith
-mixed false f h = omega arith
-
 -- ---- a window of an accepted file
 module _ {b : List ℕ} {z : Plan} (pl : Planned b z) where
   abbrev pub window : (ℕ → ℕ → ℕ) → ℕ → ℕ → ℕ
   window h s t = over _+_ 0 (frameOf b) s t (λ x y. h (level (frameOf b) x y) (guide (frameOf b) x y))
-
-  -- a line's pixels by levels
-  pub line-total : (d : Line) → InPlanes z d → sumBelow (lineCount b d) (z .levels) ≡ d .count
-  unfolding lineFoldTo
-  line-total d inside =
-      turn _+_ 0 natSums (λ i k. if eqb (pixelLevel b (pixelOf d k)) i then 1 else 0) 0 (z .levels) 0 (d .count)
-      ∙ fold-same _+_ 0 natSums _ (λ k. 1) 0 (d .count) (λ k x y. fold-pick _+_ 0 natSums (λ i. 1) (pixelLevel b (pixelOf d k)) (z .levels) (line-level pl d inside k (omega arith)))
-      ∙ sum-const 1 0 (d .count) ∙ mul-one (d .count)
-
-  pub line-mixed : (d : Line) → InPlanes z d → (i : ℕ) → lineFold _+_ 0 b d (lacking i) + lineGuides b d i ≡ 255 * lineCount b d i
-  unfolding lineFoldTo
-  line-mixed d inside i =
-      sum-mixed _ _ _ 0 (d .count) (λ k x y. mixed (eqb (pixelLevel b (pixelOf d k)) i) (pixelGuide b (pixelOf d k)) (line-guide pl d inside k (omega arith)))
 
   pub window-mixed : (s t i : ℕ) → window (lacking i) s t + window (guided i) s t ≡ 255 * window (counted i) s t
   unfolding over foldRect

@@ -1,4 +1,4 @@
--- A line of pixels, and what it adds to each level's count and guide sum.
+-- A line's pixels, as a list, and what they add to each level's count and guide sum.
 -- Assumes nothing.
 use mathlib.Core.Bool.{Bool, true, false, not}
 use mathlib.Core.List.{List}
@@ -6,8 +6,7 @@ use Prim.Native.Nat.{ℕ, _+_, _*_, _≤_}
 use lib.Dec.{eqb}
 use Rattle.spec.specs.Base.{if_then_else_}
 use Rattle.spec.specs.declared.Plan.{Plan}
-use Rattle.window.specs.declared.line.Line.{Line}
-use Rattle.window.specs.Line.{lineFold}
+use Rattle.pixels.specs.Pixels.{countOf, pixelFold}
 use Rattle.chain.specs.declared.FreeList.{FreeList}
 use Rattle.chain.specs.declared.Size.{Size}
 use Rattle.chain.specs.Keys.{NoneLeft}
@@ -27,42 +26,41 @@ counted i i′ f′ = if eqb i′ i then 1 else 0
 abbrev pub guided : ℕ → ℕ → ℕ → ℕ
 guided i i′ f′ = if eqb i′ i then f′ else 0
 
--- a line's
-abbrev pub lineCount : List ℕ → Line → ℕ → ℕ
-lineCount b d i = lineFold _+_ 0 b d (counted i)
+-- what the list p of a line's pixels does
+abbrev pub lineCount : List ℕ → ℕ → ℕ
+lineCount p i = pixelFold _+_ 0 p (counted i)
 
-abbrev pub lineGuides : List ℕ → Line → ℕ → ℕ
-lineGuides b d i = lineFold _+_ 0 b d (guided i)
+abbrev pub lineGuides : List ℕ → ℕ → ℕ
+lineGuides p i = pixelFold _+_ 0 p (guided i)
 
--- cnt and sm with the line, or without it
-abbrev pub withCounts : Bool → List ℕ → Line → (ℕ → ℕ) → ℕ → ℕ
-withCounts present b d cnt = λ i. if present then cnt i + lineCount b d i else cnt i
+-- cnt and sm with these pixels, or without them
+abbrev pub withCounts : Bool → List ℕ → (ℕ → ℕ) → ℕ → ℕ
+withCounts present p cnt = λ i. if present then cnt i + lineCount p i else cnt i
 
-abbrev pub withGuides : Bool → List ℕ → Line → (ℕ → ℕ) → ℕ → ℕ
-withGuides present b d sm = λ i. if present then sm i + lineGuides b d i else sm i
+abbrev pub withGuides : Bool → List ℕ → (ℕ → ℕ) → ℕ → ℕ
+withGuides present p sm = λ i. if present then sm i + lineGuides p i else sm i
 
 -- the chain of a store with its free list
 abbrev pub ListOf : Size → (ℕ → ℕ) → (ℕ → ℕ) → FreeList → List ℕ → Type 0
 ListOf z cnt sm free m = Chain (z .cap) (z .levels) cnt sm (free .head) (free .count) m
 
--- ---- the line comes into the list (adding), or goes out of it; cnt and sm are the counts and guide sums without it
+-- ---- the pixels p come into the linked list (adding), or go out of it; cnt and sm are the counts and guide sums without them
 
--- it can come in
-pub record InsertLineReady (z : Size) (d : Line) (cnt sm : ℕ → ℕ) : Type 0 where
-  pub space : sumBelow cnt (z .levels) + d .count ≤ z .cap
+-- they can come in
+pub record InsertLineReady (z : Size) (p : List ℕ) (cnt sm : ℕ → ℕ) : Type 0 where
+  pub space : sumBelow cnt (z .levels) + countOf p ≤ z .cap
   pub fits : (i : ℕ) → sm i ≤ 245055
 
-abbrev pub LineReady : Bool → Size → Line → (ℕ → ℕ) → (ℕ → ℕ) → Type 0
-LineReady true z d cnt sm = InsertLineReady z d cnt sm
-LineReady false z d cnt sm = NoneLeft cnt sm
+abbrev pub LineReady : Bool → Size → List ℕ → (ℕ → ℕ) → (ℕ → ℕ) → Type 0
+LineReady true z p cnt sm = InsertLineReady z p cnt sm
+LineReady false z p cnt sm = NoneLeft cnt sm
 
-pub record MergeableLine (adding : Bool) (b : List ℕ) (z : Size) (d : Line) (free : FreeList) (m : List ℕ) : Type 0 where
+pub record MergeableLine (adding : Bool) (z : Size) (p : List ℕ) (free : FreeList) (m : List ℕ) : Type 0 where
   pub cnt : ℕ → ℕ
   pub sm : ℕ → ℕ
-  pub chain : ListOf z (withCounts (not adding) b d cnt) (withGuides (not adding) b d sm) free m
-  pub ready : LineReady adding z d cnt sm
+  pub chain : ListOf z (withCounts (not adding) p cnt) (withGuides (not adding) p sm) free m
+  pub ready : LineReady adding z p cnt sm
 
-pub record MergedLine (adding : Bool) (b : List ℕ) (z : Size) (d : Line) (free : FreeList) (m : List ℕ) (free′ : FreeList)
-    (m′ : List ℕ) : Type 0 where
+pub record MergedLine (adding : Bool) (z : Size) (p : List ℕ) (free : FreeList) (m : List ℕ) (free′ : FreeList) (m′ : List ℕ) : Type 0 where
   pub beyond : Beyond (z .cap) m m′
-  pub chain : (a : MergeableLine adding b z d free m) → ListOf z (withCounts adding b d (a .cnt)) (withGuides adding b d (a .sm)) free′ m′
+  pub chain : (a : MergeableLine adding z p free m) → ListOf z (withCounts adding p (a .cnt)) (withGuides adding p (a .sm)) free′ m′

@@ -1,6 +1,7 @@
--- The list of a window: what its store holds, at a start and after a step.
+-- The list of a window: what its store holds, at a start and after a step; and what a step's two lists of pixels do to it.
 -- Assumes nothing.
 use mathlib.Core.Path.{_≡_}
+use mathlib.Core.Bool.{true}
 use mathlib.Core.List.{List}
 use Prim.Native.Nat.{ℕ}
 use lib.ListN.{length, drop}
@@ -10,10 +11,11 @@ use Rattle.spec.specs.Frame.{guide, frameOf}
 use Rattle.spec.specs.Window.{levelSum}
 use Rattle.spec.specs.Chain.{ChainStore}
 use Rattle.spec.specs.Calls.{roomOf}
-use Rattle.window.specs.declared.line.Step.{Step}
-use Rattle.window.specs.Line.{stepOf, Adjacent}
 use Rattle.chain.specs.declared.FreeList.{FreeList}
-use Rattle.chain.specs.Lines.{sizeOf, ListOf}
+use Rattle.chain.specs.declared.Size.{Size}
+use Rattle.chain.specs.Chain.{Beyond}
+use Rattle.chain.specs.Keys.{NoneLeft}
+use Rattle.chain.specs.Lines.{sizeOf, ListOf, withCounts, withGuides, InsertLineReady}
 
 -- the pixels of level i in the window at (s, t), and the sum of their guides
 abbrev pub levelCounts : List ℕ → ℕ → ℕ → ℕ → ℕ
@@ -37,12 +39,15 @@ pub record Stored (b : List ℕ) (z : Plan) (s t : ℕ) (m : List ℕ) (free : F
   pub long : length m′ ≡ length m
   pub rest : drop (storeSize b) m′ ≡ drop (storeSize b) m
 
--- d is the step from a window, which the store holds, to its neighbour
-pub record Slides (b : List ℕ) (z : Plan) (d : Step) (free : FreeList) (m : List ℕ) : Type 0 where
-  pub s : ℕ
-  pub t : ℕ
-  pub s′ : ℕ
-  pub t′ : ℕ
-  pub adjacent : Adjacent z s t s′ t′
-  pub step : d ≡ stepOf z s t s′ t′
-  pub listed : Listed b z s t free m
+-- the pixels l can leave, and then the pixels e can enter; cnt and sm are the counts and guide sums of what stays
+pub record Slides (z : Size) (e l : List ℕ) (free : FreeList) (m : List ℕ) : Type 0 where
+  pub cnt : ℕ → ℕ
+  pub sm : ℕ → ℕ
+  pub chain : ListOf z (withCounts true l cnt) (withGuides true l sm) free m
+  pub none-left : NoneLeft cnt sm
+  pub ready : InsertLineReady z e cnt sm
+
+-- they have
+pub record Slid (z : Size) (e l : List ℕ) (free : FreeList) (m : List ℕ) (free′ : FreeList) (m′ : List ℕ) : Type 0 where
+  pub beyond : Beyond (z .cap) m m′
+  pub chain : (a : Slides z e l free m) → ListOf z (withCounts true e (a .cnt)) (withGuides true e (a .sm)) free′ m′

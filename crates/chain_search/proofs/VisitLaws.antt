@@ -20,11 +20,8 @@ use Rattle.spec.proofs.Totals.{median-low}
 use Rattle.spec.proofs.Climb.{guided-full}
 use Rattle.spec.proofs.Bounds.{pixelCount-high, guideSum-high}
 use Rattle.window.specs.declared.coefficients.Coefficients.{Coefficients}
-use Rattle.window.specs.declared.line.Step.{Step}
 use Rattle.window.specs.Coefficients.{WeighsAt}
-use Rattle.window.specs.Line.{stepOf, Adjacent, StepInPlanes}
-use Rattle.window.proofs.LineLaws.{lines-in}
-use Rattle.window.proofs.PixelLaws.{plan-limits, guide-low, guides-high}
+use Rattle.window.proofs.PixelLaws.{guide-low, guides-high}
 use Rattle.chain.specs.declared.FreeList.{FreeList}
 use Rattle.chain.specs.Chain.{sumBelow}
 use Rattle.chain.specs.Lines.{nodesOf, sizeOf}
@@ -40,9 +37,6 @@ pub visited-holds : {b : List ℕ} {z : Plan} {s t c n : ℕ} {m m′ : List ℕ
 visited-holds h = record { sums = h .sums; listed = h .stored .listed }
 
 module _ {b : List ℕ} {z : Plan} (pl : Planned b z) where
-  pub step-in : {s t s′ t′ : ℕ} → Adjacent z s t s′ t′ → (d : Step) → d ≡ stepOf z s t s′ t′ → StepInPlanes z d
-  step-in adj d e = subst (λ (q : Step). StepInPlanes z q) (sym e) (lines-in (plan-limits pl) adj)
-
   pub some-guides : (1 ≤ z .guides) × (z .guides ≤ 256)
   some-guides = let f = facts pl in (omega (arith, f .guides, f .limits .sound .guides-low), guides-high pl)
 

@@ -112,10 +112,15 @@ pub fn slide(
     ensures { λ r. ⌜ Visited (now (file .entry)) z s2 t2 (from .cut .0) (from .shifts) (now (numbers .entry)) r (now (numbers .exit)) ⌝ }
 {
     let d = line::step_to(z, s, t, s2, t2);
+    let mut entering = [0u16; 62];
+    let mut leaving = [0u16; 62];
+    let n = pixels::read(file, z, d.entering, &mut entering);
+    let k = pixels::read(file, z, d.leaving, &mut leaving);
     let known = from.sums;
     let nodes = from.free;
     let cut = from.cut;
-    let sums = sums::moved(file, z, known, d);
-    let free = moves::slide(file, z, nodes, d, numbers);
+    let size = chain::line::size_of(z);
+    let sums = pixels::sums::moved(known, &entering[0..n], &leaving[0..k]);
+    let free = moves::slide(&entering[0..n], &leaving[0..k], size, nodes, numbers);
     arrive(file, z, s2, t2, sums, free, cut, from.shifts, numbers)
 }

@@ -1,19 +1,19 @@
 -- `chain::moves::start` meets its contract. The loop's invariant: the list holds the first k columns of the window.
 -- Assumes nothing.
 use mathlib.Core.Path.{_≡_, refl, sym, ap, _∙_, subst}
-use mathlib.Core.Bool.{true}
 use Prim.Native.Nat.{ℕ, _+_, _-_, _<_, _≤_}
 use native.Mathlib.Omega.{arith}
-use lib.ListN.{length}
+use borrow.Author.Needs.{needs}
+use lib.ListN.{length, take, drop}
 use Rattle.spec.specs.Window.{span}
-use Rattle.window.specs.declared.line.Line.{Line}
-use Rattle.window.specs.Line.{columnLine, InPlanes}
+use Rattle.window.specs.Line.{columnLine}
 use Rattle.window.proofs.PixelLaws.{plan-limits, levels-high}
 use Rattle.window.proofs.LineLaws.{span-in, span-high, column-in}
+use Rattle.pixels.specs.Pixels.{LinePixels}
+use Rattle.pixels.proofs.Laws.{line-part}
 use Rattle.chain.specs.Chain.{Beyond}
-use Rattle.chain.specs.Lines.{MergeableLine, MergedLine}
 use Rattle.chain.proofs.LineLaws.{cap-is, cap-few}
-use Rattle.chain.proofs.MoveLaws.{ColumnsListed, store-size, columns-empty, columns-insertable, columns-inserted, columns-listed, listed-stored}
+use Rattle.chain.proofs.MoveLaws.{ColumnsListed, store-size, line-below, columns-empty, columns-insertable, columns-inserted, columns-listed, listed-stored}
 use Rattle.chain.proofs.moves.start.Statement.{statement}
 use Rattle.chain.proofs.moves.start.Tie as tie
 
@@ -31,8 +31,11 @@ cleared h = h .before .before .before
 abbrev spanned : tie.At-loop Inv-loop μ-loop → tie.After-span-of Inv-loop μ-loop
 spanned h = cleared h .before .before
 
+abbrev sized : tie.At-loop Inv-loop μ-loop → tie.After-size-of Inv-loop μ-loop
+sized h = spanned h .before .before
+
 abbrev start : tie.At-loop Inv-loop μ-loop → tie.Start Inv-loop μ-loop
-start h = spanned h .before .before .before .before .before
+start h = sized h .before .before .before
 
 -- the column of a turn
 within : (c : tie.In-loop Inv-loop μ-loop) → c .before .loop .k < span (start (c .before) .args .z .radius) (start (c .before) .args .s) (start (c .before) .args .z .width)
@@ -40,12 +43,6 @@ within c = subst (λ (n : ℕ). c .before .loop .k < n) (spanned (c .before) .sp
 
 wide : (c : tie.In-loop Inv-loop μ-loop) → spanned (c .before) .before .low .result + c .before .loop .k < start (c .before) .args .z .width
 wide c = subst (λ (n : ℕ). n + c .before .loop .k < start (c .before) .args .z .width) (sym (spanned (c .before) .before .low .ensures)) (span-in _ _ _ _ (within c))
-
-line-is : (c : tie.After-column-line Inv-loop μ-loop)
-    → c .column-line .result ≡ columnLine (start (c .before .before) .args .z) (start (c .before .before) .args .s - start (c .before .before) .args .z .radius + c .before .before .loop .k) (start (c .before .before) .args .t)
-line-is c =
-    let h = c .before .before in
-    c .column-line .ensures ∙ ap (λ (x : ℕ). columnLine (start h .args .z) (x + h .loop .k) (start h .args .t)) (spanned h .before .low .ensures)
 
 size-of-requires : tie.Need-size-of-requires Inv-loop μ-loop
 size-of-requires c κs = let at = c .before .before in (plan-limits (at .pre .0) .radius, levels-high (at .pre .0))
@@ -76,50 +73,73 @@ add-column-line c = omega (arith, wide c, plan-limits (start (c .before) .pre .0
 column-line-requires : tie.Need-column-line-requires Inv-loop μ-loop
 column-line-requires c κs = let at = start (c .before) in let l = plan-limits (at .pre .0) in (l, (omega (arith, wide c, l .width), at .pre .1 .0 .1))
 
--- the size of the list, and the window's pixel
-module _ (h : tie.At-loop Inv-loop μ-loop) where
-  abbrev sized : tie.After-size-of Inv-loop μ-loop
-  sized = spanned h .before .before
+-- the places passed in a turn: its column, and the list that the column was read into
+abbrev line : tie.After-read Inv-loop μ-loop → tie.After-column-line Inv-loop μ-loop
+line r = r .before .before
+
+abbrev turn : tie.After-read Inv-loop μ-loop → tie.In-loop Inv-loop μ-loop
+turn r = line r .before
+
+line-is : (r : tie.After-read Inv-loop μ-loop) → let at = start (turn r .before) in
+    line r .column-line .result ≡ columnLine (at .args .z) (at .args .s - at .args .z .radius + turn r .before .loop .k) (at .args .t)
+line-is r =
+    let h = turn r .before in
+    line r .column-line .ensures ∙ ap (λ (x : ℕ). columnLine (start h .args .z) (x + h .loop .k) (start h .args .t)) (spanned h .before .low .ensures)
+
+listed : (r : tie.After-read Inv-loop μ-loop) → let at = start (turn r .before) in LinePixels (at .args .file .now) (at .args .z) (line r .column-line .result)
+    (take (r .read .result - 0) (drop 0 (r .read .last .1 .1 .1 .0)))
+listed r = line-part (r .read .result) (r .read .last .1 .1 .1 .0) (r .read .ensures .1)
+
+slice-aggregate-read : tie.Need-slice-aggregate-read Inv-loop μ-loop
+slice-aggregate-read c = search needs
+
+read-requires : tie.Need-read-requires Inv-loop μ-loop
+read-requires c κs =
+    let at = start (c .before .before .before) in
+    let pl = at .pre .0 in
+    (pl, rw (c .before .column-line .ensures) (column-in (plan-limits pl) _ (at .args .t) (wide (c .before .before))), omega arith)
+
+sub-merge-line : tie.Need-sub-merge-line Inv-loop μ-loop
+sub-merge-line c = search needs
+
+part-merge-line-start : tie.Need-part-merge-line-start Inv-loop μ-loop
+part-merge-line-start c = search needs
+
+part-merge-line-end : tie.Need-part-merge-line-end Inv-loop μ-loop
+part-merge-line-end c = search needs
 
 merge-line-requires : tie.Need-merge-line-requires Inv-loop μ-loop
 merge-line-requires c κs =
-    let d = c .before in
-    let i = d .before in
-    let h = i .before in
-    let at = start h in (
-      at .pre .0,
-      (
-        subst (λ (q : Line). InPlanes (at .args .z) q) (sym (line-is d)) (column-in (plan-limits (at .pre .0)) _ _ (span-in _ _ _ _ (within i))),
-        (
-          sized h .size-of .ensures,
-          subst (λ (q : Line). MergeableLine true (at .args .file .now) (sized h .size-of .result) q (h .loop .free) (h .loop .numbers)) (sym (line-is d))
-              (columns-insertable (at .pre .0) _ (sized h .size-of .ensures) _ _ (at .pre .1 .0 .0) (at .pre .1 .0 .1) (within i) (h .loop .inv .3)),
-        ),
-      ),
-    )
+    let r = c .before .before .before .before in
+    let h = turn r .before in
+    let at = start h in
+    let is = sized h .size-of .ensures in
+    (line-below (at .pre .0) is (listed r .below), columns-insertable (at .pre .0) _ is _ _ (at .pre .1 .0 .0) (at .pre .1 .0 .1) (within (turn r)) (line-is r) (listed r) (h .loop .inv .3))
+
+-- the reading, from a turn's end
+abbrev read : tie.After-slice-known3 Inv-loop μ-loop → tie.After-read Inv-loop μ-loop
+read c = c .before .before .before .before .before .before .before
 
 add-k : tie.Need-add-k Inv-loop μ-loop
 add-k c =
-    let i = c .before .before .before .before .before in
+    let i = turn (read c) in
     let at = start (i .before) in
     omega (arith, within i, span-high (at .args .z .radius) (at .args .s) (at .args .z .width) (plan-limits (at .pre .0) .radius))
 
 loop-less : tie.Need-loop-less Inv-loop μ-loop
-loop-less c = let i = c .before .before .before .before .before in omega (arith, i .loop-test .taken)
+loop-less c = omega (arith, turn (read c) .loop-test .taken)
 
 loop-again : tie.Need-loop-again Inv-loop μ-loop
 loop-again c =
     let n = c .before .before in
-    let d = n .before .before in
-    let i = d .before in
-    let h = i .before in
+    let r = read c in
+    let h = turn r .before in
     let at = start h in
     let v = h .loop .inv in (
-      omega (arith, i .loop-test .taken),
-      n .merge-line .kept .1 .1 .1 .1 .1 .1 .0 ∙ v .1,
+      omega (arith, turn r .loop-test .taken),
+      n .merge-line .kept .1 .1 .1 .1 .0 ∙ v .1,
       (λ j b. n .merge-line .ensures .beyond j b ∙ v .2 j b),
-      columns-inserted (at .pre .0) _ (sized h .size-of .ensures) _ _ (at .pre .1 .0 .0) (at .pre .1 .0 .1) (within i) (v .3)
-          (subst (λ (q : Line). MergedLine true (at .args .file .now) (sized h .size-of .result) q (h .loop .free) (h .loop .numbers) (n .merge-line .result) (n .merge-line .last .1 .1 .1 .1 .1 .1 .0)) (line-is d) (n .merge-line .ensures)),
+      columns-inserted (at .pre .0) _ (sized h .size-of .ensures) _ _ (at .pre .1 .0 .0) (at .pre .1 .0 .1) (within (turn r)) (line-is r) (listed r) (v .3) (n .merge-line .ensures),
     )
 
 same-length : tie.Need-same-length Inv-loop μ-loop
@@ -148,6 +168,11 @@ start-spec =
     loop-holds
     add-column-line
     column-line-requires
+    slice-aggregate-read
+    read-requires
+    sub-merge-line
+    part-merge-line-start
+    part-merge-line-end
     merge-line-requires
     add-k
     loop-less
