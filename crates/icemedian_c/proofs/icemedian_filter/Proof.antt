@@ -1,4 +1,3 @@
-use mathlib.Core.Path.{refl}
 use native.Mathlib.Omega.{arith}
 use Rattle.icemedian_c.proofs.ExportLaws.{filter-stopped, filter-passed}
 use borrow.Author.Needs.{needs}
@@ -24,7 +23,7 @@ same-length-4 : tie.Need-same-length-4
 same-length-4 c = search needs
 
 returns : tie.Need-returns
-returns c = filter-passed _ _ _ _ _ _ _ (c .before .before .before .before .before .before .before .before .before .before .before .filter .ensures) _ _ _ (c .before .report .ensures) _ _ (omega arith) refl
+returns c = filter-passed _ _ _ _ _ _ _ (c .before .before .before .before .before .before .before .before .before .before .before .filter .ensures) _ _ _ (c .before .report .ensures) _ _ (omega arith) (omega arith)
 
 same-length-5 : tie.Need-same-length-5
 same-length-5 c = search needs

@@ -1,4 +1,3 @@
-use mathlib.Core.Path.{refl}
 use native.Mathlib.Omega.{arith}
 use Rattle.icemedian_c.proofs.ExportLaws.{walk-stopped, walk-passed}
 use borrow.Author.Needs.{needs}
@@ -40,7 +39,7 @@ same-length-8 c = search needs
 
 returns-2 : tie.Need-returns-2
 returns-2 c =
-    walk-passed _ _ _ _ _ _ _ _ _ _ (c .before .before .before .before .before .before .before .before .before .before .before .before .walk .ensures) _ _ _ (c .before .before .report .ensures) _ _ _ _ _ _ (omega arith) refl refl refl
+    walk-passed _ _ _ _ _ _ _ _ _ _ (c .before .before .before .before .before .before .before .before .before .before .before .before .walk .ensures) _ _ _ (c .before .before .report .ensures) _ _ _ _ _ _ (omega arith) (omega arith) (omega arith) (search needs)
 
 pub icemedian-walk-spec : {M : Type 1} → statement M
 icemedian-walk-spec =

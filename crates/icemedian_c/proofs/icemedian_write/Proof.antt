@@ -1,4 +1,4 @@
-use mathlib.Core.Path.{refl}
+use native.Mathlib.Omega.{arith}
 use Rattle.icemedian_c.proofs.SettingsLaws.{writes-narrowed}
 use Rattle.icemedian_c.proofs.ExportLaws.{write-passed, write-stopped}
 use borrow.Author.Needs.{needs}
@@ -25,7 +25,7 @@ same-length c = search needs
 
 returns : tie.Need-returns
 returns c =
-    write-passed _ _ _ _ _ _ _ (writes-narrowed _ _ _ _ _ _ _ _ (c .before .before .before .before .before .before .before .settings-from .ensures) (c .before .before .before .before .before .write .ensures)) _ _ _ _ (c .before .w .given .1) refl
+    write-passed _ _ _ _ _ _ _ (writes-narrowed _ _ _ _ _ _ _ _ (c .before .before .before .before .before .before .before .settings-from .ensures) (c .before .before .before .before .before .write .ensures)) _ _ _ _ (c .before .w .given .1) (omega arith)
 
 same-length-2 : tie.Need-same-length-2
 same-length-2 c = search needs
