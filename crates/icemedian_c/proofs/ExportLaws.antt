@@ -1,11 +1,11 @@
 -- Statuses, offsets and lent results of the exported calls.
 -- Assumes nothing.
-use Prim.Native.Nat.{ℕ, _+_, _≤_, _<_}
-use mathlib.Core.Path.{_≡_, refl, ap, sym, _∙_, subst}
-use mathlib.Core.List.{List, _++_}
+use Prim.Native.Nat.{ℕ, _<_}
+use mathlib.Core.Path.{_≡_, refl, ap, sym, _∙_}
+use mathlib.Core.List.{List}
 use native.Mathlib.Omega.{arith}
 use lib.IntN.{ℤ}
-use lib.ListN.{length, drop}
+use lib.ListN.{length}
 use borrow.Author.Tests.{eq-eqb, ne-eqb}
 use Rattle.spec.specs.declared.Settings.{Settings}
 use Rattle.spec.specs.declared.Way.{Way}
@@ -13,24 +13,23 @@ use Rattle.spec.specs.declared.Refusal.{Refusal}
 use Rattle.spec.specs.declared.Refusal.the-variants as refusal
 use Rattle.spec.specs.declared.Verdict.{Verdict}
 use Rattle.spec.specs.declared.Verdict.the-variants.{Accepted, Refused}
-use Rattle.spec.specs.Refusal.{Outcome, accepted, refused, numbered, number, offsetOf, valuesOf}
-use Rattle.spec.specs.Frame.{Frame, frameOf}
-use Rattle.spec.specs.Walk.{State, walkEnd}
-use Rattle.spec.specs.Calls.{wayOf, boxOf}
-use Rattle.spec.specs.Writer.{writtenSize, writerOutcome}
+use Rattle.spec.specs.Refusal.{Outcome, accepted, refused, numbered, number, offsetOf}
+use Rattle.spec.specs.Frame.{Frame}
+use Rattle.spec.specs.Walk.{State}
+use Rattle.spec.specs.Writer.{writerOutcome}
 use Rattle.ways.specs.Visit.{Stores, stores}
 use Rattle.ice.specs.declared.Walked.{Walked}
 use Rattle.ice.specs.declared.Balanced.{Balanced}
 use Rattle.ice.specs.Contract.{Untouched, Ended, Walks, Filters, Balances}
 use Rattle.frame_write.specs.declared.Written.{Written}
 use Rattle.frame_write.specs.declared.Written.the-variants as written
-use Rattle.frame_write.specs.Write.{Report, wrote, declined, reportOf, Writes}
-use Rattle.icemedian_c.specs.Exports.{statusOf, given, offsetAfter, Reported, Called, resultAt, WalkCall, FilterCall, BalanceCall, WriteCall}
+use Rattle.frame_write.specs.Write.{wrote, declined, reportOf, Writes}
+use Rattle.icemedian_c.specs.Exports.{statusOf, given, Reported, Called, resultAt, WalkCall, FilterCall, BalanceCall, WriteCall}
 
 -- ---- the report of a refusal r: n is its number
-module _ (v : Verdict) (r : Refusal) (e : v ≡ Refused r) (n old : ℕ) (is : n ≡ number r) (status : ℕ) (status-is : status ≡ n) where
-  pub offset-written : (at new : ℕ) → at ≡ offsetOf r → new ≡ at → n ≡ 7 → Reported (numbered v) status old new
-  offset-written at new o new-is h =
+module _ {v : Verdict} {r : Refusal} (e : v ≡ Refused r) {n : ℕ} (is : n ≡ number r) {status : ℕ} (status-is : status ≡ n) {old : ℕ} where
+  pub offset-written : {at new : ℕ} → at ≡ offsetOf r → new ≡ at → n ≡ 7 → Reported (numbered v) status old new
+  offset-written o new-is h =
       rw e (record { status-is = status-is ∙ is; offset-is = rw (eq-eqb (number r) 7 (sym is ∙ h)) (new-is ∙ o) })
 
   pub offset-kept : (n ≡ 7 → ⊥) → Reported (numbered v) status old old
@@ -55,7 +54,7 @@ passes : (v : Verdict) → statusOf (numbered v) ≡ 0 → numbered v ≡ accept
 passes Accepted e = refl
 passes (Refused r) e = let h = positive r in absurd (omega arith)
 
-module _ (v : Verdict) (o : Outcome) (r old new : ℕ) (is : numbered v ≡ o) (h : Reported (numbered v) r old new) where
+module _ (v : Verdict) {o : Outcome} {r old new : ℕ} (is : numbered v ≡ o) (h : Reported (numbered v) r old new) where
   pub reported : Reported o r old new
   reported = rw is at h
 
@@ -73,8 +72,8 @@ gained : {A : Type 0} (o : Outcome) (new old : A) → o ≡ accepted → new ≡
 gained o new old e = rw e refl
 
 -- ---- walk and filter: the lent results, refused and accepted
-module _ (o : Outcome) (way : Way) (p : Frame) (x : State) (a z : Stores) (due before after : List ℕ) (r : Walked)
-    (untouched : (o ≡ accepted → ⊥) → Untouched a z before after r) (ended : o ≡ accepted → Ended way p x a z due after r) (old : ℕ) where
+module _ {o : Outcome} {way : Way} {p : Frame} {x : State} {a z : Stores} {due before after : List ℕ} {r : Walked}
+    (untouched : (o ≡ accepted → ⊥) → Untouched a z before after r) (ended : o ≡ accepted → Ended way p x a z due after r) where
   buffers-kept : (o ≡ accepted → ⊥) → (z ≡ a) × (after ≡ before)
   buffers-kept n =
       let u = untouched n in
@@ -99,64 +98,64 @@ module _ (o : Outcome) (way : Way) (p : Frame) (x : State) (a z : Stores) (due b
         answers = h .answers;
       }
 
-  called-stopped : (o ≡ accepted → ⊥) → Called o way p x a z due before after old old
-  called-stopped n = record { shifts-is = kept o _ _ n; refused-keeps = buffers-kept; accepted-ends = buffers-ended }
+  called-stopped : {old : ℕ} → (o ≡ accepted → ⊥) → Called o way p x a z due before after old old
+  called-stopped n = record { shifts-is = kept _ _ _ n; refused-keeps = buffers-kept; accepted-ends = buffers-ended }
 
-  called-passed : (new : ℕ) → o ≡ accepted → new ≡ r .shifts → Called o way p x a z due before after old new
-  called-passed new e is =
-      record { shifts-is = is ∙ ended e .shifts ∙ gained o _ _ e; refused-keeps = buffers-kept; accepted-ends = buffers-ended }
+  called-passed : {old new : ℕ} → o ≡ accepted → new ≡ r .shifts → Called o way p x a z due before after old new
+  called-passed e is =
+      record { shifts-is = is ∙ ended e .shifts ∙ gained _ _ _ e; refused-keeps = buffers-kept; accepted-ends = buffers-ended }
 
-module _ (b : List ℕ) (way s t : ℕ) (moves : List ℕ) (a z : Stores) (before after : List ℕ) (w : Walked)
-    (h : Walks b way s t moves a z before after w) (r offset₀ offset : ℕ) (q : Reported (numbered (w .verdict)) r offset₀ offset)
-    (shifts₀ cut₀ : ℕ) (cells₀ : List ℤ) where
+module _ {b : List ℕ} {way s t : ℕ} {moves : List ℕ} {a z : Stores} {before after : List ℕ} {w : Walked}
+    (h : Walks b way s t moves a z before after w) {r offset₀ offset : ℕ} (q : Reported (numbered (w .verdict)) r offset₀ offset)
+    {shifts₀ cut₀ : ℕ} {cells₀ : List ℤ} where
   pub walk-stopped : 0 < r → WalkCall b way s t moves a z before after r shifts₀ shifts₀ cut₀ cut₀ cells₀ cells₀ offset₀ offset
   walk-stopped l =
-      let n = stopped (w .verdict) _ _ _ _ (h .verdict) q l in
+      let n = stopped (w .verdict) (h .verdict) q l in
       record {
-        reported = reported (w .verdict) _ _ _ _ (h .verdict) q;
-        called = called-stopped _ _ _ _ _ _ _ _ _ w (h .refused) (h .walked) _ n;
+        reported = reported (w .verdict) (h .verdict) q;
+        called = called-stopped (h .refused) (h .walked) n;
         cut-is = kept _ _ _ n;
         cells-is = kept _ _ _ n;
       }
 
-  pub walk-passed : (shifts cut : ℕ) (cells : List ℤ) → r ≡ 0 → shifts ≡ w .shifts → cut ≡ w .cut .0 → cells ≡ w .cells
+  pub walk-passed : {shifts cut : ℕ} {cells : List ℤ} → r ≡ 0 → shifts ≡ w .shifts → cut ≡ w .cut .0 → cells ≡ w .cells
       → WalkCall b way s t moves a z before after r shifts₀ shifts cut₀ cut cells₀ cells offset₀ offset
-  walk-passed shifts cut cells l es ec eb =
-      let e = passed (w .verdict) _ _ _ _ (h .verdict) q l in
+  walk-passed l es ec eb =
+      let e = passed (w .verdict) (h .verdict) q l in
       record {
-        reported = reported (w .verdict) _ _ _ _ (h .verdict) q;
-        called = called-passed _ _ _ _ _ _ _ _ _ w (h .refused) (h .walked) _ _ e es;
+        reported = reported (w .verdict) (h .verdict) q;
+        called = called-passed (h .refused) (h .walked) e es;
         cut-is = ec ∙ h .walked e .cut ∙ gained _ _ _ e;
         cells-is = eb ∙ h .walked e .cells ∙ gained _ _ _ e;
       }
 
-module _ (b : List ℕ) (way : ℕ) (a z : Stores) (before after : List ℕ) (w : Walked) (h : Filters b way a z before after w)
-    (r offset₀ offset : ℕ) (q : Reported (numbered (w .verdict)) r offset₀ offset) (shifts₀ : ℕ) where
+module _ {b : List ℕ} {way : ℕ} {a z : Stores} {before after : List ℕ} {w : Walked} (h : Filters b way a z before after w)
+    {r offset₀ offset : ℕ} (q : Reported (numbered (w .verdict)) r offset₀ offset) {shifts₀ : ℕ} where
   pub filter-stopped : 0 < r → FilterCall b way a z before after r shifts₀ shifts₀ offset₀ offset
   filter-stopped l =
       record {
-        reported = reported (w .verdict) _ _ _ _ (h .verdict) q;
-        called = called-stopped _ _ _ _ _ _ _ _ _ w (h .refused) (h .filtered) _ (stopped (w .verdict) _ _ _ _ (h .verdict) q l);
+        reported = reported (w .verdict) (h .verdict) q;
+        called = called-stopped (h .refused) (h .filtered) (stopped (w .verdict) (h .verdict) q l);
       }
 
-  pub filter-passed : (shifts : ℕ) → r ≡ 0 → shifts ≡ w .shifts → FilterCall b way a z before after r shifts₀ shifts offset₀ offset
-  filter-passed shifts l es =
+  pub filter-passed : {shifts : ℕ} → r ≡ 0 → shifts ≡ w .shifts → FilterCall b way a z before after r shifts₀ shifts offset₀ offset
+  filter-passed l es =
       record {
-        reported = reported (w .verdict) _ _ _ _ (h .verdict) q;
-        called = called-passed _ _ _ _ _ _ _ _ _ w (h .refused) (h .filtered) _ _ (passed (w .verdict) _ _ _ _ (h .verdict) q l) es;
+        reported = reported (w .verdict) (h .verdict) q;
+        called = called-passed (h .refused) (h .filtered) (passed (w .verdict) (h .verdict) q l) es;
       }
 
 -- ---- balance
-module _ (b : List ℕ) (s t i : ℕ) (w : Balanced) (h : Balances b s t i w) (r offset₀ offset : ℕ)
-    (q : Reported (numbered (w .verdict)) r offset₀ offset) (old : ℤ) where
+module _ {b : List ℕ} {s t i : ℕ} {w : Balanced} (h : Balances b s t i w) {r offset₀ offset : ℕ}
+    (q : Reported (numbered (w .verdict)) r offset₀ offset) {old : ℤ} where
   pub balance-stopped : 0 < r → BalanceCall b s t i r old old offset₀ offset
   balance-stopped l =
-      record { reported = reported (w .verdict) _ _ _ _ (h .verdict) q; balance-is = kept _ _ _ (stopped (w .verdict) _ _ _ _ (h .verdict) q l) }
+      record { reported = reported (w .verdict) (h .verdict) q; balance-is = kept _ _ _ (stopped (w .verdict) (h .verdict) q l) }
 
-  pub balance-passed : (new : ℤ) → r ≡ 0 → new ≡ w .balance → BalanceCall b s t i r old new offset₀ offset
-  balance-passed new l is =
-      let e = passed (w .verdict) _ _ _ _ (h .verdict) q l in
-      record { reported = reported (w .verdict) _ _ _ _ (h .verdict) q; balance-is = is ∙ h .balanced e ∙ gained _ _ _ e }
+  pub balance-passed : {new : ℤ} → r ≡ 0 → new ≡ w .balance → BalanceCall b s t i r old new offset₀ offset
+  balance-passed l is =
+      let e = passed (w .verdict) (h .verdict) q l in
+      record { reported = reported (w .verdict) (h .verdict) q; balance-is = is ∙ h .balanced e ∙ gained _ _ _ e }
 
 -- ---- the writer
 wrote-accepted : (o : Outcome) (n m : ℕ) → wrote n ≡ reportOf o m → (o ≡ accepted) × (n ≡ m)
@@ -167,9 +166,9 @@ declined-refused : (o : Outcome) (n k : ℕ) (l : List ℕ) → declined k l ≡
 declined-refused accepted n k l e = let z : _≡_ {A = ℕ} 0 1 = cc in absurd (omega arith)
 declined-refused (refused j m) n k l e = cc
 
-module _ (k : Settings) (v g a old : List ℕ) (w : Written) (new : List ℕ) (h : Writes k v g a old w new) (len₀ offset₀ : ℕ) where
-  pub write-passed : (n len : ℕ) → w ≡ written.Length n → len ≡ n → WriteCall k v g a old new 0 len₀ len offset₀ offset₀
-  write-passed n len e is =
+module _ {k : Settings} {v g a old : List ℕ} {w : Written} {new : List ℕ} (h : Writes k v g a old w new) {len₀ offset₀ : ℕ} where
+  pub write-passed : {n len : ℕ} → w ≡ written.Length n → len ≡ n → WriteCall k v g a old new 0 len₀ len offset₀ offset₀
+  write-passed e is =
       let q = wrote-accepted (writerOutcome k v g a (length old)) _ _ (rw e at (h .answer)) in
       record {
         reported = rw (q .0) (record { status-is = refl; offset-is = refl });
@@ -177,8 +176,8 @@ module _ (k : Settings) (v g a old : List ℕ) (w : Written) (new : List ℕ) (h
         output = h .output;
       }
 
-  pub write-stopped : (r : Refusal) (n offset : ℕ) → w ≡ written.Refused r → Reported (numbered (Refused r)) n offset₀ offset
+  pub write-stopped : {r : Refusal} {n offset : ℕ} → w ≡ written.Refused r → Reported (numbered (Refused r)) n offset₀ offset
       → WriteCall k v g a old new n len₀ len₀ offset₀ offset
-  write-stopped r n offset e q =
+  write-stopped e q =
       let d = declined-refused (writerOutcome k v g a (length old)) _ _ _ (rw e at (h .answer)) in
       record { reported = rw d q; length-is = rw d refl; output = h .output }

@@ -7,7 +7,6 @@ use mathlib.Core.Logic.{_⊎_, inl, inr}
 use mathlib.Core.List.{List}
 use native.Mathlib.Omega.{arith}
 use lib.Dec.{ltb, eqb}
-use lib.ListN.{length}
 use borrow.Author.Tests.{lt-ltb, ltb-false, ne-eqb}
 use Rattle.spec.specs.declared.Settings.{Settings}
 use Rattle.spec.specs.Base.{if_then_else_}
@@ -84,7 +83,7 @@ radius-alike n m (inl e) = rw e refl
 radius-alike n m (inr q) = lt-ltb 15 m (q .1) ∙ sym (lt-ltb 15 n (q .0))
 
 -- ---- settings
-module _ (k s : Settings) (width : Alike 1024 (k .width) (s .width)) (height : Alike 1024 (k .height) (s .height))
+module _ {k s : Settings} (width : Alike 1024 (k .width) (s .width)) (height : Alike 1024 (k .height) (s .height))
     (levels : Alike 1024 (k .levels) (s .levels)) (guides : Alike 256 (k .guides) (s .guides)) (kind : Alike 2 (k .kind) (s .kind))
     (radius : Alike 15 (k .radius) (s .radius)) (smoothing : Alike 65025 (k .smoothing) (s .smoothing)) where
   outcomes : settingsOutcome s ≡ settingsOutcome k
@@ -122,10 +121,10 @@ module _ (k s : Settings) (width : Alike 1024 (k .width) (s .width)) (height : A
   narrowed = record { same = outcomes; whole = equal }
 
 -- the writer does the same with both
-pub writes-narrowed : (k s : Settings) (v g a old : List ℕ) (r : Written) (new : List ℕ) → Narrowed k s → Writes s v g a old r new
+pub writes-narrowed : {k s : Settings} {v g a old : List ℕ} {r : Written} {new : List ℕ} → Narrowed k s → Writes s v g a old r new
     → Writes k v g a old r new
 unfolding writerOutcome
-writes-narrowed k s v g a old r new n h = go (settingsOutcome k) refl
+writes-narrowed {k} {s} {v} {g} {a} {old} {r} {new} n h = go (settingsOutcome k) refl
   where
     go : (o : Outcome) → settingsOutcome k ≡ o → Writes k v g a old r new
     go accepted e = subst (λ (x : Settings). Writes x v g a old r new) (n .whole e) h

@@ -11,10 +11,10 @@ report-requires : tie.Need-report-requires
 report-requires c κs = search needs
 
 returns : tie.Need-returns
-returns c = balance-passed _ _ _ _ _ (c .before .before .before .before .balance .ensures) _ _ _ (c .before .before .report .ensures) _ _ (omega arith) (search needs)
+returns c = balance-passed (c .before .before .before .before .balance .ensures) (c .before .before .report .ensures) (omega arith) (search needs)
 
 returns-2 : tie.Need-returns-2
-returns-2 c = balance-stopped _ _ _ _ _ (c .before .before .before .balance .ensures) _ _ _ (c .before .report .ensures) _ (omega arith)
+returns-2 c = balance-stopped (c .before .before .before .balance .ensures) (c .before .report .ensures) (omega arith)
 
 pub icemedian-balance-spec : {M : Type 1} → statement M
 icemedian-balance-spec = tie.close (tie.spec balance-requires report-requires returns returns-2)

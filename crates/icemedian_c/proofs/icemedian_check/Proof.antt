@@ -10,7 +10,7 @@ report-requires : tie.Need-report-requires
 report-requires c κs = search needs
 
 returns : tie.Need-returns
-returns c = reported (c .before .before .check .result) _ _ _ _ (c .before .before .check .ensures) (c .report .ensures)
+returns c = reported (c .before .before .check .result) (c .before .before .check .ensures) (c .report .ensures)
 
 pub icemedian-check-spec : {M : Type 1} → statement M
 icemedian-check-spec = tie.close (tie.spec check-requires report-requires returns)

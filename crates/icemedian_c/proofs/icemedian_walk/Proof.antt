@@ -23,7 +23,7 @@ same-length-4 : tie.Need-same-length-4
 same-length-4 c = search needs
 
 returns : tie.Need-returns
-returns c = walk-stopped _ _ _ _ _ _ _ _ _ _ (c .before .before .before .before .before .before .before .before .before .before .before .walk .ensures) _ _ _ (c .before .report .ensures) _ _ _ (omega arith)
+returns c = walk-stopped (c .before .before .before .before .before .before .before .before .before .before .before .walk .ensures) (c .before .report .ensures) (omega arith)
 
 same-length-5 : tie.Need-same-length-5
 same-length-5 c = search needs
@@ -39,7 +39,7 @@ same-length-8 c = search needs
 
 returns-2 : tie.Need-returns-2
 returns-2 c =
-    walk-passed _ _ _ _ _ _ _ _ _ _ (c .before .before .before .before .before .before .before .before .before .before .before .before .walk .ensures) _ _ _ (c .before .before .report .ensures) _ _ _ _ _ _ (omega arith) (omega arith) (omega arith) (search needs)
+    walk-passed (c .before .before .before .before .before .before .before .before .before .before .before .before .walk .ensures) (c .before .before .report .ensures) (omega arith) (omega arith) (omega arith) (search needs)
 
 pub icemedian-walk-spec : {M : Type 1} → statement M
 icemedian-walk-spec =

@@ -48,7 +48,7 @@ cast-t21 c = search needs
 
 returns : tie.Need-returns
 returns c =
-    narrowed _ _
+    narrowed
     (alike 1024 _ _ _ (c .before .before .before .before .before .before .at-most .ensures .0) (omega arith))
     (alike 1024 _ _ _ (c .before .before .before .before .before .at-most2 .ensures .0) (omega arith))
     (alike 1024 _ _ _ (c .before .before .before .before .at-most3 .ensures .0) (omega arith))
