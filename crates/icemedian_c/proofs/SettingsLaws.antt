@@ -1,13 +1,13 @@
 -- Numbers that checks 2 to 5 cannot tell apart: the same, or both above the highest that the check lets through.
 -- Assumes nothing.
-use Prim.Native.Nat.{ℕ, _*_, _≤_, _<_}
+use Prim.Native.Nat.{ℕ, _*_, _≤_, _<_, min}
 use mathlib.Core.Path.{_≡_, refl, ap, sym, _∙_, subst}
 use mathlib.Core.Bool.{Bool, true, false, not, _||_}
 use mathlib.Core.Logic.{_⊎_, inl, inr}
 use mathlib.Core.List.{List}
 use native.Mathlib.Omega.{arith}
 use lib.Dec.{ltb, eqb}
-use borrow.Author.Tests.{lt-ltb, ltb-false, ne-eqb}
+use borrow.Author.Tests.{lt-ltb, ltb-true, ltb-false, ne-eqb}
 use Rattle.spec.specs.declared.Settings.{Settings}
 use Rattle.spec.specs.Base.{if_then_else_}
 use Rattle.spec.specs.Refusal.{Outcome, accepted, refused}
@@ -16,18 +16,18 @@ use Rattle.spec.specs.Writer.{writerOutcome}
 use Rattle.spec.proofs.Limits.{settings-limits}
 use Rattle.frame_write.specs.declared.Written.{Written}
 use Rattle.frame_write.specs.Write.{Writes}
-use Rattle.icemedian_c.specs.Exports.{atMost, settingsFrom, Narrowed}
+use Rattle.icemedian_c.specs.Exports.{settingsFrom, Narrowed}
 
 abbrev pub Alike : ℕ → ℕ → ℕ → Type 0
 Alike top n m = (m ≡ n) ⊎ ((top < n) × (top < m))
 
 -- a number and what its field holds, where the field holds more than the check lets through
-pub alike : (top most n m : ℕ) → m ≡ atMost most n → top < most → Alike top n m
-alike top most n m is h = go (ltb n most) refl is
+pub alike : (top most n m : ℕ) → m ≡ min n most → top < most → Alike top n m
+alike top most n m is h = go (ltb n most) refl
   where
-    go : (b : Bool) → ltb n most ≡ b → m ≡ (if b then n else most) → Alike top n m
-    go true d e = inl e
-    go false d e = let q : most ≤ n = ltb-false _ _ d in inr (omega arith, omega arith)
+    go : (b : Bool) → ltb n most ≡ b → Alike top n m
+    go true d = let q : n < most = ltb-true _ _ d in inl (omega arith)
+    go false d = let q : most ≤ n = ltb-false _ _ d in inr (omega arith, omega arith)
 
 exact : (top n m : ℕ) → Alike top n m → n ≤ top → m ≡ n
 exact top n m (inl e) h = e

@@ -3,7 +3,7 @@
 use Prim.Native.Nat.{ℕ, _+_}
 use mathlib.Core.Path.{_≡_}
 use mathlib.Core.List.{List, [], _∷_, _++_}
-use lib.Dec.{ltb, eqb}
+use lib.Dec.{eqb}
 use lib.IntN.{ℤ}
 use lib.ListN.{length, drop}
 use Rattle.spec.specs.declared.Settings.{Settings}
@@ -91,10 +91,6 @@ pub record BalanceCall (b : List ℕ) (s t i r : ℕ) (old new : ℤ) (offset₀
 -- the settings that seven numbers make, of any size
 abbrev pub settingsFrom : ℕ → ℕ → ℕ → ℕ → ℕ → ℕ → ℕ → Settings
 settingsFrom w h l m k r e = record { width = w; height = h; levels = l; guides = m; kind = k; radius = r; smoothing = e }
-
--- a number, or the most that its field can hold
-abbrev pub atMost : ℕ → ℕ → ℕ
-atMost most n = if ltb n most then n else most
 
 -- the settings k that the seven numbers make and those, s, that their fields hold: checks 2 to 5 say the same of both, and only of equal ones that
 -- they pass

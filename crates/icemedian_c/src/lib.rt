@@ -6,11 +6,11 @@ use ice::calls;
 use spec::Settings;
 use spec::Verdict;
 ghost use mathlib.Core.Path.{_≡_};
-ghost use Prim.Native.Nat.{_≤_};
+ghost use Prim.Native.Nat.{min};
 ghost use Rattle.spec.specs.Refusal.{numbered};
 ghost use Rattle.spec.specs.Checks.{verdict};
 ghost use Rattle.ways.specs.Visit.{stores};
-ghost use Rattle.icemedian_c.specs.Exports.{Reported, WalkCall, FilterCall, BalanceCall, WriteCall, Narrowed, atMost, settingsFrom};
+ghost use Rattle.icemedian_c.specs.Exports.{Reported, WalkCall, FilterCall, BalanceCall, WriteCall, Narrowed, settingsFrom};
 
 // A verdict as a status, and the offset of number 7.
 fn report(verdict: Verdict, offset: &mut u64) -> u32
@@ -135,7 +135,7 @@ pub extern "C" fn icemedian_balance(
 
 // A number, or the most that its field can hold.
 fn at_most(n: u32, most: u32) -> u32
-    ensures { λ r. ⌜ (r ≡ atMost most n) × (r ≤ most) ⌝ }
+    ensures { λ r. ⌜ r ≡ min n most ⌝ }
 {
     if n < most {
         return n;

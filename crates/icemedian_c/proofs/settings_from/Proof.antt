@@ -49,13 +49,13 @@ cast-t21 c = search needs
 returns : tie.Need-returns
 returns c =
     narrowed
-    (alike 1024 _ _ _ (c .before .before .before .before .before .before .at-most .ensures .0) (omega arith))
-    (alike 1024 _ _ _ (c .before .before .before .before .before .at-most2 .ensures .0) (omega arith))
-    (alike 1024 _ _ _ (c .before .before .before .before .at-most3 .ensures .0) (omega arith))
-    (alike 256 _ _ _ (c .before .before .before .at-most4 .ensures .0) (omega arith))
-    (alike 2 _ _ _ (c .before .before .at-most5 .ensures .0) (omega arith))
-    (alike 15 _ _ _ (c .before .at-most6 .ensures .0) (omega arith))
-    (alike 65025 _ _ _ (c .at-most7 .ensures .0) (omega arith))
+    (alike 1024 _ _ _ (c .before .before .before .before .before .before .at-most .ensures) (omega arith))
+    (alike 1024 _ _ _ (c .before .before .before .before .before .at-most2 .ensures) (omega arith))
+    (alike 1024 _ _ _ (c .before .before .before .before .at-most3 .ensures) (omega arith))
+    (alike 256 _ _ _ (c .before .before .before .at-most4 .ensures) (omega arith))
+    (alike 2 _ _ _ (c .before .before .at-most5 .ensures) (omega arith))
+    (alike 15 _ _ _ (c .before .at-most6 .ensures) (omega arith))
+    (alike 65025 _ _ _ (c .at-most7 .ensures) (omega arith))
 
 pub settings-from-spec : {M : Type 1} → statement M
 settings-from-spec =
