@@ -1,67 +1,104 @@
 -- What the exported calls give back: a status and an offset for each outcome, and the results of the calls that they stand for.
 -- Assumes nothing.
-use Prim.Native.Nat.{ℕ}
+use Prim.Native.Nat.{ℕ, _+_}
 use mathlib.Core.Path.{_≡_}
-use mathlib.Core.List.{List, [], _∷_}
+use mathlib.Core.List.{List, [], _∷_, _++_}
+use lib.Dec.{eqb}
 use lib.IntN.{ℤ}
-use lib.ListN.{length}
+use lib.ListN.{length, drop}
 use Rattle.spec.specs.declared.Settings.{Settings}
+use Rattle.spec.specs.declared.Way.{Way}
+use Rattle.spec.specs.declared.Verdict.the-variants.{Accepted}
+use Rattle.spec.specs.Base.{if_then_else_}
+use Rattle.spec.specs.Refusal.{Outcome, accepted, refused}
+use Rattle.spec.specs.Frame.{Frame, frameOf, pixels}
+use Rattle.spec.specs.Median.{balance}
+use Rattle.spec.specs.Walk.{State, walkEnd, walkAnswers}
+use Rattle.spec.specs.Filter.{filtered, filterEnd}
+use Rattle.spec.specs.Calls.{wayOf, boxOf, walkOutcome, filterOutcome, balanceOutcome}
+use Rattle.spec.specs.Checks.{settingsOutcome}
 use Rattle.spec.specs.Writer.{written, writtenSize, writerOutcome, stored}
-use Rattle.spec.specs.Refusal.{Outcome, accepted, refused, numbered}
+use Rattle.ways.specs.Visit.{Stores, lent}
 use Rattle.ice_walk.specs.declared.Walked.{Walked}
-use Rattle.ice.specs.declared.Balanced.{Balanced}
-use Rattle.ways.specs.Visit.{Stores}
-use Rattle.ice.specs.Contract.{Walks, Filters, Balances}
+use Rattle.ice.specs.Contract.{Ended}
+
+-- ---- status, lent results, offset
 
 -- 0, or document 01's number
 abbrev pub statusOf : Outcome → ℕ
 statusOf accepted = 0
 statusOf (refused n l) = n
 
--- the first value beside the number, or 0
-abbrev pub firstOr0 : List ℕ → ℕ
-firstOr0 [] = 0
-firstOr0 (v ∷ vs) = v
+-- a lent result after the call: the new content where accepted, the old one where refused
+abbrev pub given : {A : Type 0} → Outcome → A → A → A
+given accepted new old = new
+given (refused n l) new old = old
 
-abbrev pub offsetIn : Outcome → ℕ
-offsetIn accepted = 0
-offsetIn (refused n l) = firstOr0 l
+abbrev pub firstOr : ℕ → List ℕ → ℕ
+firstOr old [] = old
+firstOr old (v ∷ vs) = v
 
--- the results are those of a walk that keeps its promise
-pub record WalkCall (b : List ℕ) (way s t : ℕ) (moves : List ℕ) (a z : Stores) (before after : List ℕ) (r shifts cut : ℕ) (cells : List ℤ) (offset : ℕ) : Type 0 where
-  pub result : Walked
-  pub walks : Walks b way s t moves a z before after result
-  pub status-is : r ≡ statusOf (numbered (result .verdict))
-  pub shifts-is : shifts ≡ result .shifts
-  pub cut-is : cut ≡ result .cut .0
-  pub cells-is : cells ≡ result .cells
-  pub offset-is : offset ≡ offsetIn (numbered (result .verdict))
+-- the lent offset after the call: the value beside number 7, else the old content
+abbrev pub offsetAfter : Outcome → ℕ → ℕ
+offsetAfter accepted old = old
+offsetAfter (refused n l) old = if eqb n 7 then firstOr old l else old
 
-pub record FilterCall (b : List ℕ) (way : ℕ) (a z : Stores) (before after : List ℕ) (r shifts offset : ℕ) : Type 0 where
-  pub result : Walked
-  pub filters : Filters b way a z before after result
-  pub status-is : r ≡ statusOf (numbered (result .verdict))
-  pub shifts-is : shifts ≡ result .shifts
-  pub offset-is : offset ≡ offsetIn (numbered (result .verdict))
+-- the status r, and the offset before and after
+pub record Reported (o : Outcome) (r old new : ℕ) : Type 0 where
+  pub status-is : r ≡ statusOf o
+  pub offset-is : new ≡ offsetAfter o old
 
-pub record BalanceCall (b : List ℕ) (s t i r : ℕ) (balance : ℤ) (offset : ℕ) : Type 0 where
-  pub result : Balanced
-  pub balances : Balances b s t i result
-  pub status-is : r ≡ statusOf (numbered (result .verdict))
-  pub balance-is : balance ≡ result .balance
-  pub offset-is : offset ≡ offsetIn (numbered (result .verdict))
+-- ---- walk and filter
 
--- the settings that seven numbers make
+-- the result of a walk that ended at the state x
+abbrev pub resultAt : Way → Frame → State → Walked
+resultAt way p x =
+    record { verdict = Accepted; shifts = x .shifts; cut = record { 0 = x .cut }; cells = boxOf way p (x .column) (x .row) (x .cut) }
+
+-- of an outcome o and the state x at the end: the stores a and z, the answers or the output, and the shift count, each before and after
+pub record Called (o : Outcome) (way : Way) (p : Frame) (x : State) (a z : Stores) (due before after : List ℕ) (old new : ℕ) : Type 0 where
+  pub shifts-is : new ≡ given o (x .shifts) old
+  pub refused-keeps : (o ≡ accepted → ⊥) → (z ≡ a) × (after ≡ before)
+  pub accepted-ends : o ≡ accepted → Ended way p x a z due after (resultAt way p x)
+
+-- the outcome, the end and the answers of a walk over the file's bytes b
+module _ (b : List ℕ) (way s t : ℕ) (moves : List ℕ) where
+  abbrev pub walkVerdict : Stores → List ℕ → Outcome
+  walkVerdict a before = walkOutcome b way s t (length moves) (lent a) (length before)
+
+  -- the results: the shift count, the cut and the cells of the box, each before and after
+  pub record WalkCall (a z : Stores) (before after : List ℕ) (r shifts₀ shifts cut₀ cut : ℕ) (cells₀ cells : List ℤ) (offset₀ offset : ℕ)
+      : Type 0 where
+    pub reported : Reported (walkVerdict a before) r offset₀ offset
+    pub called : Called (walkVerdict a before) (wayOf way) (frameOf b) (walkEnd (frameOf b) s t moves) a z
+        (walkAnswers (frameOf b) s t moves ++ drop (length moves + 1) before) before after shifts₀ shifts
+    pub cut-is : cut ≡ given (walkVerdict a before) (walkEnd (frameOf b) s t moves .cut) cut₀
+    pub cells-is : cells ≡ given (walkVerdict a before) (resultAt (wayOf way) (frameOf b) (walkEnd (frameOf b) s t moves) .cells) cells₀
+
+pub record FilterCall (b : List ℕ) (way : ℕ) (a z : Stores) (before after : List ℕ) (r shifts₀ shifts offset₀ offset : ℕ) : Type 0 where
+  pub reported : Reported (filterOutcome b way (lent a) (length before)) r offset₀ offset
+  pub called : Called (filterOutcome b way (lent a) (length before)) (wayOf way) (frameOf b) (filterEnd (frameOf b)) a z
+      (filtered (frameOf b) ++ drop (pixels (frameOf b .set)) before) before after shifts₀ shifts
+
+-- ---- balance
+
+pub record BalanceCall (b : List ℕ) (s t i r : ℕ) (old new : ℤ) (offset₀ offset : ℕ) : Type 0 where
+  pub reported : Reported (balanceOutcome b s t i) r offset₀ offset
+  pub balance-is : new ≡ given (balanceOutcome b s t i) (balance (frameOf b) s t i) old
+
+-- ---- write
+
+-- the settings that seven numbers make, of any size
 abbrev pub settingsFrom : ℕ → ℕ → ℕ → ℕ → ℕ → ℕ → ℕ → Settings
 settingsFrom w h l m k r e = record { width = w; height = h; levels = l; guides = m; kind = k; radius = r; smoothing = e }
 
--- the file's length, and 0 on refusal
-abbrev pub lengthIn : Outcome → ℕ → ℕ
-lengthIn accepted n = n
-lengthIn (refused n l) size = 0
+-- the settings k that the seven numbers make and those, s, that their fields hold: checks 2 to 5 say the same of both, and only of equal ones that
+-- they pass
+pub record Narrowed (k s : Settings) : Type 0 where
+  pub same : settingsOutcome s ≡ settingsOutcome k
+  pub whole : settingsOutcome k ≡ accepted → s ≡ k
 
-pub record WriteCall (k : Settings) (v g a old new : List ℕ) (r len offset : ℕ) : Type 0 where
-  pub status-is : r ≡ statusOf (writerOutcome k v g a (length old))
-  pub length-is : len ≡ lengthIn (writerOutcome k v g a (length old)) (writtenSize k (length a))
-  pub offset-is : offset ≡ offsetIn (writerOutcome k v g a (length old))
+pub record WriteCall (k : Settings) (v g a old new : List ℕ) (r len₀ len offset₀ offset : ℕ) : Type 0 where
+  pub reported : Reported (writerOutcome k v g a (length old)) r offset₀ offset
+  pub length-is : len ≡ given (writerOutcome k v g a (length old)) (writtenSize k (length a)) len₀
   pub output : new ≡ stored (writerOutcome k v g a (length old)) (written k v g a) old

@@ -1,0 +1,59 @@
+use native.Mathlib.Omega.{arith}
+use Rattle.icemedian_c.proofs.ExportLaws.{walk-stopped, walk-passed}
+use borrow.Author.Needs.{needs}
+use Rattle.icemedian_c.proofs.icemedian_walk.Statement.{statement}
+use Rattle.icemedian_c.proofs.icemedian_walk.Tie as tie
+
+walk-requires : tie.Need-walk-requires
+walk-requires c κs = search needs
+
+report-requires : tie.Need-report-requires
+report-requires c κs = search needs
+
+same-length : tie.Need-same-length
+same-length c = search needs
+
+same-length-2 : tie.Need-same-length-2
+same-length-2 c = search needs
+
+same-length-3 : tie.Need-same-length-3
+same-length-3 c = search needs
+
+same-length-4 : tie.Need-same-length-4
+same-length-4 c = search needs
+
+returns : tie.Need-returns
+returns c = walk-stopped (c .before .before .before .before .before .before .before .before .before .before .before .walk .ensures) (c .before .report .ensures) (omega arith)
+
+same-length-5 : tie.Need-same-length-5
+same-length-5 c = search needs
+
+same-length-6 : tie.Need-same-length-6
+same-length-6 c = search needs
+
+same-length-7 : tie.Need-same-length-7
+same-length-7 c = search needs
+
+same-length-8 : tie.Need-same-length-8
+same-length-8 c = search needs
+
+returns-2 : tie.Need-returns-2
+returns-2 c =
+    walk-passed (c .before .before .before .before .before .before .before .before .before .before .before .before .walk .ensures) (c .before .before .report .ensures) (omega arith) (omega arith) (omega arith) (search needs)
+
+pub icemedian-walk-spec : {M : Type 1} → statement M
+icemedian-walk-spec =
+    tie.close
+    (tie.spec
+    walk-requires
+    report-requires
+    same-length
+    same-length-2
+    same-length-3
+    same-length-4
+    returns
+    same-length-5
+    same-length-6
+    same-length-7
+    same-length-8
+    returns-2)
