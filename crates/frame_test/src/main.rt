@@ -1,6 +1,6 @@
 // The frame, executed: frames of both kinds written and read back, document 01's 40-byte frame, and files damaged byte by byte, so that each refusal
-// from 1 to 7 is seen, and of each two neighbouring checks that both fire the earlier. stdout is made from document 01's table by expected.py, which reads
-// the cases below and shares no code with the checks.
+// from 1 to 7 is seen, and of each two neighbouring checks that both fire the earlier. stdout is made from document 01's table by expected.py, which
+// reads the cases below and shares no code with the checks.
 mod say;
 
 use frame::weight;

@@ -131,7 +131,11 @@ pub fn guided_balance(file: &[u8], z: Plan, s: usize, t: usize, top: Level) -> i
     let m = z.guides;
     let mut row = [0u16; 256];
     rows::ramp(&mut row, m);
-    let w = rows::guided_formula(file, z, &row, s, t, k);
+    let w = Formula {
+        row: 0,
+        slope: k.slope,
+        offset: k.offset,
+    };
     window_balance(file, z, &row, w, s, t, top)
 }
 

@@ -3,7 +3,6 @@ use crate::formula::Formula;
 use frame::weight;
 use spec::Guide;
 use spec::Plan;
-use window::coefficients::Coefficients;
 use window::pixel;
 ghost use mathlib.Core.Path.{_≡_};
 ghost use Prim.Native.Nat.{_+_, _*_, _<_, _≤_};
@@ -11,7 +10,6 @@ ghost use lib.ListN.{length};
 ghost use lib.IntN.{pos};
 ghost use Rattle.spec.specs.Frame.{frameOf};
 ghost use Rattle.spec.specs.Checks.{Planned};
-ghost use Rattle.window.specs.Coefficients.{WeighsAt, CoefficientsSmall};
 ghost use Rattle.joint_search.specs.Formula.{Weighs};
 ghost use Rattle.joint_search.specs.Arrive.{Ramp, Mirror, exchanged, Lower, WeightRows};
 ghost use Rattle.joint_search.specs.Balance.{TableRow};
@@ -99,25 +97,5 @@ pub fn built_formula(file: &[u8], z: Plan, weights: &[u16], s: usize, t: usize) 
         row: 255 - (centre.0 as usize),
         slope: 1,
         offset: 0,
-    }
-}
-
-// Kind 2: the window's coefficients.
-pub fn guided_formula(
-    file: &[u8],
-    z: Plan,
-    weights: &[u16],
-    s: usize,
-    t: usize,
-    k: Coefficients,
-) -> Formula
-    requires { ⌜ (Planned (now file) z) × (z .kind ≡ 2) × (s < z .width) × (t < z .height) ⌝ }
-    requires { ⌜ (Ramp (z .guides) (now weights)) × (WeighsAt (frameOf (now file)) s t k) × (CoefficientsSmall k) ⌝ }
-    ensures { λ r. ⌜ Weighs (frameOf (now (file .entry))) s t (now (weights .entry)) r ⌝ }
-{
-    Formula {
-        row: 0,
-        slope: k.slope,
-        offset: k.offset,
     }
 }

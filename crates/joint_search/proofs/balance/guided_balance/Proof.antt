@@ -1,12 +1,14 @@
 -- `guided_balance` meets its contract. Assumes nothing.
 use borrow.Author.Needs.{needs}
 use native.Mathlib.Omega.{arith}
+use mir.Syntax.{w64}
+use Rattle.ints.specs.Machine.{read-bounded}
 use Rattle.window.proofs.PixelLaws.{place-small, guides-high}
 use Rattle.window.specs.Coefficients.{WeighsAt}
 use Rattle.spec.specs.Frame.{frameOf}
 use Rattle.window.proofs.SumLaws.{sums-small}
 use Rattle.window.proofs.CoefficientLaws.{smoothing-high, weighs, coefficients-small}
-use Rattle.joint_search.proofs.RowLaws.{centre-place, centre-is, centre-small}
+use Rattle.joint_search.proofs.RowLaws.{centre-place, centre-is, centre-small, ramp-weighs}
 use Rattle.joint_search.proofs.balance.guided_balance.Statement.{statement}
 use Rattle.joint_search.proofs.balance.guided_balance.Tie as tie
 
@@ -41,20 +43,22 @@ slice-aggregate-ramp c = search needs
 ramp-requires : tie.Need-ramp-requires
 ramp-requires c κs = let at = c .before .before .before .before .before .before in let m = guides-high (at .pre .0) in (m, m)
 
-slice-aggregate-guided-formula : tie.Need-slice-aggregate-guided-formula
-slice-aggregate-guided-formula c = search needs
-
-guided-formula-requires : tie.Need-guided-formula-requires
-guided-formula-requires c κs =
-    let k = c .before .before .before .before in
-    let at = start k in
-    ((at .pre .0, at .pre .1, at .pre .2, at .pre .3), (c .before .before .ramp .ensures, weighed k, coefficients-small (at .pre .0) (at .pre .1) (weighed k) (at .pre .2) (at .pre .3)))
-
 slice-aggregate-window-balance : tie.Need-slice-aggregate-window-balance
 slice-aggregate-window-balance c = search needs
 
 window-balance-requires : tie.Need-window-balance-requires
-window-balance-requires c κs = search needs
+window-balance-requires c κs =
+    let r = c .before .before .before in
+    let k = r .before .before in
+    let at = start k in
+    let small = coefficients-small (at .pre .0) (at .pre .1) (weighed k) (at .pre .2) (at .pre .3) in
+    record {
+      planned = at .pre .0;
+      column = at .pre .2;
+      row = at .pre .3;
+      weighs = ramp-weighs (at .pre .0) (at .pre .2) (at .pre .3) (at .pre .1) (r .ramp .ensures) (weighed k) small
+          (read-bounded w64 235497855 (small .slope) tt) (read-bounded w64 180155859075 (small .offset) tt);
+    }
 
 returns : tie.Need-returns
 returns c = search needs
@@ -70,8 +74,6 @@ guided-balance-spec =
     from-sums-requires
     slice-aggregate-ramp
     ramp-requires
-    slice-aggregate-guided-formula
-    guided-formula-requires
     slice-aggregate-window-balance
     window-balance-requires
     returns)

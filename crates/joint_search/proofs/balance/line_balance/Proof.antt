@@ -1,12 +1,12 @@
 -- `line_balance` meets its contract: after k turns the sum is that of the list's first k pixels. Assumes nothing.
 use mathlib.Core.Path.{_≡_, sym, ap, _∙_}
 use native.Mathlib.Omega.{arith}
-use Prim.Native.Nat.{_+_, _-_, _≤_, _<_}
+use Prim.Native.Nat.{_+_, _-_, _*_, _≤_, _<_}
 use lib.ListN.{length, getD}
 use lib.IntN.{pos, _+ℤ_}
 use mir.Syntax.{w64}
 use mir.Val.{toZ}
-use Rattle.pixels.specs.Pixels.{countOf, guideIn, pixelFoldTo}
+use Rattle.pixels.specs.Pixels.{countOf, levelIn, guideIn, pixelFoldTo}
 use Rattle.pixels.proofs.Laws.{places-in}
 use Rattle.pixels.proofs.AdditiveLaws.{pixels-none}
 use Rattle.joint_search.specs.Formula.{weightBy}
@@ -35,19 +35,18 @@ read e = e .before .before .before
 turn-low : (c : tie.In-loop Inv-loop μ-loop) → c .before .loop .k < 31
 turn-low c = omega (arith, c .loop-test .taken, start (c .before) .pre .few)
 
--- its guide's number is in the row, and has 16 bits
+-- its guide's weight is in the row
 inside : (g : tie.After-struct-known Inv-loop μ-loop) → let at = start (turn g .before) in at .args .w .row + guideIn (at .args .p .now) (turn g .before .loop .k) < length (at .args .weights .now)
 inside g = start (turn g .before) .pre .inside (turn g .before .loop .k) (turn g .loop-test .taken)
 
+-- both of its numbers have 16 bits
+numbers : (g : tie.After-struct-known Inv-loop μ-loop) → let p = start (turn g .before) .args .p .now in (levelIn p (turn g .before .loop .k) < 65536) × (guideIn p (turn g .before .loop .k) < 65536)
+numbers g = let k = turn g .before .loop .k in (omega (arith, g .before .shared-slice-known4 .given (2 * k)), omega (arith, g .before .shared-slice-known4 .given (2 * k + 1)))
+
+-- the weight has 16 bits too
 number-low : (c : tie.After-shared-slice-known5 Inv-loop μ-loop) → let t = turn (c .before) in let at = start (t .before) in
     getD (at .args .weights .now) (at .args .w .row + guideIn (at .args .p .now) (t .before .loop .k)) 0 ≤ 65535
 number-low c = let t = turn (c .before) in let at = start (t .before) in omega (arith, c .shared-slice-known5 .given (at .args .w .row + guideIn (at .args .p .now) (t .before .loop .k)))
-
-weighed : (e : tie.After-combine Inv-loop μ-loop) → let t = turn (read e .before) in let at = start (t .before) in e .combine .result ≡ weightBy (at .args .weights .now) (at .args .w) (guideIn (at .args .p .now) (t .before .loop .k))
-weighed e =
-    let t = turn (read e .before) in
-    let at = start (t .before) in
-    weight-is (at .pre) (at .args .top .0) (t .loop-test .taken) (number-low (read e)) (e .combine .result) (e .combine .ensures)
 
 loop-holds : tie.Need-loop-holds Inv-loop μ-loop
 loop-holds c = (omega arith, sym (pixels-none _+ℤ_ (pos 0) _ _))
@@ -68,19 +67,19 @@ mul-x-2 : tie.Need-mul-x-2 Inv-loop μ-loop
 mul-x-2 c = omega (arith, turn-low (c .before))
 
 shared-slice-read-x-2 : tie.Need-shared-slice-read-x-2 Inv-loop μ-loop
-shared-slice-read-x-2 c = let t = c .before .before in places-in (start (t .before) .args .p .now) (t .before .loop .k) (t .loop-test .taken) .1
+shared-slice-read-x-2 c = let t = c .before .before in omega (arith, places-in (start (t .before) .args .p .now) (t .before .loop .k) (t .loop-test .taken) .1)
 
 cast-x : tie.Need-cast-x Inv-loop μ-loop
-cast-x c = let t = turn c in omega (arith, inside c, start (t .before) .good .1 .0)
+cast-x c = omega (arith, inside c, start (turn c .before) .good .1 .0, numbers c)
 
 add-x : tie.Need-add-x Inv-loop μ-loop
-add-x c = let t = turn c in omega (arith, inside c, start (t .before) .good .1 .0)
+add-x c = omega (arith, inside c, start (turn c .before) .good .1 .0, numbers c)
 
 mul-x-3 : tie.Need-mul-x-3 Inv-loop μ-loop
-mul-x-3 c = let t = turn c in omega (arith, inside c, start (t .before) .good .1 .0)
+mul-x-3 c = omega (arith, inside c, start (turn c .before) .good .1 .0, numbers c)
 
 shared-slice-read-x-3 : tie.Need-shared-slice-read-x-3 Inv-loop μ-loop
-shared-slice-read-x-3 c = inside (c .before)
+shared-slice-read-x-3 c = omega (arith, inside (c .before))
 
 cast-x-2 : tie.Need-cast-x-2 Inv-loop μ-loop
 cast-x-2 c = omega (arith, number-low c)
@@ -91,6 +90,13 @@ combine-requires c κs =
     let t = turn (r .before) in
     let at = start (t .before) in
     weight-asks (at .pre) (at .args .top .0) (t .loop-test .taken) (number-low r)
+
+-- what the call gave is the guide's weight
+weighed : (e : tie.After-combine Inv-loop μ-loop) → let t = turn (read e .before) in let at = start (t .before) in e .combine .result ≡ weightBy (at .args .weights .now) (at .args .w) (guideIn (at .args .p .now) (t .before .loop .k))
+weighed e =
+    let t = turn (read e .before) in
+    let at = start (t .before) in
+    weight-is (at .pre) (at .args .top .0) (t .loop-test .taken) (number-low (read e)) (e .combine .result) (e .combine .ensures)
 
 add-signed-requires : tie.Need-add-signed-requires Inv-loop μ-loop
 add-signed-requires c κs =

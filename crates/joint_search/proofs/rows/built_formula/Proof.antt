@@ -23,7 +23,7 @@ sub-t8 : tie.Need-sub-t8
 sub-t8 c =
     let g = c .before in
     let at = g .before .before .before .before in
-    centre-small (at .pre .0 .0) (at .pre .0 .3) (at .pre .0 .4) (g .guide-at .ensures)
+    omega (arith, centre-small (at .pre .0 .0) (at .pre .0 .3) (at .pre .0 .4) (g .guide-at .ensures))
 
 returns : tie.Need-returns
 returns c =

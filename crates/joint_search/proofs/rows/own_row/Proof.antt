@@ -3,6 +3,7 @@ use native.Mathlib.Omega.{arith}
 use borrow.Author.Needs.{needs}
 use Prim.Native.Nat.{ℕ, _+_, _*_, _-_, _≤_, _<_}
 use lib.ListN.{length, length-replicate}
+use Rattle.spec.proofs.Plans.{facts}
 use Rattle.joint_search.proofs.TableLaws.{guides-within, weight-place}
 use Rattle.joint_search.proofs.RowLaws.{Exchanging, exchange-start, exchange-next, row-inside, row-exchanged}
 use Rattle.joint_search.proofs.rows.own_row.Statement.{statement}
@@ -35,10 +36,10 @@ mul-first-2 : tie.Need-mul-first-2 Inv-loop μ-loop
 mul-first-2 c = omega (arith, small (c .before .before))
 
 add-first : tie.Need-add-first Inv-loop μ-loop
-add-first c = let at = c .before .before .before in omega (arith, inside at, at .good .0)
+add-first c = let at = c .before .before .before in omega (arith, inside at, at .good .0, small at, facts (at .pre .0) .value-last)
 
 copy-low-first-requires : tie.Need-copy-low-first-requires Inv-loop μ-loop
-copy-low-first-requires c κs = let at = c .before .before .before .before in (guides-within (at .pre .0) .1, inside at, length-replicate {A = ℕ} 256 0)
+copy-low-first-requires c κs = let at = c .before .before .before .before in (guides-within (at .pre .0) .1, omega (arith, inside at), length-replicate {A = ℕ} 256 0)
 
 loop-holds : tie.Need-loop-holds Inv-loop μ-loop
 loop-holds c = (omega arith, exchange-start (c .copy-low-first .ensures))
