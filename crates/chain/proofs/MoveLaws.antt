@@ -26,13 +26,12 @@ use Rattle.pixels.specs.Pixels.{countOf, pixelFold, PixelsBelow, LinePixels}
 use Rattle.pixels.proofs.AdditiveLaws.{stepped}
 use Rattle.pixels.proofs.SumLaws.{below-most}
 use Rattle.chain.specs.declared.FreeList.{FreeList}
-use Rattle.chain.specs.declared.Size.{Size}
-use Rattle.chain.specs.Chain.{sumBelow, Beyond, Cleared}
+use Rattle.chain.specs.Chain.{sumBelow, Beyond, Cleared, Size}
 use Rattle.chain.specs.Lines.{nodesOf, sizeOf, counted, guided, lineCount, lineGuides, withCounts, withGuides, ListOf, MergeableLine, MergedLine}
 use Rattle.chain.specs.Moves.{levelCounts, levelGuides, Listed, storeSize, Stored, Slides, Slid}
 use Rattle.chain.proofs.SumLaws.{sum-ext}
 use Rattle.chain.proofs.MergeLaws.{chain-ext}
-use Rattle.chain.proofs.LineLaws.{cap-is, levels-is, lacking, line-total, line-mixed}
+use Rattle.chain.proofs.LineLaws.{cap-is, levels-is, cap-few, lacking, line-total, line-mixed}
 use Rattle.chain.proofs.ReadLaws.{chain-reads, rest-kept}
 use Rattle.chain.proofs.WindowLaws.{level-total, window, window-mixed, leaving-part}
 
@@ -41,23 +40,26 @@ list-ext : (z : Size) (cnt sm cnt′ sm′ : ℕ → ℕ) (free : FreeList) (m :
 list-ext z cnt sm cnt′ sm′ free m c p q = chain-ext (z .cap) (z .levels) (free .head) (free .count) cnt sm cnt′ sm′ m c p q
 
 -- ---- one list of pixels out, another in
-module _ {size : Size} {e l : List ℕ} {free : FreeList} {m : List ℕ} where
-  pub slide-removable : Slides size e l free m → MergeableLine false size l free m
-  slide-removable a = record { cnt = a .cnt; sm = a .sm; chain = a .chain; ready = a .none-left }
+module _ {e l : List ℕ} {free : FreeList} {m : List ℕ} where
+  pub slide-removable : Slides e l free m → MergeableLine false l free m
+  slide-removable a = record { size = a .size; small = a .small; below = a .leaving; cnt = a .cnt; sm = a .sm; chain = a .chain; ready = a .none-left }
 
-  module _ {kept : FreeList} {m₁ : List ℕ} (o : MergedLine false size l free m kept m₁) where
-    pub slide-insertable : Slides size e l free m → MergeableLine true size e kept m₁
+  module _ {kept : FreeList} {m₁ : List ℕ} (o : MergedLine false l free m kept m₁) where
+    pub slide-insertable : Slides e l free m → MergeableLine true e kept m₁
     unfolding slide-removable
-    slide-insertable a = record { cnt = a .cnt; sm = a .sm; chain = o .chain (slide-removable a); ready = a .ready }
+    slide-insertable a = record { size = a .size; small = a .small; below = a .entering; cnt = a .cnt; sm = a .sm; chain = o .chain (slide-removable a); ready = a .ready }
 
-    pub slide-slid : {free′ : FreeList} {m′ : List ℕ} → MergedLine true size e kept m₁ free′ m′ → Slid size e l free m free′ m′
-    unfolding slide-insertable
-    slide-slid i = record { beyond = λ j b. i .beyond j b ∙ o .beyond j b; chain = λ a. i .chain (slide-insertable a) }
+    pub slide-slid : {free′ : FreeList} {m′ : List ℕ} → MergedLine true e kept m₁ free′ m′ → Slid e l free m free′ m′
+    unfolding slide-insertable slide-removable
+    slide-slid i = record {
+      beyond = λ a j b. i .beyond (slide-insertable a) j b ∙ o .beyond (slide-removable a) j b;
+      chain = λ a. i .chain (slide-insertable a);
+    }
 
 -- ---- the window
 -- the first k columns
-abbrev pub ColumnsListed : List ℕ → Plan → Size → ℕ → ℕ → ℕ → FreeList → List ℕ → Type 0
-ColumnsListed b z size s t k free m = ListOf size (λ i. columnsTo b z s t (counted i) k) (λ i. columnsTo b z s t (guided i) k) free m
+abbrev pub ColumnsListed : List ℕ → Plan → ℕ → ℕ → ℕ → FreeList → List ℕ → Type 0
+ColumnsListed b z s t k free m = ListOf (sizeOf z) (λ i. columnsTo b z s t (counted i) k) (λ i. columnsTo b z s t (guided i) k) free m
 
 module _ {b : List ℕ} {z : Plan} (pl : Planned b z) where
   -- a node for each pixel of a window
@@ -101,142 +103,149 @@ module _ {b : List ℕ} {z : Plan} (pl : Planned b z) where
   guides-high hs ht i = guidesOf-high (pixel-of pl hs ht) i
 
   -- a plan's pixels are pixels of its list
-  pub line-below : {size : Size} → size ≡ sizeOf z → {p : List ℕ} → PixelsBelow (z .levels) (z .guides) p → PixelsBelow (size .levels) 256 p
-  line-below {size} is v = rw (levels-is pl size is) (record { few = v .few; level = v .level; guide = below-most pl v .guide })
+  line-below : {p : List ℕ} → PixelsBelow (z .levels) (z .guides) p → PixelsBelow (sizeOf z .levels) 256 p
+  line-below v = rw (levels-is pl) (record { few = v .few; level = v .level; guide = below-most pl v .guide })
 
-  module _ (size : Size) (is : size ≡ sizeOf z) where
-    -- ---- column by column
-    module _ (s t : ℕ) (hs : s < z .width) (ht : t < z .height) where
-      columns-more : (h : ℕ → ℕ → ℕ) (k : ℕ) → columnsTo b z s t h k + lineFold _+_ 0 b (columnLine z (s - z .radius + k) t) h ≡ columnsTo b z s t h (k + 1)
-      unfolding columnsTo
-      columns-more h k = sym (fold-more _+_ 0 _ _ k)
+  small : sizeOf z .cap < 4294967296
+  small = omega (arith, cap-few pl)
 
-      columns-none : (h : ℕ → ℕ → ℕ) → 0 ≡ columnsTo b z s t h 0
-      unfolding columnsTo
-      columns-none h = sym (fold-none _+_ 0 _ _)
+  -- ---- column by column
+  module _ (s t : ℕ) (hs : s < z .width) (ht : t < z .height) where
+    columns-more : (h : ℕ → ℕ → ℕ) (k : ℕ) → columnsTo b z s t h k + lineFold _+_ 0 b (columnLine z (s - z .radius + k) t) h ≡ columnsTo b z s t h (k + 1)
+    unfolding columnsTo
+    columns-more h k = sym (fold-more _+_ 0 _ _ k)
 
-      columns-all : (h : ℕ → ℕ → ℕ) → columnsTo b z s t h (span (z .radius) s (z .width)) ≡ window pl h s t
-      unfolding columnsTo
-      columns-all h = sym (columns-law _+_ 0 pl h s t)
+    columns-none : (h : ℕ → ℕ → ℕ) → 0 ≡ columnsTo b z s t h 0
+    unfolding columnsTo
+    columns-none h = sym (fold-none _+_ 0 _ _)
 
-      columns-part : (h : ℕ → ℕ → ℕ) (k : ℕ) → k ≤ span (z .radius) s (z .width) → columnsTo b z s t h k ≤ window pl h s t
-      unfolding columnsTo
-      columns-part h k l =
-          let n = span (z .radius) s (z .width) in
-          let e : k + (n - k) ≡ n = omega arith in
-          let q : columnsTo b z s t h (k + (n - k)) ≡ columnsTo b z s t h n = ap (columnsTo b z s t h) e in
-          omega (arith, q, columns-all h, fold-parts _+_ 0 natSums (λ x. lineFold _+_ 0 b (columnLine z x t) h) (s - z .radius) k (n - k))
+    columns-all : (h : ℕ → ℕ → ℕ) → columnsTo b z s t h (span (z .radius) s (z .width)) ≡ window pl h s t
+    unfolding columnsTo
+    columns-all h = sym (columns-law _+_ 0 pl h s t)
 
-      pub columns-empty : {m₀ : List ℕ} {m : List ℕ} (free : FreeList) → Cleared (size .cap) (size .levels) m₀ (free .head) (free .count) m → ColumnsListed b z size s t 0 free m
-      columns-empty free c = list-ext size _ _ _ _ free _ (c .chain) (λ i. columns-none (counted i)) (λ i. columns-none (guided i))
+    columns-part : (h : ℕ → ℕ → ℕ) (k : ℕ) → k ≤ span (z .radius) s (z .width) → columnsTo b z s t h k ≤ window pl h s t
+    unfolding columnsTo
+    columns-part h k l =
+        let n = span (z .radius) s (z .width) in
+        let e : k + (n - k) ≡ n = omega arith in
+        let q : columnsTo b z s t h (k + (n - k)) ≡ columnsTo b z s t h n = ap (columnsTo b z s t h) e in
+        omega (arith, q, columns-all h, fold-parts _+_ 0 natSums (λ x. lineFold _+_ 0 b (columnLine z x t) h) (s - z .radius) k (n - k))
 
-      pub columns-listed : {free : FreeList} {m : List ℕ} → ColumnsListed b z size s t (span (z .radius) s (z .width)) free m → Listed b z s t free m
-      columns-listed {free} {m} c =
-          subst (λ (q : Size). ListOf q (levelCounts b s t) (levelGuides b s t) free m) is
-          (list-ext size _ _ _ _ free m c (λ i. columns-all (counted i) ∙ sym (counts-is s t i)) (λ i. columns-all (guided i) ∙ sym (guides-is s t i)))
+    pub columns-empty : {m₀ : List ℕ} {m : List ℕ} (free : FreeList) → Cleared (nodesOf z) m₀ (free .head) (free .count) m → ColumnsListed b z s t 0 free m
+    unfolding sizeOf
+    columns-empty free c = list-ext (sizeOf z) _ _ _ _ free _ (c .chain (sizeOf z .levels)) (λ i. columns-none (counted i)) (λ i. columns-none (guided i))
 
-      -- the next column, read into the list p
-      module _ {k : ℕ} (l : k < span (z .radius) s (z .width)) {d : Line} (ed : d ≡ columnLine z (s - z .radius + k) t) {p : List ℕ} (r : LinePixels b z d p)
-          {free : FreeList} {m : List ℕ} (c : ColumnsListed b z size s t k free m) where
-        column-more : (h : ℕ → ℕ → ℕ) → columnsTo b z s t h k + pixelFold _+_ 0 p h ≡ columnsTo b z s t h (k + 1)
-        column-more h = ap (λ (n : ℕ). columnsTo b z s t h k + n) (r .sum h ∙ ap (λ (y : Line). lineFold _+_ 0 b y h) ed) ∙ columns-more h k
+    pub columns-listed : {free : FreeList} {m : List ℕ} → ColumnsListed b z s t (span (z .radius) s (z .width)) free m → Listed b z s t free m
+    columns-listed {free} {m} c =
+        list-ext (sizeOf z) _ _ _ _ free m c (λ i. columns-all (counted i) ∙ sym (counts-is s t i)) (λ i. columns-all (guided i) ∙ sym (guides-is s t i))
 
-        -- these columns' pixels are some of the window's
-        columns-few : sumBelow (λ i. columnsTo b z s t (counted i) k) (z .levels) + countOf p ≤ nodesOf z
-        columns-few = omega (
-          arith,
-          line-total (r .below),
-          fold-both _+_ 0 natSums (λ i. columnsTo b z s t (counted i) k) (lineCount p) 0 (z .levels),
-          sum-ext (λ i. columnsTo b z s t (counted i) (k + 1)) (λ i. columnsTo b z s t (counted i) k + lineCount p i) (z .levels) (λ i h. column-more (counted i)),
-          sum-le (λ i. columnsTo b z s t (counted i) (k + 1)) (levelCounts b s t) 0 (z .levels) (λ i x y. omega (arith, columns-part (counted i) (k + 1) (omega arith), counts-is s t i)),
-          counts-total hs ht,
-        )
+    -- the next column, read into the list p
+    module _ {k : ℕ} (l : k < span (z .radius) s (z .width)) {d : Line} (ed : d ≡ columnLine z (s - z .radius + k) t) {p : List ℕ} (r : LinePixels b z d p)
+        {free : FreeList} {m : List ℕ} (c : ColumnsListed b z s t k free m) where
+      column-more : (h : ℕ → ℕ → ℕ) → columnsTo b z s t h k + pixelFold _+_ 0 p h ≡ columnsTo b z s t h (k + 1)
+      column-more h = ap (λ (n : ℕ). columnsTo b z s t h k + n) (r .sum h ∙ ap (λ (y : Line). lineFold _+_ 0 b y h) ed) ∙ columns-more h k
 
-        pub columns-insertable : MergeableLine true size p free m
-        columns-insertable = record {
-          cnt = λ i. columnsTo b z s t (counted i) k;
-          sm = λ i. columnsTo b z s t (guided i) k;
-          chain = c;
-          ready = record {
-            space =
-                let q : sumBelow (λ i. columnsTo b z s t (counted i) k) (size .levels) ≡ sumBelow (λ i. columnsTo b z s t (counted i) k) (z .levels) = ap (sumBelow (λ i. columnsTo b z s t (counted i) k)) (levels-is pl size is) in
-                omega (arith, q, columns-few, cap-is pl size is);
-            fits = λ i. omega (arith, columns-part (guided i) k (omega arith), guides-is s t i, guides-high hs ht i);
-          };
-        }
+      -- these columns' pixels are some of the window's
+      columns-few : sumBelow (λ i. columnsTo b z s t (counted i) k) (z .levels) + countOf p ≤ nodesOf z
+      columns-few = omega (
+        arith,
+        line-total (r .below),
+        fold-both _+_ 0 natSums (λ i. columnsTo b z s t (counted i) k) (lineCount p) 0 (z .levels),
+        sum-ext (λ i. columnsTo b z s t (counted i) (k + 1)) (λ i. columnsTo b z s t (counted i) k + lineCount p i) (z .levels) (λ i h. column-more (counted i)),
+        sum-le (λ i. columnsTo b z s t (counted i) (k + 1)) (levelCounts b s t) 0 (z .levels) (λ i x y. omega (arith, columns-part (counted i) (k + 1) (omega arith), counts-is s t i)),
+        counts-total hs ht,
+      )
 
-        pub columns-inserted : {free′ : FreeList} {m′ : List ℕ} → MergedLine true size p free m free′ m′ → ColumnsListed b z size s t (k + 1) free′ m′
-        unfolding columns-insertable
-        columns-inserted {free′} {m′} i = list-ext size _ _ _ _ free′ m′ (i .chain columns-insertable) (λ j. column-more (counted j)) (λ j. column-more (guided j))
-
-    -- ---- to a neighbour: e and l are the lists of the entering and the leaving line
-    module _ {s t s′ t′ : ℕ} (adj : Adjacent z s t s′ t′) {d : Step} (ed : d ≡ stepOf z s t s′ t′) {e l : List ℕ} (re : LinePixels b z (d .entering) e) (rl : LinePixels b z (d .leaving) l)
-        {free : FreeList} {m : List ℕ} (c : Listed b z s t free m) where
-      moved : (h : ℕ → ℕ → ℕ) → window pl h s′ t′ + pixelFold _+_ 0 l h ≡ window pl h s t + pixelFold _+_ 0 e h
-      moved h = stepped (λ (g : ℕ → ℕ → ℕ). g) pl adj ed re rl h
-
-      part : (h : ℕ → ℕ → ℕ) → pixelFold _+_ 0 l h ≤ window pl h s t
-      part h = rw (rl .sum h, ed) (leaving-part pl h adj)
-
-      -- what stays
-      stayCounts : ℕ → ℕ
-      stayCounts i = levelCounts b s t i - lineCount l i
-
-      stayGuides : ℕ → ℕ
-      stayGuides i = levelGuides b s t i - lineGuides l i
-
-      counts-out : (i : ℕ) → levelCounts b s t i ≡ withCounts true l stayCounts i
-      unfolding stayCounts
-      counts-out i = omega (arith, counts-is s t i, part (counted i))
-
-      guides-out : (i : ℕ) → levelGuides b s t i ≡ withGuides true l stayGuides i
-      unfolding stayGuides
-      guides-out i = omega (arith, guides-is s t i, part (guided i))
-
-      counts-in : (i : ℕ) → withCounts true e stayCounts i ≡ levelCounts b s′ t′ i
-      counts-in i = omega (arith, counts-out i, counts-is s t i, counts-is s′ t′ i, moved (counted i))
-
-      guides-in : (i : ℕ) → withGuides true e stayGuides i ≡ levelGuides b s′ t′ i
-      guides-in i = omega (arith, guides-out i, guides-is s t i, guides-is s′ t′ i, moved (guided i))
-
-      -- no pixel of a level, no guide: the line has its part of what the level lacks of 255 a pixel
-      stay-none : (i : ℕ) → stayCounts i ≡ 0 → stayGuides i ≡ 0
-      stay-none i o =
-          omega (arith, counts-out i, guides-out i, counts-is s t i, guides-is s t i, part (lacking i), window-mixed pl s t i, line-mixed (line-below is (rl .below)) i)
-
-      stay-total : sumBelow stayCounts (z .levels) + countOf e ≤ nodesOf z
-      stay-total =
-          let k = both-in adj in
-          omega (
-            arith,
-            sum-ext (levelCounts b s′ t′) (withCounts true e stayCounts) (z .levels) (λ i h. counts-in i),
-            fold-both _+_ 0 natSums stayCounts (lineCount e) 0 (z .levels),
-            line-total (re .below),
-            counts-total (k .2) (k .3),
-          )
-
-      pub slides : Slides size e l free m
-      slides = record {
-        cnt = stayCounts;
-        sm = stayGuides;
-        chain =
-            subst (λ (q : Size). ListOf q (withCounts true l stayCounts) (withGuides true l stayGuides) free m) (sym is)
-            (list-ext (sizeOf z) _ _ _ _ free m c counts-out guides-out);
-        none-left = stay-none;
+      pub columns-insertable : MergeableLine true p free m
+      columns-insertable = record {
+        size = sizeOf z;
+        small = small;
+        below = line-below (r .below);
+        cnt = λ i. columnsTo b z s t (counted i) k;
+        sm = λ i. columnsTo b z s t (guided i) k;
+        chain = c;
         ready = record {
           space =
-              let q : sumBelow stayCounts (size .levels) ≡ sumBelow stayCounts (z .levels) = ap (sumBelow stayCounts) (levels-is pl size is) in
-              omega (arith, q, stay-total, cap-is pl size is);
-          fits = λ i. let k = both-in adj in omega (arith, guides-out i, guides-high (k .0) (k .1) i);
+              let q : sumBelow (λ i. columnsTo b z s t (counted i) k) (sizeOf z .levels) ≡ sumBelow (λ i. columnsTo b z s t (counted i) k) (z .levels) = ap (sumBelow (λ i. columnsTo b z s t (counted i) k)) (levels-is pl) in
+              omega (arith, q, columns-few, cap-is pl);
+          fits = λ i. omega (arith, columns-part (guided i) k (omega arith), guides-is s t i, guides-high hs ht i);
         };
       }
 
-      -- what `slide` asks for, and what it leaves
-      pub slide-asks : (PixelsBelow (size .levels) 256 e × PixelsBelow (size .levels) 256 l) × Slides size e l free m
-      slide-asks = ((line-below is (re .below), line-below is (rl .below)), slides)
+      pub columns-beyond : {free′ : FreeList} {m′ : List ℕ} → MergedLine true p free m free′ m′ → Beyond (nodesOf z) m m′
+      unfolding columns-insertable sizeOf
+      columns-beyond i = i .beyond columns-insertable
 
-      pub slid-stored : {free′ : FreeList} {m′ : List ℕ} → length m′ ≡ length m → Slid size e l free m free′ m′ → Stored b z s′ t′ m free′ m′
-      unfolding slides
-      slid-stored {free′} {m′} n r =
-          listed-stored m free′ m′ n (subst (λ (k : ℕ). Beyond k m m′) (cap-is pl size is) (r .beyond))
-          (subst (λ (q : Size). ListOf q (levelCounts b s′ t′) (levelGuides b s′ t′) free′ m′) is (list-ext size _ _ _ _ free′ m′ (r .chain slides) counts-in guides-in))
+      pub columns-inserted : {free′ : FreeList} {m′ : List ℕ} → MergedLine true p free m free′ m′ → ColumnsListed b z s t (k + 1) free′ m′
+      unfolding columns-insertable
+      columns-inserted {free′} {m′} i = list-ext (sizeOf z) _ _ _ _ free′ m′ (i .chain columns-insertable) (λ j. column-more (counted j)) (λ j. column-more (guided j))
+
+  -- ---- to a neighbour: e and l are the lists of the entering and the leaving line
+  module _ {s t s′ t′ : ℕ} (adj : Adjacent z s t s′ t′) {d : Step} (ed : d ≡ stepOf z s t s′ t′) {e l : List ℕ} (re : LinePixels b z (d .entering) e) (rl : LinePixels b z (d .leaving) l)
+      {free : FreeList} {m : List ℕ} (c : Listed b z s t free m) where
+    moved : (h : ℕ → ℕ → ℕ) → window pl h s′ t′ + pixelFold _+_ 0 l h ≡ window pl h s t + pixelFold _+_ 0 e h
+    moved h = stepped (λ (g : ℕ → ℕ → ℕ). g) pl adj ed re rl h
+
+    part : (h : ℕ → ℕ → ℕ) → pixelFold _+_ 0 l h ≤ window pl h s t
+    part h = rw (rl .sum h, ed) (leaving-part pl h adj)
+
+    -- what stays
+    stayCounts : ℕ → ℕ
+    stayCounts i = levelCounts b s t i - lineCount l i
+
+    stayGuides : ℕ → ℕ
+    stayGuides i = levelGuides b s t i - lineGuides l i
+
+    counts-out : (i : ℕ) → levelCounts b s t i ≡ withCounts true l stayCounts i
+    unfolding stayCounts
+    counts-out i = omega (arith, counts-is s t i, part (counted i))
+
+    guides-out : (i : ℕ) → levelGuides b s t i ≡ withGuides true l stayGuides i
+    unfolding stayGuides
+    guides-out i = omega (arith, guides-is s t i, part (guided i))
+
+    counts-in : (i : ℕ) → withCounts true e stayCounts i ≡ levelCounts b s′ t′ i
+    counts-in i = omega (arith, counts-out i, counts-is s t i, counts-is s′ t′ i, moved (counted i))
+
+    guides-in : (i : ℕ) → withGuides true e stayGuides i ≡ levelGuides b s′ t′ i
+    guides-in i = omega (arith, guides-out i, guides-is s t i, guides-is s′ t′ i, moved (guided i))
+
+    -- no pixel of a level, no guide: the line has its part of what the level lacks of 255 a pixel
+    stay-none : (i : ℕ) → stayCounts i ≡ 0 → stayGuides i ≡ 0
+    stay-none i o =
+        omega (arith, counts-out i, guides-out i, counts-is s t i, guides-is s t i, part (lacking i), window-mixed pl s t i, line-mixed (line-below (rl .below)) i)
+
+    stay-total : sumBelow stayCounts (z .levels) + countOf e ≤ nodesOf z
+    stay-total =
+        let k = both-in adj in
+        omega (
+          arith,
+          sum-ext (levelCounts b s′ t′) (withCounts true e stayCounts) (z .levels) (λ i h. counts-in i),
+          fold-both _+_ 0 natSums stayCounts (lineCount e) 0 (z .levels),
+          line-total (re .below),
+          counts-total (k .2) (k .3),
+        )
+
+    pub slides : Slides e l free m
+    slides = record {
+      size = sizeOf z;
+      small = small;
+      entering = line-below (re .below);
+      leaving = line-below (rl .below);
+      cnt = stayCounts;
+      sm = stayGuides;
+      chain = list-ext (sizeOf z) _ _ _ _ free m c counts-out guides-out;
+      none-left = stay-none;
+      ready = record {
+        space =
+            let q : sumBelow stayCounts (sizeOf z .levels) ≡ sumBelow stayCounts (z .levels) = ap (sumBelow stayCounts) (levels-is pl) in
+            omega (arith, q, stay-total, cap-is pl);
+        fits = λ i. let k = both-in adj in omega (arith, guides-out i, guides-high (k .0) (k .1) i);
+      };
+    }
+
+    -- afterwards the list is the neighbour's
+    pub slid-stored : {free′ : FreeList} {m′ : List ℕ} → length m′ ≡ length m → Slid e l free m free′ m′ → Stored b z s′ t′ m free′ m′
+    unfolding slides
+    slid-stored {free′} {m′} n r =
+        listed-stored m free′ m′ n (subst (λ (k : ℕ). Beyond k m m′) (cap-is pl) (r .beyond slides)) (list-ext (sizeOf z) _ _ _ _ free′ m′ (r .chain slides) counts-in guides-in)

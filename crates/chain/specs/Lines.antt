@@ -2,15 +2,14 @@
 -- Assumes nothing.
 use mathlib.Core.Bool.{Bool, true, false, not}
 use mathlib.Core.List.{List}
-use Prim.Native.Nat.{ℕ, _+_, _*_, _≤_}
+use Prim.Native.Nat.{ℕ, _+_, _*_, _≤_, _<_}
 use lib.Dec.{eqb}
 use Rattle.spec.specs.Base.{if_then_else_}
 use Rattle.spec.specs.declared.Plan.{Plan}
-use Rattle.pixels.specs.Pixels.{countOf, pixelFold}
+use Rattle.pixels.specs.Pixels.{countOf, pixelFold, PixelsBelow}
 use Rattle.chain.specs.declared.FreeList.{FreeList}
-use Rattle.chain.specs.declared.Size.{Size}
 use Rattle.chain.specs.Keys.{NoneLeft}
-use Rattle.chain.specs.Chain.{sumBelow, Chain, Beyond}
+use Rattle.chain.specs.Chain.{sumBelow, Chain, Beyond, Size}
 
 -- a node for each pixel of the largest window
 abbrev pub nodesOf : Plan → ℕ
@@ -55,12 +54,15 @@ abbrev pub LineReady : Bool → Size → List ℕ → (ℕ → ℕ) → (ℕ →
 LineReady true z p cnt sm = InsertLineReady z p cnt sm
 LineReady false z p cnt sm = NoneLeft cnt sm
 
-pub record MergeableLine (adding : Bool) (z : Size) (p : List ℕ) (free : FreeList) (m : List ℕ) : Type 0 where
+pub record MergeableLine (adding : Bool) (p : List ℕ) (free : FreeList) (m : List ℕ) : Type 0 where
+  pub size : Size
+  pub small : size .cap < 4294967296
+  pub below : PixelsBelow (size .levels) 256 p
   pub cnt : ℕ → ℕ
   pub sm : ℕ → ℕ
-  pub chain : ListOf z (withCounts (not adding) p cnt) (withGuides (not adding) p sm) free m
-  pub ready : LineReady adding z p cnt sm
+  pub chain : ListOf size (withCounts (not adding) p cnt) (withGuides (not adding) p sm) free m
+  pub ready : LineReady adding size p cnt sm
 
-pub record MergedLine (adding : Bool) (z : Size) (p : List ℕ) (free : FreeList) (m : List ℕ) (free′ : FreeList) (m′ : List ℕ) : Type 0 where
-  pub beyond : Beyond (z .cap) m m′
-  pub chain : (a : MergeableLine adding z p free m) → ListOf z (withCounts adding p (a .cnt)) (withGuides adding p (a .sm)) free′ m′
+pub record MergedLine (adding : Bool) (p : List ℕ) (free : FreeList) (m : List ℕ) (free′ : FreeList) (m′ : List ℕ) : Type 0 where
+  pub beyond : (a : MergeableLine adding p free m) → Beyond (a .size .cap) m m′
+  pub chain : (a : MergeableLine adding p free m) → ListOf (a .size) (withCounts adding p (a .cnt)) (withGuides adding p (a .sm)) free′ m′

@@ -3,7 +3,7 @@
 use mathlib.Core.Path.{_≡_}
 use mathlib.Core.Bool.{true}
 use mathlib.Core.List.{List}
-use Prim.Native.Nat.{ℕ}
+use Prim.Native.Nat.{ℕ, _<_}
 use lib.ListN.{length, drop}
 use Rattle.spec.specs.declared.Plan.{Plan}
 use Rattle.spec.specs.declared.Way.the-variants.{Chain as ChainWay}
@@ -11,9 +11,9 @@ use Rattle.spec.specs.Frame.{guide, frameOf}
 use Rattle.spec.specs.Window.{levelSum}
 use Rattle.spec.specs.Chain.{ChainStore}
 use Rattle.spec.specs.Calls.{roomOf}
+use Rattle.pixels.specs.Pixels.{PixelsBelow}
 use Rattle.chain.specs.declared.FreeList.{FreeList}
-use Rattle.chain.specs.declared.Size.{Size}
-use Rattle.chain.specs.Chain.{Beyond}
+use Rattle.chain.specs.Chain.{Beyond, Size}
 use Rattle.chain.specs.Keys.{NoneLeft}
 use Rattle.chain.specs.Lines.{sizeOf, ListOf, withCounts, withGuides, InsertLineReady}
 
@@ -40,14 +40,18 @@ pub record Stored (b : List ℕ) (z : Plan) (s t : ℕ) (m : List ℕ) (free : F
   pub rest : drop (storeSize b) m′ ≡ drop (storeSize b) m
 
 -- the pixels l can leave, and then the pixels e can enter; cnt and sm are the counts and guide sums of what stays
-pub record Slides (z : Size) (e l : List ℕ) (free : FreeList) (m : List ℕ) : Type 0 where
+pub record Slides (e l : List ℕ) (free : FreeList) (m : List ℕ) : Type 0 where
+  pub size : Size
+  pub small : size .cap < 4294967296
+  pub entering : PixelsBelow (size .levels) 256 e
+  pub leaving : PixelsBelow (size .levels) 256 l
   pub cnt : ℕ → ℕ
   pub sm : ℕ → ℕ
-  pub chain : ListOf z (withCounts true l cnt) (withGuides true l sm) free m
+  pub chain : ListOf size (withCounts true l cnt) (withGuides true l sm) free m
   pub none-left : NoneLeft cnt sm
-  pub ready : InsertLineReady z e cnt sm
+  pub ready : InsertLineReady size e cnt sm
 
 -- they have
-pub record Slid (z : Size) (e l : List ℕ) (free : FreeList) (m : List ℕ) (free′ : FreeList) (m′ : List ℕ) : Type 0 where
-  pub beyond : Beyond (z .cap) m m′
-  pub chain : (a : Slides z e l free m) → ListOf z (withCounts true e (a .cnt)) (withGuides true e (a .sm)) free′ m′
+pub record Slid (e l : List ℕ) (free : FreeList) (m : List ℕ) (free′ : FreeList) (m′ : List ℕ) : Type 0 where
+  pub beyond : (a : Slides e l free m) → Beyond (a .size .cap) m m′
+  pub chain : (a : Slides e l free m) → ListOf (a .size) (withCounts true e (a .cnt)) (withGuides true e (a .sm)) free′ m′

@@ -20,9 +20,3 @@ pub struct Merge {
     pub head: u32,
     pub count: u32,
 }
-
-// The number of nodes, and of levels.
-pub struct Size {
-    pub cap: u32,
-    pub levels: u32,
-}

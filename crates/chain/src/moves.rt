@@ -1,14 +1,12 @@
 // The list of a window: made at a start, whatever the store held, and carried to a neighbour by one line out and one line in. The line goes out
 // first, so that a node is free for each level that comes in.
 use crate::FreeList;
-use crate::Size;
 use crate::line;
 use crate::list;
 use spec::Plan;
 ghost use Prim.Native.Nat.{_<_, _≤_};
 ghost use lib.ListN.{length};
 ghost use Rattle.spec.specs.Checks.{Planned};
-ghost use Rattle.pixels.specs.Pixels.{PixelsBelow};
 ghost use Rattle.chain.specs.Moves.{storeSize, Stored, Slides, Slid};
 
 // The list of the window at (s, t), column by column.
@@ -18,16 +16,16 @@ pub fn start(file: &[u8], z: Plan, s: usize, t: usize, numbers: &mut [u32]) -> F
     requires { ⌜ storeSize (now file) ≤ length (now numbers) ⌝ }
     ensures { λ r. ⌜ Stored (now (file .entry)) z s t (now (numbers .entry)) r (now (numbers .exit)) ⌝ }
 {
-    let size = line::size_of(z);
+    let cap = line::node_count(z);
     let left = window::line::low(s, z.radius);
     let columns = window::line::span_of(s, z.radius, z.width);
-    let mut free = list::clear(numbers, size);
+    let mut free = list::clear(numbers, cap);
     let mut k: usize = 0;
     while k < columns {
         let mut places = [0u16; 62];
         let d = window::line::column_line(z, left + k, t);
         let p = pixels::read(file, z, d, &mut places);
-        let next = line::merge_line(&places[0..p], size, free, true, numbers);
+        let next = line::merge_line(&places[0..p], free, true, numbers);
         free = next;
         k += 1;
     }
@@ -35,17 +33,10 @@ pub fn start(file: &[u8], z: Plan, s: usize, t: usize, numbers: &mut [u32]) -> F
 }
 
 // From a window to its neighbour: the leaving pixels out, then the entering ones in.
-pub fn slide(
-    entering: &[u16],
-    leaving: &[u16],
-    size: Size,
-    free: FreeList,
-    numbers: &mut [u32],
-) -> FreeList
-    requires { ⌜ (PixelsBelow (size .levels) 256 (now entering)) × (PixelsBelow (size .levels) 256 (now leaving)) ⌝ }
-    requires { ⌜ Slides size (now entering) (now leaving) free (now numbers) ⌝ }
-    ensures { λ r. ⌜ Slid size (now (entering .entry)) (now (leaving .entry)) free (now (numbers .entry)) r (now (numbers .exit)) ⌝ }
+pub fn slide(entering: &[u16], leaving: &[u16], free: FreeList, numbers: &mut [u32]) -> FreeList
+    requires { ⌜ Slides (now entering) (now leaving) free (now numbers) ⌝ }
+    ensures { λ r. ⌜ Slid (now (entering .entry)) (now (leaving .entry)) free (now (numbers .entry)) r (now (numbers .exit)) ⌝ }
 {
-    let kept = line::merge_line(leaving, size, free, false, numbers);
-    line::merge_line(entering, size, kept, true, numbers)
+    let kept = line::merge_line(leaving, free, false, numbers);
+    line::merge_line(entering, kept, true, numbers)
 }

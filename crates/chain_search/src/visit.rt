@@ -119,8 +119,7 @@ pub fn slide(
     let known = from.sums;
     let nodes = from.free;
     let cut = from.cut;
-    let size = chain::line::size_of(z);
     let sums = pixels::sums::moved(known, &entering[0..n], &leaving[0..k]);
-    let free = moves::slide(&entering[0..n], &leaving[0..k], size, nodes, numbers);
+    let free = moves::slide(&entering[0..n], &leaving[0..k], nodes, numbers);
     arrive(file, z, s2, t2, sums, free, cut, from.shifts, numbers)
 }

@@ -10,10 +10,10 @@ abbrev start : tie.After-merge-line → tie.Start
 start o = o .before .before .before .before .before
 
 merge-line-requires : tie.Need-merge-line-requires
-merge-line-requires c κs = let at = c .before .before .before .before in (at .pre .0 .1, slide-removable (at .pre .1))
+merge-line-requires c κs = let at = c .before .before .before .before in slide-removable (at .pre)
 
 merge-line-requires-2 : tie.Need-merge-line-requires-2
-merge-line-requires-2 c κs = let o = c .before .before .before in (start o .pre .0 .0, slide-insertable (o .merge-line .ensures) (start o .pre .1))
+merge-line-requires-2 c κs = let o = c .before .before .before in slide-insertable (o .merge-line .ensures) (start o .pre)
 
 same-length : tie.Need-same-length
 same-length c = search needs

@@ -7,22 +7,22 @@ use borrow.Author.Needs.{needs}
 use lib.ListN.{length, take, drop}
 use Rattle.spec.specs.Window.{span}
 use Rattle.window.specs.Line.{columnLine}
-use Rattle.window.proofs.PixelLaws.{plan-limits, levels-high}
+use Rattle.window.proofs.PixelLaws.{plan-limits}
 use Rattle.window.proofs.LineLaws.{span-in, span-high, column-in}
 use Rattle.pixels.specs.Pixels.{LinePixels}
 use Rattle.pixels.proofs.Laws.{line-part}
 use Rattle.chain.specs.Chain.{Beyond}
-use Rattle.chain.proofs.LineLaws.{cap-is, cap-few}
-use Rattle.chain.proofs.MoveLaws.{ColumnsListed, store-size, line-below, columns-empty, columns-insertable, columns-inserted, columns-listed, listed-stored}
+use Rattle.chain.specs.Lines.{nodesOf}
+use Rattle.chain.proofs.MoveLaws.{ColumnsListed, store-size, columns-empty, columns-insertable, columns-beyond, columns-inserted, columns-listed, listed-stored}
 use Rattle.chain.proofs.moves.start.Statement.{statement}
 use Rattle.chain.proofs.moves.start.Tie as tie
 
 abbrev Inv-loop : tie.InvT-loop
-Inv-loop file z s t numbers₀ size left columns free₀ k₀ numbers free k =
-    (k ≤ columns) × (length numbers ≡ length numbers₀) × Beyond (size .cap) numbers₀ numbers × ColumnsListed file z size s t k free numbers
+Inv-loop file z s t numbers₀ cap left columns free₀ k₀ numbers free k =
+    (k ≤ columns) × (length numbers ≡ length numbers₀) × Beyond (nodesOf z) numbers₀ numbers × ColumnsListed file z s t k free numbers
 
 abbrev μ-loop : tie.MeasureT-loop
-μ-loop file z s t numbers₀ size left columns free₀ k₀ numbers free k = columns - k
+μ-loop file z s t numbers₀ cap left columns free₀ k₀ numbers free k = columns - k
 
 -- the start, and the calls before the loop, from its head
 abbrev cleared : tie.At-loop Inv-loop μ-loop → tie.After-clear Inv-loop μ-loop
@@ -31,7 +31,7 @@ cleared h = h .before .before .before
 abbrev spanned : tie.At-loop Inv-loop μ-loop → tie.After-span-of Inv-loop μ-loop
 spanned h = cleared h .before .before
 
-abbrev sized : tie.At-loop Inv-loop μ-loop → tie.After-size-of Inv-loop μ-loop
+abbrev sized : tie.At-loop Inv-loop μ-loop → tie.After-node-count Inv-loop μ-loop
 sized h = spanned h .before .before
 
 abbrev start : tie.At-loop Inv-loop μ-loop → tie.Start Inv-loop μ-loop
@@ -44,8 +44,8 @@ within c = subst (λ (n : ℕ). c .before .loop .k < n) (spanned (c .before) .sp
 wide : (c : tie.In-loop Inv-loop μ-loop) → spanned (c .before) .before .low .result + c .before .loop .k < start (c .before) .args .z .width
 wide c = subst (λ (n : ℕ). n + c .before .loop .k < start (c .before) .args .z .width) (sym (spanned (c .before) .before .low .ensures)) (span-in _ _ _ _ (within c))
 
-size-of-requires : tie.Need-size-of-requires Inv-loop μ-loop
-size-of-requires c κs = let at = c .before .before in (plan-limits (at .pre .0) .radius, levels-high (at .pre .0))
+node-count-requires : tie.Need-node-count-requires Inv-loop μ-loop
+node-count-requires c κs = let at = c .before .before in plan-limits (at .pre .0) .radius
 
 low-requires : tie.Need-low-requires Inv-loop μ-loop
 low-requires c κs = tt
@@ -57,15 +57,15 @@ clear-requires : tie.Need-clear-requires Inv-loop μ-loop
 clear-requires c κs =
     let z = c .before .before .before in
     let at = z .before .before .before in
-    let e = cap-is (at .pre .0) _ (z .size-of .ensures) in
-    (omega (arith, e, store-size (at .pre .0), at .pre .1 .1), omega (arith, cap-few (at .pre .0) _ (z .size-of .ensures)))
+    let e = z .node-count .ensures in
+    (omega (arith, e .0, store-size (at .pre .0), at .pre .1 .1), omega (arith, e .1))
 
 loop-holds : tie.Need-loop-holds Inv-loop μ-loop
 loop-holds c =
     let k = c .before .before in
     let z = k .before .before .before .before in
     let at = z .before .before .before in
-    (omega arith, refl, (λ j h. refl), columns-empty (at .pre .0) _ (z .size-of .ensures) _ _ (at .pre .1 .0 .0) (at .pre .1 .0 .1) _ (k .clear .ensures))
+    (omega arith, refl, (λ j h. refl), columns-empty (at .pre .0) _ _ (at .pre .1 .0 .0) (at .pre .1 .0 .1) _ (rw (z .node-count .ensures .0) at (k .clear .ensures)))
 
 add-column-line : tie.Need-add-column-line Inv-loop μ-loop
 add-column-line c = omega (arith, wide c, plan-limits (start (c .before) .pre .0) .width)
@@ -113,8 +113,7 @@ merge-line-requires c κs =
     let r = c .before .before .before .before in
     let h = turn r .before in
     let at = start h in
-    let is = sized h .size-of .ensures in
-    (line-below (at .pre .0) is (listed r .below), columns-insertable (at .pre .0) _ is _ _ (at .pre .1 .0 .0) (at .pre .1 .0 .1) (within (turn r)) (line-is r) (listed r) (h .loop .inv .3))
+    columns-insertable (at .pre .0) _ _ (at .pre .1 .0 .0) (at .pre .1 .0 .1) (within (turn r)) (line-is r) (listed r) (h .loop .inv .3)
 
 -- the reading, from a turn's end
 abbrev read : tie.After-slice-known3 Inv-loop μ-loop → tie.After-read Inv-loop μ-loop
@@ -137,9 +136,9 @@ loop-again c =
     let at = start h in
     let v = h .loop .inv in (
       omega (arith, turn r .loop-test .taken),
-      n .merge-line .kept .1 .1 .1 .1 .0 ∙ v .1,
-      (λ j b. n .merge-line .ensures .beyond j b ∙ v .2 j b),
-      columns-inserted (at .pre .0) _ (sized h .size-of .ensures) _ _ (at .pre .1 .0 .0) (at .pre .1 .0 .1) (within (turn r)) (line-is r) (listed r) (v .3) (n .merge-line .ensures),
+      n .merge-line .kept .1 .1 .1 .0 ∙ v .1,
+      (λ j b. columns-beyond (at .pre .0) _ _ (at .pre .1 .0 .0) (at .pre .1 .0 .1) (within (turn r)) (line-is r) (listed r) (v .3) (n .merge-line .ensures) j b ∙ v .2 j b),
+      columns-inserted (at .pre .0) _ _ (at .pre .1 .0 .0) (at .pre .1 .0 .1) (within (turn r)) (line-is r) (listed r) (v .3) (n .merge-line .ensures),
     )
 
 same-length : tie.Need-same-length Inv-loop μ-loop
@@ -152,8 +151,8 @@ returns c =
     let v = h .loop .inv in
     let e : h .loop .k ≡ span (at .args .z .radius) (at .args .s) (at .args .z .width) = omega (arith, v .0, c .loop-test .left, spanned h .span-of .ensures) in
     listed-stored (at .pre .0) _ _ _ (v .1 ∙ cleared h .clear .kept .0)
-    (subst (λ (n : ℕ). Beyond n (at .args .numbers .now) (h .loop .numbers)) (cap-is (at .pre .0) _ (sized h .size-of .ensures)) (λ j b. v .2 j b ∙ cleared h .clear .ensures .beyond j b))
-    (columns-listed (at .pre .0) _ (sized h .size-of .ensures) _ _ (at .pre .1 .0 .0) (at .pre .1 .0 .1) (rw e at (v .3)))
+    (λ j b. v .2 j b ∙ cleared h .clear .ensures .beyond j (rw (sized h .node-count .ensures .0) b))
+    (columns-listed (at .pre .0) _ _ (at .pre .1 .0 .0) (at .pre .1 .0 .1) (rw e at (v .3)))
 
 pub start-spec : {M : Type 1} → statement M
 start-spec =
@@ -161,7 +160,7 @@ start-spec =
     (tie.spec
     Inv-loop
     μ-loop
-    size-of-requires
+    node-count-requires
     low-requires
     span-of-requires
     clear-requires

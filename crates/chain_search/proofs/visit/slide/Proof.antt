@@ -9,17 +9,17 @@ use Rattle.spec.specs.Frame.{frameOf}
 use Rattle.window.specs.declared.sums.Sums.{Sums}
 use Rattle.window.specs.Sums.{SumsAt}
 use Rattle.window.proofs.FormLaws.{both-in}
-use Rattle.window.proofs.PixelLaws.{plan-limits, levels-high}
+use Rattle.window.proofs.PixelLaws.{plan-limits}
 use Rattle.pixels.specs.Pixels.{LinePixels}
 use Rattle.pixels.proofs.Laws.{line-part, step-in}
 use Rattle.pixels.proofs.SumLaws.{below-most, movable, sums-moved}
 use Rattle.chain.specs.declared.FreeList.{FreeList}
 use Rattle.chain.specs.Moves.{Stored}
-use Rattle.chain.proofs.MoveLaws.{slide-asks, slid-stored}
+use Rattle.chain.proofs.MoveLaws.{slides, slid-stored}
 use Rattle.chain_search.proofs.visit.slide.Statement.{statement}
 use Rattle.chain_search.proofs.visit.slide.Tie as tie
 
--- the places passed: the step, the two lists, the list's size, the sums moved; and the start
+-- the places passed: the step, the two lists, the sums moved; and the start
 abbrev begin : tie.After-step-to → tie.Start
 begin d = d .before .before .before
 
@@ -29,11 +29,8 @@ step r = r .before .before
 abbrev first : tie.After-read2 → tie.After-read
 first r = r .before .before .before
 
-abbrev both : tie.After-size-of → tie.After-read2
-both q = q .before .before .before .before .before
-
-abbrev sized : tie.After-moved → tie.After-size-of
-sized a = a .before .before .before .before .before
+abbrev both : tie.After-moved → tie.After-read2
+both a = a .before .before .before .before .before .before .before .before .before
 
 abbrev carried : tie.After-slide → tie.After-moved
 carried n = n .before .before .before .before .before .before
@@ -48,21 +45,20 @@ leaves : (r : tie.After-read2) → let d = step (first r) in LinePixels (begin d
 leaves r = line-part (r .read2 .result) (r .read2 .last .1 .1 .1 .0) (r .read2 .ensures .1)
 
 -- the sums and the list are the neighbour's
-summed : (a : tie.After-moved) → let at = begin (step (first (both (sized a)))) in SumsAt (frameOf (at .args .file .now)) (at .args .s2) (at .args .t2) (a .moved .result)
+summed : (a : tie.After-moved) → let at = begin (step (first (both a))) in SumsAt (frameOf (at .args .file .now)) (at .args .s2) (at .args .t2) (a .moved .result)
 summed a =
-    let r = both (sized a) in
+    let r = both a in
     let d = step (first r) in
     let at = begin d in
     sums-moved (at .pre .0) (at .pre .1 .1 .0) (d .step-to .ensures) (enters r) (leaves r) (at .pre .1 .1 .1 .sums) (a .moved .ensures)
 
-stored : (n : tie.After-slide) → let at = begin (step (first (both (sized (carried n))))) in
-    Stored (at .args .file .now) (at .args .z) (at .args .s2) (at .args .t2) (at .args .numbers .now) (n .slide .result) (n .slide .last .1 .1 .1 .1 .0)
+stored : (n : tie.After-slide) → let at = begin (step (first (both (carried n)))) in
+    Stored (at .args .file .now) (at .args .z) (at .args .s2) (at .args .t2) (at .args .numbers .now) (n .slide .result) (n .slide .last .1 .1 .1 .0)
 stored n =
-    let q = sized (carried n) in
-    let r = both q in
+    let r = both (carried n) in
     let d = step (first r) in
     let at = begin d in
-    slid-stored (at .pre .0) _ (q .size-of .ensures) (at .pre .1 .1 .0) (d .step-to .ensures) (enters r) (leaves r) (at .pre .1 .1 .1 .listed) (n .slide .kept .1 .1 .1 .1 .0) (n .slide .ensures)
+    slid-stored (at .pre .0) (at .pre .1 .1 .0) (d .step-to .ensures) (enters r) (leaves r) (at .pre .1 .1 .1 .listed) (n .slide .kept .1 .1 .1 .0) (n .slide .ensures)
 
 step-to-requires : tie.Need-step-to-requires
 step-to-requires c κs = let at = c .before .before in (plan-limits (at .pre .0), at .pre .1 .1 .0)
@@ -81,9 +77,6 @@ read-requires-2 c κs =
     let d = step (c .before .before) in
     let at = begin d in
     (at .pre .0, step-in (at .pre .0) (at .pre .1 .1 .0) (d .step-to .ensures) .leaving, omega arith)
-
-size-of-requires : tie.Need-size-of-requires
-size-of-requires c κs = let at = begin (step (first (c .before .before .before .before))) in (plan-limits (at .pre .0) .radius, levels-high (at .pre .0))
 
 sub-moved : tie.Need-sub-moved
 sub-moved c = search needs
@@ -105,7 +98,7 @@ part-moved-end-2 c = search needs
 
 moved-requires : tie.Need-moved-requires
 moved-requires c κs =
-    let r = both (c .before .before .before .before) in
+    let r = c .before .before .before .before .before .before .before .before in
     let d = step (first r) in
     let at = begin d in
     let pl = at .pre .0 in
@@ -118,7 +111,7 @@ part-slide-start : tie.Need-part-slide-start
 part-slide-start c = search needs
 
 part-slide-end : tie.Need-part-slide-end
-part-slide-end c = let r = first (both (sized (c .before))) in omega (arith, r .read .ensures .0, r .read .kept .1 .1 .1 .0)
+part-slide-end c = let r = first (both (c .before)) in omega (arith, r .read .ensures .0, r .read .kept .1 .1 .1 .0)
 
 sub-slide-2 : tie.Need-sub-slide-2
 sub-slide-2 c = search needs
@@ -127,35 +120,34 @@ part-slide-start-2 : tie.Need-part-slide-start-2
 part-slide-start-2 c = search needs
 
 part-slide-end-2 : tie.Need-part-slide-end-2
-part-slide-end-2 c = let r = both (sized (c .before .before .before)) in omega (arith, r .read2 .ensures .0, r .read2 .kept .1 .1 .1 .0)
+part-slide-end-2 c = let r = both (c .before .before .before) in omega (arith, r .read2 .ensures .0, r .read2 .kept .1 .1 .1 .0)
 
 slide-requires : tie.Need-slide-requires
 slide-requires c κs =
-    let q = sized (c .before .before .before .before .before) in
-    let r = both q in
+    let r = both (c .before .before .before .before .before) in
     let d = step (first r) in
     let at = begin d in
-    slide-asks (at .pre .0) _ (q .size-of .ensures) (at .pre .1 .1 .0) (d .step-to .ensures) (enters r) (leaves r) (at .pre .1 .1 .1 .listed)
+    slides (at .pre .0) (at .pre .1 .1 .0) (d .step-to .ensures) (enters r) (leaves r) (at .pre .1 .1 .1 .listed)
 
 arrive-requires : tie.Need-arrive-requires
 arrive-requires c κs =
     let n = c .before .before .before in
-    let at = begin (step (first (both (sized (carried n))))) in
+    let at = begin (step (first (both (carried n)))) in
     let k = both-in (at .pre .1 .1 .0) in
     (at .pre .0, ((at .pre .1 .0 .0, k .2, k .3, at .pre .1 .0 .1), (summed (carried n), stored n .listed)))
 
 same-length : tie.Need-same-length
-same-length c = c .before .before .before .before .slide .kept .1 .1 .1 .1 .0
+same-length c = c .before .before .before .before .slide .kept .1 .1 .1 .0
 
 returns : tie.Need-returns
 returns c =
     let n = c .before .before .before .before in
-    let at = begin (step (first (both (sized (carried n))))) in
+    let at = begin (step (first (both (carried n)))) in
     let e = c .arrive .ensures in
     record {
       state = e .state;
       sums = subst (λ (q : Sums). SumsAt (frameOf (at .args .file .now)) (at .args .s2) (at .args .t2) q) (sym (e .sums)) (summed (carried n));
-      stored = subst (λ (q : FreeList). Stored (at .args .file .now) (at .args .z) (at .args .s2) (at .args .t2) (at .args .numbers .now) q (n .slide .last .1 .1 .1 .1 .0)) (sym (e .free)) (stored n);
+      stored = subst (λ (q : FreeList). Stored (at .args .file .now) (at .args .z) (at .args .s2) (at .args .t2) (at .args .numbers .now) q (n .slide .last .1 .1 .1 .0)) (sym (e .free)) (stored n);
     }
 
 pub slide-spec : {M : Type 1} → statement M
@@ -167,7 +159,6 @@ slide-spec =
     read-requires
     slice-aggregate-read-2
     read-requires-2
-    size-of-requires
     sub-moved
     part-moved-start
     part-moved-end
