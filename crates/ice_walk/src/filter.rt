@@ -15,7 +15,7 @@ ghost use Rattle.spec.specs.Frame.{frameOf, pixels, settingsIn};
 ghost use Rattle.spec.specs.Checks.{Planned};
 ghost use Rattle.spec.specs.Filter.{filtered, filterEnd};
 ghost use Rattle.spec.specs.Calls.{zeros};
-ghost use Rattle.joint_search.specs.Arrive.{WeightRows};
+ghost use Rattle.joint_search.specs.Rows.{WeightRows};
 ghost use Rattle.ways.specs.Visit.{stores, Fit, Cleared, Serves};
 ghost use Rattle.ice_walk.specs.Finished.{Finished};
 

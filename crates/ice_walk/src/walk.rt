@@ -17,7 +17,7 @@ ghost use Rattle.spec.specs.Frame.{frameOf, settingsIn};
 ghost use Rattle.spec.specs.Checks.{Planned};
 ghost use Rattle.spec.specs.Walk as definitions;
 ghost use Rattle.spec.specs.Calls.{zeros};
-ghost use Rattle.joint_search.specs.Arrive.{WeightRows};
+ghost use Rattle.joint_search.specs.Rows.{WeightRows};
 ghost use Rattle.ways.specs.Visit.{stateOf, stores, Fit, Cleared, Serves, Within, AtWindow, Visited};
 ghost use Rattle.ice_walk.specs.Finished.{Finished};
 

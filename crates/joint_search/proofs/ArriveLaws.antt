@@ -1,7 +1,6 @@
 -- Laws of the arrival: its three cases, and the sums that a walk carries.
 -- Assumes nothing.
 use mathlib.Core.Path.{_≡_, refl, sym, ap, ap₂, _∙_}
-use mathlib.Core.Logic.{_⊎_, inl, inr}
 use mathlib.Core.Bool.{Bool, true, false}
 use mathlib.Core.List.{List}
 use Prim.Native.Nat.{ℕ, _+_, _≤_}
@@ -21,18 +20,8 @@ use Rattle.joint_search.specs.declared.find.Found.{Found}
 use Rattle.joint_search.specs.declared.arrive.Arrival.{Arrival}
 use Rattle.joint_search.specs.Arrive.{Answered, Arrives}
 
--- a plan's kind is 1 or 2; kind 1 is monotone
+-- the frame's kind is the plan's; kind 1 is monotone
 module _ {b : List ℕ} {z : Plan} (pl : Planned b z) where
-  pub kind-table : (z .kind ≡ 2 → ⊥) → z .kind ≡ 1
-  kind-table n = go (facts pl .limits .sound .kinds)
-    where
-      p : Frame
-      p = frameOf b
-
-      go : ((p .set .kind ≡ 1) × (p .set .smoothing ≡ 0)) ⊎ ((p .set .kind ≡ 2) × (1 ≤ p .set .smoothing) × (p .set .smoothing ≤ 65025)) → z .kind ≡ 1
-      go (inl h) = facts pl .kind ∙ h .0
-      go (inr h) = absurd (n (facts pl .kind ∙ h .0))
-
   pub kind-is : {k : ℕ} → z .kind ≡ k → frameOf b .set .kind ≡ k
   kind-is e = sym (facts pl .kind) ∙ e
 

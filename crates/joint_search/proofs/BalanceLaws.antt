@@ -42,7 +42,8 @@ use Rattle.joint.proofs.BitLaws.{lt-or-le, eq-or-ne}
 use Rattle.joint.proofs.SideLaws.{side-low, side-high}
 use Rattle.joint_search.specs.declared.formula.Formula.{Formula}
 use Rattle.joint_search.specs.Formula.{weightBy}
-use Rattle.joint_search.specs.Balance.{signedWeight, signedBy, PixelsWeighed, Weighed, TableRow}
+use Rattle.joint_search.specs.Rows.{TableRow}
+use Rattle.joint_search.specs.Balance.{signedWeight, signedBy, PixelsWeighed, Weighed}
 
 side-abs : (c i : ℕ) → natAbs (side c i) ≤ 1
 side-abs c i = ⊎-elim (λ h. rw (side-high c i h) (omega arith)) (λ h. rw (side-low c i h) (omega arith)) (lt-or-le c i)

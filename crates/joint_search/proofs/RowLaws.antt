@@ -22,8 +22,7 @@ use Rattle.window.specs.declared.coefficients.Coefficients.{Coefficients}
 use Rattle.window.specs.Coefficients.{WeighsAt, CoefficientsSmall}
 use Rattle.joint.proofs.BitLaws.{eq-or-ne}
 use Rattle.joint_search.specs.Formula.{Weighs}
-use Rattle.joint_search.specs.Arrive.{Ramp, Mirror, exchanged, Lower}
-use Rattle.joint_search.specs.Balance.{TableRow}
+use Rattle.joint_search.specs.Rows.{Lower, Mirror, Ramp, TableRow, exchanged}
 use Rattle.joint_search.proofs.TableLaws.{guides-within, weight-place}
 
 -- the mirrored constants, moved so that the centre's is at its guide

@@ -1,12 +1,10 @@
--- The rows of weights, what a walk carries, and what a window answers and adds to a walk.
+-- What a walk carries, and what a window answers and adds to a walk.
 -- Assumes nothing.
 use mathlib.Core.Path.{_≡_}
 use mathlib.Core.List.{List}
-use Prim.Native.Nat.{ℕ, _+_, _*_, _/_, _%_, _≤_, _<_}
-use lib.ListN.{length, getD}
+use Prim.Native.Nat.{ℕ, _+_}
 use lib.IntN.{ℤ}
-use Rattle.spec.specs.declared.Plan.{Plan}
-use Rattle.spec.specs.Frame.{Frame, plane, builtIn}
+use Rattle.spec.specs.Frame.{Frame}
 use Rattle.spec.specs.Median.{median}
 use Rattle.spec.specs.Joint.{balanceBox}
 use Rattle.spec.specs.Walk.{arrive}
@@ -25,28 +23,6 @@ pub record Answered (p : Frame) (s t k n : ℕ) (r : Found) (bx : List ℤ) : Ty
   pub level : r .level .0 ≡ median p s t
   pub shifts : r .shifts ≡ n + k
   pub box : bx ≡ balanceBox p s t (r .level .0)
-
--- the numbers 0 1 2 ..
-pub record Ramp (m : ℕ) (row : List ℕ) : Type 0 where
-  pub long : m ≤ length row
-  pub is : (f : ℕ) → f < m → getD row f 0 ≡ f
-
--- the built-in weights from 255 guides below the centre's to 255 above
-pub record Mirror (row : List ℕ) : Type 0 where
-  pub long : 511 ≤ length row
-  pub is : (k : ℕ) → k < 511 → getD row k 0 ≡ builtIn 255 k
-
--- a 16-bit number with its bytes exchanged; and m such numbers, which stand in the file from a byte on
-unfoldable pub exchanged : ℕ → ℕ
-exchanged v = v % 256 * 256 + v / 256
-
-pub record Lower (b : List ℕ) (first m : ℕ) (row : List ℕ) : Type 0 where
-  pub long : length row ≡ 256
-  pub is : (g : ℕ) → g < m → exchanged (getD row g 0) ≡ plane b first g
-
--- what a call makes once: the built-in weights, where the file has no table
-pub record WeightRows (z : Plan) (row : List ℕ) : Type 0 where
-  pub mirror : z .weights ≡ 0 → Mirror row
 
 -- ---- a window's part in a walk, with the cut point c and n shifts before it
 

@@ -3,10 +3,10 @@
 use mathlib.Core.Path.{_≡_}
 use mathlib.Core.List.{List}
 use Prim.Native.Nat.{ℕ, _+_, _≤_, _<_}
-use lib.ListN.{length, getD}
+use lib.ListN.{length}
 use lib.IntN.{ℤ, natAbs, _*ℤ_}
 use Rattle.spec.specs.declared.Plan.{Plan}
-use Rattle.spec.specs.Frame.{Frame, table, frameOf}
+use Rattle.spec.specs.Frame.{Frame, frameOf}
 use Rattle.spec.specs.Checks.{Planned}
 use Rattle.spec.specs.Weight.{weight}
 use Rattle.pixels.specs.Pixels.{countOf, guideIn}
@@ -34,8 +34,3 @@ pub record Weighed (b : List ℕ) (z : Plan) (s t : ℕ) (ns : List ℕ) (w : Fo
   pub column : s < z .width
   pub row : t < z .height
   pub weighs : Weighs (frameOf b) s t ns w
-
--- the table's row of a guide, in 256 numbers
-pub record TableRow (p : Frame) (m f : ℕ) (row : List ℕ) : Type 0 where
-  pub long : length row ≡ 256
-  pub is : (g : ℕ) → g < m → getD row g 0 ≡ table p f g

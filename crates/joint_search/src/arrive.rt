@@ -16,7 +16,8 @@ ghost use Rattle.spec.specs.Weight.{monotone};
 ghost use Rattle.spec.specs.Median.{balance, weightless};
 ghost use Rattle.spec.specs.Joint.{balanceBox};
 ghost use Rattle.joint_search.specs.Search.{Counted, Ready};
-ghost use Rattle.joint_search.specs.Arrive.{WeightRows, Arrives};
+ghost use Rattle.joint_search.specs.Rows.{WeightRows};
+ghost use Rattle.joint_search.specs.Arrive.{Arrives};
 
 pub struct Arrival {
     pub answer: Level,

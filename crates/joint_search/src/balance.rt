@@ -21,7 +21,8 @@ ghost use Rattle.spec.specs.Checks.{Planned};
 ghost use Rattle.spec.specs.Median.{balance};
 ghost use Rattle.pixels.specs.Pixels.{pixelFold};
 ghost use Rattle.joint.specs.Side.{side};
-ghost use Rattle.joint_search.specs.Balance.{signedBy, PixelsWeighed, Weighed, TableRow};
+ghost use Rattle.joint_search.specs.Rows.{TableRow};
+ghost use Rattle.joint_search.specs.Balance.{signedBy, PixelsWeighed, Weighed};
 
 // A sum with a pixel's weight more, or less where the pixel's level is above the given one.
 pub fn add_signed(sum: i64, weight: i64, level: Level, top: Level) -> i64

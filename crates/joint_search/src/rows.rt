@@ -11,8 +11,7 @@ ghost use lib.IntN.{pos};
 ghost use Rattle.spec.specs.Frame.{frameOf};
 ghost use Rattle.spec.specs.Checks.{Planned};
 ghost use Rattle.joint_search.specs.Formula.{Weighs};
-ghost use Rattle.joint_search.specs.Arrive.{Ramp, Mirror, exchanged, Lower, WeightRows};
-ghost use Rattle.joint_search.specs.Balance.{TableRow};
+ghost use Rattle.joint_search.specs.Rows.{Lower, Mirror, Ramp, TableRow, WeightRows, exchanged};
 
 // The numbers 0 1 2 .., m of them.
 pub fn ramp(row: &mut [u16], m: usize)

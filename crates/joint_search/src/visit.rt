@@ -18,7 +18,8 @@ ghost use Rattle.window.specs.Line.{Adjacent};
 ghost use Rattle.joint.specs.Window.{Fresh, Held};
 ghost use Rattle.histogram.specs.Histogram.{Blank};
 ghost use Rattle.joint_search.specs.Search.{Counted};
-ghost use Rattle.joint_search.specs.Arrive.{WeightRows, Carried, Says, Visited};
+ghost use Rattle.joint_search.specs.Rows.{WeightRows};
+ghost use Rattle.joint_search.specs.Arrive.{Carried, Says, Visited};
 
 // The window's sums and its tally of the levels up to the cut point (in kind 2), its cut point, the shifts so far, and its answer.
 pub struct Visit {

@@ -111,3 +111,14 @@ table-own {b} {z} k n f g =
 
 pub table-built : {b : List ℕ} {z : Plan} → Planned b z → z .weights ≡ 0 → (f g : ℕ) → table (frameOf b) f g ≡ builtIn f g
 table-built {b} {z} k n f g = subst (λ (q : Plan). q .weights ≡ 0 → table (frameOf b) f g ≡ builtIn f g) (sym (k .plan)) (own-built b f g (k .accepts)) n
+
+-- ---- a plan's kind is 1 or 2
+pub kind-table : {b : List ℕ} {z : Plan} → Planned b z → (z .kind ≡ 2 → ⊥) → z .kind ≡ 1
+kind-table {b} {z} pl n = go (facts pl .limits .sound .kinds)
+  where
+    p : Frame
+    p = frameOf b
+
+    go : ((p .set .kind ≡ 1) × (p .set .smoothing ≡ 0)) ⊎ ((p .set .kind ≡ 2) × (1 ≤ p .set .smoothing) × (p .set .smoothing ≤ 65025)) → z .kind ≡ 1
+    go (inl h) = facts pl .kind ∙ h .0
+    go (inr h) = absurd (n (facts pl .kind ∙ h .0))

@@ -10,7 +10,7 @@ ghost use Rattle.spec.specs.Checks.{Planned};
 ghost use Rattle.spec.specs.Walk.{arrive};
 ghost use Rattle.spec.specs.Calls.{zeros};
 ghost use Rattle.window.specs.Line.{Adjacent};
-ghost use Rattle.joint_search.specs.Arrive.{WeightRows};
+ghost use Rattle.joint_search.specs.Rows.{WeightRows};
 ghost use Rattle.ways.specs.Visit.{stores, Fit, Cleared, Serves, Within, AtWindow, Visited};
 
 // An empty box.

@@ -18,7 +18,7 @@ ghost use Rattle.spec.specs.Calls.{roomOf, zeros};
 ghost use Rattle.window.specs.Line.{Adjacent};
 ghost use Rattle.ways.specs.Visit.{stores, Within, AtWindow, Visited};
 ghost use Rattle.histogram.specs.Histogram.{Blank};
-ghost use Rattle.joint_search.specs.Arrive.{WeightRows};
+ghost use Rattle.joint_search.specs.Rows.{WeightRows};
 ghost use Rattle.ways.specs.Each.{ofJoint, toJoint, ofColumns, toColumns, ofChain, toChain};
 
 fn of_joint(v: joint_search::visit::Visit, column: usize, row: usize) -> Visit

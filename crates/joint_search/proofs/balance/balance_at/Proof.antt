@@ -1,6 +1,6 @@
 -- `balance_at` meets its contract: the kind is 1 or 2. Assumes nothing.
 use borrow.Author.Needs.{needs}
-use Rattle.joint_search.proofs.ArriveLaws.{kind-table}
+use Rattle.spec.proofs.Plans.{kind-table}
 use Rattle.joint_search.proofs.balance.balance_at.Statement.{statement}
 use Rattle.joint_search.proofs.balance.balance_at.Tie as tie
 

@@ -1,7 +1,7 @@
 -- `exchanged` meets its contract. Assumes nothing.
 use mathlib.Core.Path.{refl}
 use borrow.Author.Needs.{needs}
-use Rattle.joint_search.specs.Arrive.{exchanged}
+use Rattle.joint_search.specs.Rows.{exchanged}
 use Rattle.joint_search.proofs.rows.exchanged.Statement.{statement}
 use Rattle.joint_search.proofs.rows.exchanged.Tie as tie
 

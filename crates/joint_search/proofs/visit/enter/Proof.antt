@@ -1,6 +1,6 @@
 -- `enter` meets its contract: the stores are built, then the window answers by its kind. Assumes nothing.
 use borrow.Author.Needs.{needs}
-use Rattle.joint_search.proofs.ArriveLaws.{kind-table}
+use Rattle.spec.proofs.Plans.{kind-table}
 use Rattle.joint_search.proofs.VisitLaws.{counted-of, carried-none}
 use Rattle.joint_search.proofs.visit.enter.Statement.{statement}
 use Rattle.joint_search.proofs.visit.enter.Tie as tie

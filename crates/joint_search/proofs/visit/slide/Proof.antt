@@ -13,7 +13,8 @@ use Rattle.joint.specs.Window.{JointAt}
 use Rattle.joint.proofs.PixelLaws as joint
 use Rattle.histogram.proofs.PixelLaws as histogram
 use Rattle.levels.proofs.ListTallyLaws.{carries-step}
-use Rattle.joint_search.proofs.ArriveLaws.{kind-is, kind-table}
+use Rattle.spec.proofs.Plans.{kind-table}
+use Rattle.joint_search.proofs.ArriveLaws.{kind-is}
 use Rattle.joint_search.proofs.VisitLaws.{counted-of, carried-none}
 use Rattle.joint_search.proofs.visit.slide.Statement.{statement}
 use Rattle.joint_search.proofs.visit.slide.Tie as tie

@@ -1,0 +1,35 @@
+-- The rows of weights: the built-in ones as a mirror, a file's own row.
+-- Assumes nothing.
+use mathlib.Core.Path.{_≡_}
+use mathlib.Core.List.{List}
+use Prim.Native.Nat.{ℕ, _+_, _*_, _/_, _%_, _≤_, _<_}
+use lib.ListN.{length, getD}
+use Rattle.spec.specs.declared.Plan.{Plan}
+use Rattle.spec.specs.Frame.{Frame, table, plane, builtIn}
+
+-- the numbers 0 1 2 ..
+pub record Ramp (m : ℕ) (row : List ℕ) : Type 0 where
+  pub long : m ≤ length row
+  pub is : (f : ℕ) → f < m → getD row f 0 ≡ f
+
+-- the built-in weights from 255 guides below the centre's to 255 above
+pub record Mirror (row : List ℕ) : Type 0 where
+  pub long : 511 ≤ length row
+  pub is : (k : ℕ) → k < 511 → getD row k 0 ≡ builtIn 255 k
+
+-- a 16-bit number with its bytes exchanged; and m such numbers, which stand in the file from a byte on
+unfoldable pub exchanged : ℕ → ℕ
+exchanged v = v % 256 * 256 + v / 256
+
+pub record Lower (b : List ℕ) (first m : ℕ) (row : List ℕ) : Type 0 where
+  pub long : length row ≡ 256
+  pub is : (g : ℕ) → g < m → exchanged (getD row g 0) ≡ plane b first g
+
+-- what a call makes once: the built-in weights, where the file has no table
+pub record WeightRows (z : Plan) (row : List ℕ) : Type 0 where
+  pub mirror : z .weights ≡ 0 → Mirror row
+
+-- the table's row of a guide, in 256 numbers
+pub record TableRow (p : Frame) (m f : ℕ) (row : List ℕ) : Type 0 where
+  pub long : length row ≡ 256
+  pub is : (g : ℕ) → g < m → getD row g 0 ≡ table p f g
