@@ -45,7 +45,8 @@ WalkedOrRefused =
 abbrev pub FilteredOrRefused : Type 0
 FilteredOrRefused =
     (b : List ℕ) (way : ℕ) (a z : Stores) (before after : List ℕ) (r : Walked) → Filters b way a z before after r
-    → ((r .verdict ≡ Accepted) × Ended (wayOf way) (frameOf b) (filterEnd (frameOf b)) a z (filtered (frameOf b) ++ drop (pixels (frameOf b .set)) before) after r)
+    → ((r .verdict ≡ Accepted) × Ended (wayOf way) (frameOf b) (filterEnd (frameOf b)) a z (filtered (frameOf b)
+    ++ drop (pixels (frameOf b .set)) before) after r)
     ⊎ ((n : ℕ) × (l : List ℕ) × (numbered (r .verdict) ≡ refused n l) × (filterOutcome b way (lent a) (length before) ≡ refused n l)
     × Untouched a z before after r)
 
@@ -114,7 +115,8 @@ pub record Minimises (p : Frame) (s t m : ℕ) : Type 0 where
   pub least : NoneNegative p s t → NotAllZero p s t → (i : ℕ) → differences p s t m ≤ℤ differences p s t i
   pub lower : NoneNegative p s t → NotAllZero p s t → (i : ℕ) → i < m → differences p s t m <ℤ differences p s t i
 
--- the answer to a byte, in the state before it: demand 2's level at the pixel that it leads to, which minimises there; or the mark of a byte that moves
+-- the answer to a byte, in the state before it: demand 2's level at the pixel that it leads to, which minimises there; or the mark of a byte that
+-- moves
 -- nothing. 65,534 exactly for a move that would leave the picture, 65,533 exactly for another byte, a level exactly for a move that is made
 pub record Answered (p : Frame) (x : State) (byte m : ℕ) : Type 0 where
   pub moved : (s t : ℕ) → move (p .set) (x .column) (x .row) byte ≡ To s t → LowestLevel p s t m × Minimises p s t m
@@ -122,7 +124,8 @@ pub record Answered (p : Frame) (x : State) (byte m : ℕ) : Type 0 where
   pub unknown : (m ≡ 65533) ↔ (3 < byte)
   pub made : (m < 1024) ↔ ((s : ℕ) × (t : ℕ) × (move (p .set) (x .column) (x .row) byte ≡ To s t))
 
--- what two walks on the same file, start and list have, whatever their ways and stores: one answer for the start and one for each byte, the same in both
+-- what two walks on the same file, start and list have, whatever their ways and stores: one answer for the start and one for each byte, the same
+-- in both
 pub record Agreed (p : Frame) (s t : ℕ) (moves after after′ : List ℕ) (r r′ : Walked) : Type 0 where
   pub shifts : r .shifts ≡ r′ .shifts
   pub answers : take (length moves + 1) after ≡ take (length moves + 1) after′

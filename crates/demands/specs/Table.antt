@@ -30,7 +30,8 @@ walkRows b way s t n have out =
 
 abbrev pub filterRows : List ℕ → ℕ → Room → ℕ → List Outcome
 filterRows b way have out =
-    fileRows b (refuse 8 (badWay (settingsOf b) way) ∷ accepted ∷ accepted ∷ refuse 11 (short (settingsOf b) way have out (pixels (settingsOf b))) ∷ [])
+    fileRows b (refuse 8 (badWay (settingsOf b) way) ∷ accepted ∷ accepted
+    ∷ refuse 11 (short (settingsOf b) way have out (pixels (settingsOf b))) ∷ [])
 
 abbrev pub balanceRows : List ℕ → ℕ → ℕ → ℕ → List Outcome
 balanceRows b s t i = fileRows b (accepted ∷ refuse 9 (badPixel (settingsOf b) s t || not (ltb i (settingsOf b .levels))) ∷ [])
@@ -42,7 +43,8 @@ writerRows k v g a room =
     ∷ (scanList v (k .levels) 0 ▷ scanList g (k .guides) (2 * pixels k) ▷ scanList a (heaviest + 1) (4 * pixels k))
     ∷ accepted ∷ accepted ∷ accepted ∷ refuse 11 (ltb room (writtenSize k (length a))) ∷ []
 
--- a number is given, with its values, exactly if its row fires and no row before it does; there is no number 0; and the outcome is accepted exactly if
+-- a number is given, with its values, exactly if its row fires and no row before it does; there is no number 0; and the outcome is accepted
+-- exactly if
 -- no row fires
 pub record ByTable (rows : List Outcome) (o : Outcome) : Type 0 where
   pub given : (n : ℕ) (l : List ℕ) → (o ≡ refused (suc n) l)

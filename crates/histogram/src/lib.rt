@@ -32,7 +32,8 @@ pub fn change(numbers: &mut [u32], at: usize, v: u32, enters: bool)
 // A pixel that enters the window or leaves it.
 pub fn change_pixel(numbers: &mut [u32], l: usize, level: Level, guide: Guide, enters: bool)
     requires { ⌜ (level .0 < l) × (l ≤ 1024) × (l + l ≤ length (now numbers)) ⌝ }
-    requires { ⌜ (Fits 4294967296 enters (getD (now numbers) (level .0) 0) 1) × (Fits 4294967296 enters (getD (now numbers) (l + level .0) 0) (guide .0)) ⌝ }
+    requires { ⌜ (Fits 4294967296 enters (getD (now numbers) (level .0) 0) 1) × (Fits 4294967296 enters (getD (now numbers) (l + level .0) 0)
+        (guide .0)) ⌝ }
     ensures { λ _. ⌜ Changed enters l (level .0) (guide .0) (now (numbers .entry)) (now (numbers .exit)) ⌝ }
 {
     let i = level.0 as usize;
@@ -45,7 +46,8 @@ pub fn change_pixel(numbers: &mut [u32], l: usize, level: Level, guide: Guide, e
 pub fn change_pixels(p: &[u16], l: usize, enters: bool, numbers: &mut [u32])
     requires { ⌜ (l ≤ 1024) × (l + l ≤ length (now numbers)) × (PixelsBelow l 256 (now p)) ⌝ }
     requires { ⌜ RoomFor enters l (now p) (now numbers) ⌝ }
-    ensures { λ _. ⌜ PassedTo (shareAt l) enters (now (p .entry)) (countOf (now (p .entry))) (numberAt l (now (numbers .entry))) (numberAt l (now (numbers .exit))) ⌝ }
+    ensures { λ _. ⌜ PassedTo (shareAt l) enters (now (p .entry)) (countOf (now (p .entry))) (numberAt l (now (numbers .entry))) (numberAt l (now
+        (numbers .exit))) ⌝ }
 {
     let n = p.len() / 2;
     let mut k = 0;
@@ -61,7 +63,8 @@ pub fn change_pixels(p: &[u16], l: usize, enters: bool, numbers: &mut [u32])
 pub fn exchange(entering: &[u16], leaving: &[u16], l: usize, numbers: &mut [u32])
     requires { ⌜ (l ≤ 1024) × (l + l ≤ length (now numbers)) × (PixelsBelow l 256 (now entering)) × (PixelsBelow l 256 (now leaving)) ⌝ }
     requires { ⌜ Exchangeable (shareAt l) 4294967296 (now entering) (now leaving) (numberAt l (now numbers)) ⌝ }
-    ensures { λ _. ⌜ Exchanged (shareAt l) (now (entering .entry)) (now (leaving .entry)) (numberAt l (now (numbers .entry))) (numberAt l (now (numbers .exit))) ⌝ }
+    ensures { λ _. ⌜ Exchanged (shareAt l) (now (entering .entry)) (now (leaving .entry)) (numberAt l (now (numbers .entry))) (numberAt l (now
+        (numbers .exit))) ⌝ }
 {
     change_pixels(entering, l, true, numbers);
     change_pixels(leaving, l, false, numbers);

@@ -46,7 +46,8 @@ pub record Walks (b : List ℕ) (way s t : ℕ) (moves : List ℕ) (a z : Stores
   pub verdict : numbered (r .verdict) ≡ walkOutcome b way s t (length moves) (lent a) (length before)
   pub refused : (walkOutcome b way s t (length moves) (lent a) (length before) ≡ accepted → ⊥) → Untouched a z before after r
   pub walked : walkOutcome b way s t (length moves) (lent a) (length before) ≡ accepted
-      → Ended (wayOf way) (frameOf b) (walkEnd (frameOf b) s t moves) a z (walkAnswers (frameOf b) s t moves ++ drop (length moves + 1) before) after r
+      → Ended (wayOf way) (frameOf b) (walkEnd (frameOf b) s t moves) a z (walkAnswers (frameOf b) s t moves
+      ++ drop (length moves + 1) before) after r
 
 -- filter
 pub record Filters (b : List ℕ) (way : ℕ) (a z : Stores) (before after : List ℕ) (r : Walked) : Type 0 where

@@ -1,13 +1,13 @@
 // The public calls: walk, filter and balance. Each makes checks 1 to 7 on the bytes that it is handed, then its own, and changes no buffer where one
 // fires.
 use crate::Balanced;
+use balance::balance_at;
 use frame::check::stops;
 use frame::plan::open_plan;
 use ice_walk::Walked;
 use ice_walk::filter::sweep;
 use ice_walk::walk::travel;
-use joint_search::balance::balance_at;
-use joint_search::rows;
+use joint_rows::rows;
 use spec::Level;
 use spec::Plan;
 use spec::Room;
@@ -69,8 +69,11 @@ fn walk_on(
     requires { ⌜ length (now moves) ≤ 1048576 ⌝ }
     requires { ⌜ Fit way (settingsIn z) (stores (now counts) (now words) (now numbers)) ⌝ }
     requires { ⌜ length (now moves) + 1 ≤ length (now answers) ⌝ }
-    ensures { λ r. ⌜ Finished way (frameOf (now (file .entry))) (definitions.walkEnd (frameOf (now (file .entry))) column row (now (moves .entry))) (stores (now (counts .entry)) (now (words .entry)) (now (numbers .entry))) (stores (now (counts .exit)) (now (words .exit)) (now (numbers .exit))) r ⌝ }
-    ensures { λ _. ⌜ now (answers .exit) ≡ definitions.walkAnswers (frameOf (now (file .entry))) column row (now (moves .entry)) ++ drop (length (now (moves .entry)) + 1) (now (answers .entry)) ⌝ }
+    ensures { λ r. ⌜ Finished way (frameOf (now (file .entry))) (definitions.walkEnd (frameOf (now (file .entry))) column row (now
+        (moves .entry))) (stores (now (counts .entry)) (now (words .entry)) (now (numbers .entry))) (stores (now (counts .exit)) (now
+        (words .exit)) (now (numbers .exit))) r ⌝ }
+    ensures { λ _. ⌜ now (answers .exit) ≡ definitions.walkAnswers (frameOf (now (file .entry))) column row (now (moves .entry)) ++ drop (length
+        (now (moves .entry)) + 1) (now (answers .entry)) ⌝ }
     ensures { λ _. ⌜ (way ≡ Way.Joint → now (numbers .exit) ≡ now (numbers .entry)) ⌝ }
 {
     let mut weights = [0u16; 511];
@@ -121,7 +124,9 @@ pub fn walk(
     numbers: &mut [u32],
     answers: &mut [u16],
 ) -> Walked
-    ensures { λ r. ⌜ Walks (now (file .entry)) way column row (now (moves .entry)) (stores (now (counts .entry)) (now (words .entry)) (now (numbers .entry))) (stores (now (counts .exit)) (now (words .exit)) (now (numbers .exit))) (now (answers .entry)) (now (answers .exit)) r ⌝ }
+    ensures { λ r. ⌜ Walks (now (file .entry)) way column row (now (moves .entry)) (stores (now (counts .entry)) (now (words .entry)) (now
+        (numbers .entry))) (stores (now (counts .exit)) (now (words .exit)) (now (numbers .exit))) (now (answers .entry)) (now
+        (answers .exit)) r ⌝ }
 {
     let have = Room {
         counts: counts.len(),
@@ -166,8 +171,10 @@ fn filter_on(
     requires { ⌜ (Planned (now file) z) × (Serves way z) ⌝ }
     requires { ⌜ Fit way (settingsIn z) (stores (now counts) (now words) (now numbers)) ⌝ }
     requires { ⌜ z .width * z .height ≤ length (now output) ⌝ }
-    ensures { λ r. ⌜ Finished way (frameOf (now (file .entry))) (filterEnd (frameOf (now (file .entry)))) (stores (now (counts .entry)) (now (words .entry)) (now (numbers .entry))) (stores (now (counts .exit)) (now (words .exit)) (now (numbers .exit))) r ⌝ }
-    ensures { λ _. ⌜ now (output .exit) ≡ filtered (frameOf (now (file .entry))) ++ drop (pixels (frameOf (now (file .entry)) .set)) (now (output .entry)) ⌝ }
+    ensures { λ r. ⌜ Finished way (frameOf (now (file .entry))) (filterEnd (frameOf (now (file .entry)))) (stores (now (counts .entry)) (now
+        (words .entry)) (now (numbers .entry))) (stores (now (counts .exit)) (now (words .exit)) (now (numbers .exit))) r ⌝ }
+    ensures { λ _. ⌜ now (output .exit) ≡ filtered (frameOf (now (file .entry))) ++ drop (pixels (frameOf (now (file .entry)) .set)) (now
+        (output .entry)) ⌝ }
     ensures { λ _. ⌜ (way ≡ Way.Joint → now (numbers .exit) ≡ now (numbers .entry)) ⌝ }
 {
     let mut weights = [0u16; 511];
@@ -209,7 +216,8 @@ pub fn filter(
     numbers: &mut [u32],
     output: &mut [u16],
 ) -> Walked
-    ensures { λ r. ⌜ Filters (now (file .entry)) way (stores (now (counts .entry)) (now (words .entry)) (now (numbers .entry))) (stores (now (counts .exit)) (now (words .exit)) (now (numbers .exit))) (now (output .entry)) (now (output .exit)) r ⌝ }
+    ensures { λ r. ⌜ Filters (now (file .entry)) way (stores (now (counts .entry)) (now (words .entry)) (now (numbers .entry))) (stores (now
+        (counts .exit)) (now (words .exit)) (now (numbers .exit))) (now (output .entry)) (now (output .exit)) r ⌝ }
 {
     let have = Room {
         counts: counts.len(),

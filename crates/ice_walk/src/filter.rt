@@ -15,7 +15,7 @@ ghost use Rattle.spec.specs.Frame.{frameOf, pixels, settingsIn};
 ghost use Rattle.spec.specs.Checks.{Planned};
 ghost use Rattle.spec.specs.Filter.{filtered, filterEnd};
 ghost use Rattle.spec.specs.Calls.{zeros};
-ghost use Rattle.joint_search.specs.Rows.{WeightRows};
+ghost use Rattle.joint_rows.specs.Rows.{WeightRows};
 ghost use Rattle.ways.specs.Visit.{stores, Fit, Cleared, Serves};
 ghost use Rattle.ice_walk.specs.Finished.{Finished};
 
@@ -35,8 +35,10 @@ pub fn sweep(
     requires { ⌜ Fit way (settingsIn z) (stores (now counts) (now words) (now numbers)) ⌝ }
     requires { ⌜ z .width * z .height ≤ length (now output) ⌝ }
     requires { ⌜ (cells ≡ zeros) × (Cleared way z (now numbers)) ⌝ }
-    ensures { λ r. ⌜ Finished way (frameOf (now (file .entry))) (filterEnd (frameOf (now (file .entry)))) (stores (now (counts .entry)) (now (words .entry)) (now (numbers .entry))) (stores (now (counts .exit)) (now (words .exit)) (now (numbers .exit))) r ⌝ }
-    ensures { λ _. ⌜ now (output .exit) ≡ filtered (frameOf (now (file .entry))) ++ drop (pixels (frameOf (now (file .entry)) .set)) (now (output .entry)) ⌝ }
+    ensures { λ r. ⌜ Finished way (frameOf (now (file .entry))) (filterEnd (frameOf (now (file .entry)))) (stores (now (counts .entry)) (now
+        (words .entry)) (now (numbers .entry))) (stores (now (counts .exit)) (now (words .exit)) (now (numbers .exit))) r ⌝ }
+    ensures { λ _. ⌜ now (output .exit) ≡ filtered (frameOf (now (file .entry))) ++ drop (pixels (frameOf (now (file .entry)) .set)) (now
+        (output .entry)) ⌝ }
 {
     let width = z.width;
     let n = width * z.height;

@@ -17,7 +17,7 @@ ghost use Rattle.spec.specs.Frame.{frameOf, settingsIn};
 ghost use Rattle.spec.specs.Checks.{Planned};
 ghost use Rattle.spec.specs.Walk as definitions;
 ghost use Rattle.spec.specs.Calls.{zeros};
-ghost use Rattle.joint_search.specs.Rows.{WeightRows};
+ghost use Rattle.joint_rows.specs.Rows.{WeightRows};
 ghost use Rattle.ways.specs.Visit.{stateOf, stores, Fit, Cleared, Serves, Within, AtWindow, Visited};
 ghost use Rattle.ice_walk.specs.Finished.{Finished};
 
@@ -38,7 +38,9 @@ pub fn step(
     requires { ⌜ Within z visit ⌝ }
     requires { ⌜ Fit way (settingsIn z) (stores (now counts) (now words) (now numbers)) ⌝ }
     requires { ⌜ AtWindow way (now file) (stores (now counts) (now words) (now numbers)) (now cells) visit ⌝ }
-    ensures { λ r. ⌜ Visited way (now (file .entry)) (definitions.step (frameOf (now (file .entry))) (stateOf visit) byte) (stores (now (counts .entry)) (now (words .entry)) (now (numbers .entry))) (stores (now (counts .exit)) (now (words .exit)) (now (numbers .exit))) (now (cells .exit)) r ⌝ }
+    ensures { λ r. ⌜ Visited way (now (file .entry)) (definitions.step (frameOf (now (file .entry))) (stateOf visit) byte) (stores (now
+        (counts .entry)) (now (words .entry)) (now (numbers .entry))) (stores (now (counts .exit)) (now (words .exit)) (now (numbers .exit))) (now
+        (cells .exit)) r ⌝ }
 {
     let m = next(z, visit.column, visit.row, byte);
     match m {
@@ -91,8 +93,11 @@ pub fn travel(
     requires { ⌜ Fit way (settingsIn z) (stores (now counts) (now words) (now numbers)) ⌝ }
     requires { ⌜ length (now moves) + 1 ≤ length (now answers) ⌝ }
     requires { ⌜ (cells ≡ zeros) × (Cleared way z (now numbers)) ⌝ }
-    ensures { λ r. ⌜ Finished way (frameOf (now (file .entry))) (definitions.walkEnd (frameOf (now (file .entry))) column row (now (moves .entry))) (stores (now (counts .entry)) (now (words .entry)) (now (numbers .entry))) (stores (now (counts .exit)) (now (words .exit)) (now (numbers .exit))) r ⌝ }
-    ensures { λ _. ⌜ now (answers .exit) ≡ definitions.walkAnswers (frameOf (now (file .entry))) column row (now (moves .entry)) ++ drop (length (now (moves .entry)) + 1) (now (answers .entry)) ⌝ }
+    ensures { λ r. ⌜ Finished way (frameOf (now (file .entry))) (definitions.walkEnd (frameOf (now (file .entry))) column row (now
+        (moves .entry))) (stores (now (counts .entry)) (now (words .entry)) (now (numbers .entry))) (stores (now (counts .exit)) (now
+        (words .exit)) (now (numbers .exit))) r ⌝ }
+    ensures { λ _. ⌜ now (answers .exit) ≡ definitions.walkAnswers (frameOf (now (file .entry))) column row (now (moves .entry)) ++ drop (length
+        (now (moves .entry)) + 1) (now (answers .entry)) ⌝ }
 {
     let mut held = cells;
     let mut visit = dispatch::enter(

@@ -1,4 +1,5 @@
-// A list of pixels that enters the window or leaves it: counts and occupancy words, alone or with the balance box at the cut point. One loop does both,
+// A list of pixels that enters the window or leaves it: counts and occupancy words, alone or with the balance box at the cut point. One loop does
+// both,
 // because a move in kind 2 takes 3 % longer with two.
 use crate::cell;
 use crate::side::side_changed;
@@ -11,7 +12,9 @@ ghost use Rattle.joint.specs.List.{Countable, BoxRoom, CountsPassed, Box
 // The counts and the words; m is the number of guides.
 pub fn change_counts(p: &[u16], m: usize, enters: bool, counts: &mut [u16], words: &mut [u64])
     requires { ⌜ Countable enters m (now p) (now counts) (now words) ⌝ }
-    ensures { λ _. ⌜ ((a : Countable enters m (now (p .entry)) (now (counts .entry)) (now (words .entry))) → CountsPassed enters (a .levels) m (now (p .entry)) (countOf (now (p .entry))) (now (counts .entry)) (now (words .entry)) (now (counts .exit)) (now (words .exit))) ⌝ }
+    ensures { λ _. ⌜ ((a : Countable enters m (now (p .entry)) (now (counts .entry)) (now (words .entry)))
+        → CountsPassed enters (a .levels) m (now (p .entry)) (countOf (now (p .entry))) (now (counts .entry)) (now (words .entry)) (now
+        (counts .exit)) (now (words .exit))) ⌝ }
 {
     let n = p.len() / 2;
     let mut k = 0;
@@ -34,7 +37,9 @@ pub fn change_pixels(
     words: &mut [u64],
 )
     requires { ⌜ (Countable enters m (now p) (now counts) (now words)) × (BoxRoom (countOf (now p)) (now cells)) ⌝ }
-    ensures { λ _. ⌜ ((a : Countable enters m (now (p .entry)) (now (counts .entry)) (now (words .entry))) → CountsPassed enters (a .levels) m (now (p .entry)) (countOf (now (p .entry))) (now (counts .entry)) (now (words .entry)) (now (counts .exit)) (now (words .exit))) ⌝ }
+    ensures { λ _. ⌜ ((a : Countable enters m (now (p .entry)) (now (counts .entry)) (now (words .entry)))
+        → CountsPassed enters (a .levels) m (now (p .entry)) (countOf (now (p .entry))) (now (counts .entry)) (now (words .entry)) (now
+        (counts .exit)) (now (words .exit))) ⌝ }
     ensures { λ _. ⌜ BoxPassed enters (cut .0) (now (p .entry)) (countOf (now (p .entry))) (now (cells .entry)) (now (cells .exit)) ⌝ }
 {
     let n = p.len() / 2;
@@ -61,8 +66,11 @@ pub fn exchange(
     counts: &mut [u16],
     words: &mut [u64],
 )
-    requires { ⌜ (Exchangeable m (now entering) (now leaving) (now counts) (now words)) × (BoxRoom (countOf (now entering) + countOf (now leaving)) (now cells)) ⌝ }
-    ensures { λ _. ⌜ ((a : Exchangeable m (now (entering .entry)) (now (leaving .entry)) (now (counts .entry)) (now (words .entry))) → CountsExchanged (a .entering .levels) m (now (entering .entry)) (now (leaving .entry)) (now (counts .entry)) (now (words .entry)) (now (counts .exit)) (now (words .exit))) ⌝ }
+    requires { ⌜ (Exchangeable m (now entering) (now leaving) (now counts) (now words)) × (BoxRoom (countOf (now entering) + countOf
+        (now leaving)) (now cells)) ⌝ }
+    ensures { λ _. ⌜ ((a : Exchangeable m (now (entering .entry)) (now (leaving .entry)) (now (counts .entry)) (now (words .entry)))
+        → CountsExchanged (a .entering .levels) m (now (entering .entry)) (now (leaving .entry)) (now (counts .entry)) (now (words .entry)) (now
+        (counts .exit)) (now (words .exit))) ⌝ }
     ensures { λ _. ⌜ BoxExchanged (cut .0) (now (entering .entry)) (now (leaving .entry)) (now (cells .entry)) (now (cells .exit)) ⌝ }
 {
     change_pixels(entering, m, true, cut, cells, counts, words);

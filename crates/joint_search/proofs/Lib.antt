@@ -4,9 +4,3 @@ pub mod BoxLaws
 pub mod FormulaLaws
 pub mod FewLaws
 pub mod SearchLaws
-pub mod WeightlessLaws
-pub mod TableLaws
-pub mod RowLaws
-pub mod ArriveLaws
-pub mod VisitLaws
-pub mod BalanceLaws

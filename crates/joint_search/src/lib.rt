@@ -1,14 +1,7 @@
-// Way 1, joint: the answer of a window from its joint counts, the cut point and the box moved to it, and the shifts counted on the way.
-pub mod answer;
-pub mod arrive;
-pub mod balance;
+// Way 1, joint: the search over joint counts, occupancy words and a row of weights, from a cut point up or down, and the box moved with it.
 pub mod box_dot;
 pub mod find;
 pub mod formula;
-pub mod guided;
 pub mod level;
-pub mod rows;
 pub mod scan;
 pub mod shift;
-pub mod table;
-pub mod visit;

@@ -29,7 +29,8 @@ pub fn coefficients_at(file: &[u8], z: Plan, a: Sums, s: usize, t: usize) -> Coe
     coefficients::from_sums(z, a, centre)
 }
 
-// By the coefficients k over so many guides: from the cut point where the window is monotone, with the tally of the levels up to it; else, and that is
+// By the coefficients k over so many guides: from the cut point where the window is monotone, with the tally of the levels up to it; else, and
+// that is
 // often, from level 0, where no tally is asked for.
 pub fn answer(
     counts: &[u32],
@@ -42,7 +43,8 @@ pub fn answer(
     shifts: u64,
 ) -> Found
     requires { ⌜ Answerable k guides monotone (cut .0) shifts below (now counts) (now sums) ⌝ }
-    ensures { λ f. ⌜ (FoundAt k (now (counts .entry)) (now (sums .entry)) f) × (f .shifts ≡ shifts + (if monotone then distance (f .level .0) (cut .0) else f .level .0)) ⌝ }
+    ensures { λ f. ⌜ (FoundAt k (now (counts .entry)) (now (sums .entry)) f) × (f .shifts ≡ shifts + (if monotone then distance (f .level .0)
+        (cut .0) else f .level .0)) ⌝ }
 {
     let heaviest = block::heaviest(k, guides);
     if monotone {

@@ -34,7 +34,8 @@ pub record PixelsBelow (l m : ℕ) (p : List ℕ) : Type 0 where
   pub level : (k : ℕ) → k < countOf p → levelIn p k < l
   pub guide : (k : ℕ) → k < countOf p → guideIn p k < m
 
--- the list has the line's pixels: every sum over it is that over the line. Nothing else is said of their order or number, so that a line may have pixels
+-- the list has the line's pixels: every sum over it is that over the line. Nothing else is said of their order or number, so that a line may have
+-- pixels
 -- that count nowhere.
 pub record LinePixels (b : List ℕ) (z : Plan) (d : Line) (p : List ℕ) : Type 0 where
   pub below : PixelsBelow (z .levels) (z .guides) p

@@ -1,6 +1,6 @@
 -- What the plan of an accepted file says: the frame's settings, and where its pixels and its weights stand. Every function on a file begins from `facts`.
 -- Assumes nothing.
-use mathlib.Core.Path.{_≡_, refl, sym, ap₂, subst}
+use mathlib.Core.Path.{_≡_, refl, sym, ap₂, subst, _∙_}
 use mathlib.Core.Bool.{Bool, true, false}
 use mathlib.Core.Logic.{_⊎_, inl, inr}
 use mathlib.Core.List.{List}

@@ -23,8 +23,8 @@ use Rattle.spec.proofs.First.{length-tabulate}
 use Rattle.spec.proofs.Plans.{facts}
 use Rattle.spec.proofs.Walks.{arrive-column, arrive-row}
 use Rattle.joint.specs.Window.{Fresh, Held}
-use Rattle.joint_search.specs.declared.visit.Visit as joint
-use Rattle.joint_search.specs.Arrive as joint-visit
+use Rattle.joint_visit.specs.declared.visit.Visit as joint
+use Rattle.joint_visit.specs.Arrive as joint-visit
 use Rattle.columns.specs.declared.visit.Visit as columns
 use Rattle.columns.specs.Visit as columns-visit
 use Rattle.columns.proofs.ContentLaws.{length-columns}

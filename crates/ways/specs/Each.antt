@@ -2,7 +2,7 @@
 -- Assumes nothing.
 use Prim.Native.Nat.{ℕ}
 use Rattle.spec.specs.declared.Answer.{Answer}
-use Rattle.joint_search.specs.declared.visit.Visit as joint
+use Rattle.joint_visit.specs.declared.visit.Visit as joint
 use Rattle.columns.specs.declared.visit.Visit as columns
 use Rattle.chain_search.specs.declared.visit.Visit as chain
 use Rattle.ways.specs.declared.Visit.{Visit}

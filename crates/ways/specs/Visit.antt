@@ -15,7 +15,7 @@ use Rattle.spec.specs.declared.Way.the-variants.{Joint, Columns, Chain}
 use Rattle.spec.specs.Frame.{Frame, planOf, frameOf}
 use Rattle.window.specs.Sums.{SumsAt}
 use Rattle.histogram.specs.Histogram.{Blank}
-use Rattle.joint_search.specs.Arrive as joint
+use Rattle.joint_visit.specs.Arrive as joint
 use Rattle.levels.specs.Tally.{BelowAt}
 use Rattle.chain.specs.Moves.{Listed}
 use Rattle.spec.specs.Walk.{State, answerNumber}
@@ -53,7 +53,8 @@ pub record Left (n : ℕ) (a z : List ℕ) : Type 0 where
   pub long : length z ≡ length a
   pub beyond : drop n z ≡ drop n a
 
--- how many of n numbers the way may change: joint all of them, which are its own inside a walk and not the caller's; the others what their stores take
+-- how many of n numbers the way may change: joint all of them, which are its own inside a walk and not the caller's; the others what their stores
+-- take
 unfoldable pub usedOf : Way → Settings → ℕ → ℕ
 usedOf Joint k n = n
 usedOf Columns k n = roomOf Columns k .numbers
@@ -68,7 +69,8 @@ pub record Kept (way : Way) (k : Settings) (a z : Stores) : Type 0 where
 abbrev pub Cleared : Way → Plan → List ℕ → Type 0
 Cleared way z ns = way ≡ Joint → Blank (z .levels) ns
 
--- what the way carries to the next window of a file: the window's sums, for columns and joint the tally up to the cut point, for joint the histogram of
+-- what the way carries to the next window of a file: the window's sums, for columns and joint the tally up to the cut point, for joint the
+-- histogram of
 -- levels in the numbers, for the chain its free list
 unfoldable pub Carried : Way → List ℕ → ℕ → ℕ → ℕ → List ℕ → Carry → Type 0
 Carried Joint b s t c m k = joint.Carried (frameOf b) s t c (k .sums) (k .below) m

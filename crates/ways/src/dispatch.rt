@@ -10,7 +10,7 @@ ghost use Rattle.spec.specs.Checks.{Planned};
 ghost use Rattle.spec.specs.Walk.{arrive};
 ghost use Rattle.spec.specs.Calls.{zeros};
 ghost use Rattle.window.specs.Line.{Adjacent};
-ghost use Rattle.joint_search.specs.Rows.{WeightRows};
+ghost use Rattle.joint_rows.specs.Rows.{WeightRows};
 ghost use Rattle.ways.specs.Visit.{stores, Fit, Cleared, Serves, Within, AtWindow, Visited};
 
 // An empty box.
@@ -37,7 +37,8 @@ pub fn enter(
     requires { ⌜ (column < z .width) × (row < z .height) ⌝ }
     requires { ⌜ Fit way (settingsIn z) (stores (now counts) (now words) (now numbers)) ⌝ }
     requires { ⌜ (now cells ≡ zeros) × (Cleared way z (now numbers)) ⌝ }
-    ensures { λ r. ⌜ Visited way (now (file .entry)) (arrive (frameOf (now (file .entry))) column row 0 0) (stores (now (counts .entry)) (now (words .entry)) (now (numbers .entry))) (stores (now (counts .exit)) (now (words .exit)) (now (numbers .exit))) (now (cells .exit)) r ⌝ }
+    ensures { λ r. ⌜ Visited way (now (file .entry)) (arrive (frameOf (now (file .entry))) column row 0 0) (stores (now (counts .entry)) (now
+        (words .entry)) (now (numbers .entry))) (stores (now (counts .exit)) (now (words .exit)) (now (numbers .exit))) (now (cells .exit)) r ⌝ }
 {
     match way {
         Way::Joint => each::joint_enter(
@@ -75,7 +76,9 @@ pub fn slide(
     requires { ⌜ Adjacent z (from .column) (from .row) column row ⌝ }
     requires { ⌜ Fit way (settingsIn z) (stores (now counts) (now words) (now numbers)) ⌝ }
     requires { ⌜ AtWindow way (now file) (stores (now counts) (now words) (now numbers)) (now cells) from ⌝ }
-    ensures { λ r. ⌜ Visited way (now (file .entry)) (arrive (frameOf (now (file .entry))) column row (from .cut .0) (from .shifts)) (stores (now (counts .entry)) (now (words .entry)) (now (numbers .entry))) (stores (now (counts .exit)) (now (words .exit)) (now (numbers .exit))) (now (cells .exit)) r ⌝ }
+    ensures { λ r. ⌜ Visited way (now (file .entry)) (arrive (frameOf (now (file .entry))) column row (from .cut .0) (from .shifts)) (stores (now
+        (counts .entry)) (now (words .entry)) (now (numbers .entry))) (stores (now (counts .exit)) (now (words .exit)) (now (numbers .exit))) (now
+        (cells .exit)) r ⌝ }
 {
     match way {
         Way::Joint => each::joint_slide(

@@ -18,10 +18,10 @@ ghost use Rattle.spec.specs.Calls.{roomOf, zeros};
 ghost use Rattle.window.specs.Line.{Adjacent};
 ghost use Rattle.ways.specs.Visit.{stores, Within, AtWindow, Visited};
 ghost use Rattle.histogram.specs.Histogram.{Blank};
-ghost use Rattle.joint_search.specs.Rows.{WeightRows};
+ghost use Rattle.joint_rows.specs.Rows.{WeightRows};
 ghost use Rattle.ways.specs.Each.{ofJoint, toJoint, ofColumns, toColumns, ofChain, toChain};
 
-fn of_joint(v: joint_search::visit::Visit, column: usize, row: usize) -> Visit
+fn of_joint(v: joint_visit::visit::Visit, column: usize, row: usize) -> Visit
     ensures { λ r. ⌜ r ≡ ofJoint v column row ⌝ }
 {
     let sums = v.sums;
@@ -42,14 +42,14 @@ fn of_joint(v: joint_search::visit::Visit, column: usize, row: usize) -> Visit
 }
 
 // A move needs no former answer, which may be a mark: the cut point stands in its place, as in the other ways.
-fn to_joint(v: Visit) -> joint_search::visit::Visit
+fn to_joint(v: Visit) -> joint_visit::visit::Visit
     ensures { λ r. ⌜ r ≡ toJoint v ⌝ }
 {
     let carry = v.carry;
     let sums = carry.sums;
     let below = carry.below;
     let cut = v.cut;
-    joint_search::visit::Visit {
+    joint_visit::visit::Visit {
         sums,
         below,
         cut,
@@ -146,9 +146,11 @@ pub fn joint_enter(
     requires { ⌜ (column < z .width) × (row < z .height) ⌝ }
     requires { ⌜ (roomOf Way.Joint (settingsIn z) .counts ≤ length (now counts)) × (roomOf Way.Joint (settingsIn z) .words ≤ length (now words)) ⌝ }
     requires { ⌜ Blank (z .levels) (now numbers) ⌝ }
-    ensures { λ r. ⌜ Visited Way.Joint (now (file .entry)) (arrive (frameOf (now (file .entry))) column row 0 0) (stores (now (counts .entry)) (now (words .entry)) (now (numbers .entry))) (stores (now (counts .exit)) (now (words .exit)) (now (numbers .exit))) (now (cells .exit)) r ⌝ }
+    ensures { λ r. ⌜ Visited Way.Joint (now (file .entry)) (arrive (frameOf (now (file .entry))) column row 0 0) (stores (now (counts .entry))
+        (now (words .entry)) (now (numbers .entry))) (stores (now (counts .exit)) (now (words .exit)) (now (numbers .exit))) (now
+        (cells .exit)) r ⌝ }
 {
-    let v = joint_search::visit::enter(
+    let v = joint_visit::visit::enter(
         file,
         z,
         weights,
@@ -181,10 +183,12 @@ pub fn joint_slide(
     requires { ⌜ (Within z from) × (Adjacent z (from .column) (from .row) column row) ⌝ }
     requires { ⌜ (roomOf Way.Joint (settingsIn z) .counts ≤ length (now counts)) × (roomOf Way.Joint (settingsIn z) .words ≤ length (now words)) ⌝ }
     requires { ⌜ AtWindow Way.Joint (now file) (stores (now counts) (now words) (now numbers)) (now cells) from ⌝ }
-    ensures { λ r. ⌜ Visited Way.Joint (now (file .entry)) (arrive (frameOf (now (file .entry))) column row (from .cut .0) (from .shifts)) (stores (now (counts .entry)) (now (words .entry)) (now (numbers .entry))) (stores (now (counts .exit)) (now (words .exit)) (now (numbers .exit))) (now (cells .exit)) r ⌝ }
+    ensures { λ r. ⌜ Visited Way.Joint (now (file .entry)) (arrive (frameOf (now (file .entry))) column row (from .cut .0) (from .shifts)) (stores
+        (now (counts .entry)) (now (words .entry)) (now (numbers .entry))) (stores (now (counts .exit)) (now (words .exit)) (now (numbers .exit)))
+        (now (cells .exit)) r ⌝ }
 {
     let known = to_joint(from);
-    let v = joint_search::visit::slide(
+    let v = joint_visit::visit::slide(
         file,
         z,
         weights,
@@ -206,7 +210,8 @@ pub fn columns_enter(file: &[u8], z: Plan, column: usize, row: usize, numbers: &
     requires { ⌜ (Planned (now file) z) × (z .kind ≡ 2) ⌝ }
     requires { ⌜ (column < z .width) × (row < z .height) ⌝ }
     requires { ⌜ roomOf Way.Columns (settingsIn z) .numbers ≤ length (now numbers) ⌝ }
-    ensures { λ r. ⌜ Visited Way.Columns (now (file .entry)) (arrive (frameOf (now (file .entry))) column row 0 0) (stores [] [] (now (numbers .entry))) (stores [] [] (now (numbers .exit))) zeros r ⌝ }
+    ensures { λ r. ⌜ Visited Way.Columns (now (file .entry)) (arrive (frameOf (now (file .entry))) column row 0 0) (stores [] [] (now
+        (numbers .entry))) (stores [] [] (now (numbers .exit))) zeros r ⌝ }
 {
     let v = columns::visit::enter(file, z, column, row, Level(0), 0, numbers);
     of_columns(v, column, row)
@@ -225,7 +230,8 @@ pub fn columns_slide(
     requires { ⌜ (Within z from) × (Adjacent z (from .column) (from .row) column row) ⌝ }
     requires { ⌜ roomOf Way.Columns (settingsIn z) .numbers ≤ length (now numbers) ⌝ }
     requires { ⌜ AtWindow Way.Columns (now file) (stores [] [] (now numbers)) zeros from ⌝ }
-    ensures { λ r. ⌜ Visited Way.Columns (now (file .entry)) (arrive (frameOf (now (file .entry))) column row (from .cut .0) (from .shifts)) (stores [] [] (now (numbers .entry))) (stores [] [] (now (numbers .exit))) zeros r ⌝ }
+    ensures { λ r. ⌜ Visited Way.Columns (now (file .entry)) (arrive (frameOf (now (file .entry))) column row (from .cut .0) (from .shifts))
+        (stores [] [] (now (numbers .entry))) (stores [] [] (now (numbers .exit))) zeros r ⌝ }
 {
     let known = to_columns(from);
     let v = columns::visit::slide(file, z, known, from.column, from.row, column, row, numbers);
@@ -237,7 +243,8 @@ pub fn chain_enter(file: &[u8], z: Plan, column: usize, row: usize, numbers: &mu
     requires { ⌜ (Planned (now file) z) × (z .kind ≡ 2) ⌝ }
     requires { ⌜ (column < z .width) × (row < z .height) ⌝ }
     requires { ⌜ roomOf Way.Chain (settingsIn z) .numbers ≤ length (now numbers) ⌝ }
-    ensures { λ r. ⌜ Visited Way.Chain (now (file .entry)) (arrive (frameOf (now (file .entry))) column row 0 0) (stores [] [] (now (numbers .entry))) (stores [] [] (now (numbers .exit))) zeros r ⌝ }
+    ensures { λ r. ⌜ Visited Way.Chain (now (file .entry)) (arrive (frameOf (now (file .entry))) column row 0 0) (stores [] [] (now
+        (numbers .entry))) (stores [] [] (now (numbers .exit))) zeros r ⌝ }
 {
     let v = chain_search::visit::enter(file, z, column, row, Level(0), 0, numbers);
     of_chain(v, column, row)
@@ -255,7 +262,8 @@ pub fn chain_slide(
     requires { ⌜ (Planned (now file) z) × (z .kind ≡ 2) ⌝ }
     requires { ⌜ (Within z from) × (Adjacent z (from .column) (from .row) column row) ⌝ }
     requires { ⌜ AtWindow Way.Chain (now file) (stores [] [] (now numbers)) zeros from ⌝ }
-    ensures { λ r. ⌜ Visited Way.Chain (now (file .entry)) (arrive (frameOf (now (file .entry))) column row (from .cut .0) (from .shifts)) (stores [] [] (now (numbers .entry))) (stores [] [] (now (numbers .exit))) zeros r ⌝ }
+    ensures { λ r. ⌜ Visited Way.Chain (now (file .entry)) (arrive (frameOf (now (file .entry))) column row (from .cut .0) (from .shifts))
+        (stores [] [] (now (numbers .entry))) (stores [] [] (now (numbers .exit))) zeros r ⌝ }
 {
     let known = to_chain(from);
     let v = chain_search::visit::slide(file, z, known, from.column, from.row, column, row, numbers);

@@ -17,7 +17,7 @@ use Rattle.ice.proofs.calls.balance.Lts as lts
 use Rattle.frame.proofs.check.stops.Reads as stops-reads
 use Rattle.frame.proofs.plan.open_plan.Reads as open-plan-reads
 use Rattle.checks.proofs.balance_verdict.Reads as balance-verdict-reads
-use Rattle.joint_search.proofs.balance.balance_at.Reads as balance-at-reads
+use Rattle.balance.proofs.balance_at.Reads as balance-at-reads
 
 abbrev own : tie.Start → Settings → Outcome
 own at k = balanceChecks k (at .args .column) (at .args .row) (at .args .level)

@@ -5,7 +5,7 @@ use Rattle.ways.proofs.each.joint_enter.Statement.{statement}
 use Rattle.ways.proofs.each.joint_enter.Tie as tie
 use Rattle.ways.proofs.each.joint_enter.Reads as reads
 use Rattle.ways.proofs.each.joint_enter.Lts as lts
-use Rattle.joint_search.proofs.visit.enter.Reads as enter-reads
+use Rattle.joint_visit.proofs.visit.enter.Reads as enter-reads
 use Rattle.ways.proofs.each.of_joint.Reads as of-joint-reads
 
 -- src/each.rt:144:9

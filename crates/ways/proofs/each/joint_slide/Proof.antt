@@ -4,7 +4,7 @@ use Rattle.ways.proofs.each.joint_slide.Statement.{statement}
 use Rattle.ways.proofs.each.joint_slide.Tie as tie
 use Rattle.ways.proofs.each.joint_slide.Reads as reads
 use Rattle.ways.proofs.each.joint_slide.Lts as lts
-use Rattle.joint_search.proofs.visit.slide.Reads as slide-reads
+use Rattle.joint_visit.proofs.visit.slide.Reads as slide-reads
 use Rattle.ways.proofs.each.of_joint.Reads as of-joint-reads
 use Rattle.ways.proofs.each.to_joint.Reads as to-joint-reads
 

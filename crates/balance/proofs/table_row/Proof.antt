@@ -1,0 +1,74 @@
+-- `table_row` meets its contract: after k turns the row has k weights. Assumes nothing.
+use native.Mathlib.Omega.{arith}
+use borrow.Author.Needs.{needs}
+use Prim.Native.Nat.{_-_, _≤_}
+use Rattle.spec.specs.Frame.{frameOf}
+use Rattle.window.proofs.PixelLaws.{guides-high}
+use Rattle.balance.proofs.BalanceLaws.{Rowed, row-start, row-next}
+use Rattle.balance.proofs.table_row.Statement.{statement}
+use Rattle.balance.proofs.table_row.Tie as tie
+
+abbrev Inv-loop : tie.InvT-loop
+Inv-loop file z f built m out₀ k₀ out k =
+    (k ≤ m) × Rowed (frameOf file) k (f .0) out
+
+abbrev μ-loop : tie.MeasureT-loop
+μ-loop file z f built m out₀ k₀ out k = m - k
+
+abbrev start : tie.At-loop Inv-loop μ-loop → tie.Start Inv-loop μ-loop
+start h = h .before .before .before
+
+constants-requires : tie.Need-constants-requires Inv-loop μ-loop
+constants-requires c κs = search needs
+
+loop-holds : tie.Need-loop-holds Inv-loop μ-loop
+loop-holds c = (omega arith, row-start _ _)
+
+cast-t12 : tie.Need-cast-t12 Inv-loop μ-loop
+cast-t12 c = let t = c .before in omega (arith, t .loop-test .taken, guides-high (start (t .before) .pre .0))
+
+weight-at-requires : tie.Need-weight-at-requires Inv-loop μ-loop
+weight-at-requires c κs =
+    let t = c .before in
+    let h = start (t .before) .pre in
+    (t .before .before .constants .ensures, h .0, h .1, t .loop-test .taken)
+
+mul-out : tie.Need-mul-out Inv-loop μ-loop
+mul-out c = let t = c .before .before in let at = start (t .before) in omega (arith, t .loop-test .taken, guides-high (at .pre .0), t .before .loop .inv .1 .long)
+
+array-write-out : tie.Need-array-write-out Inv-loop μ-loop
+array-write-out c = let t = c .before .before in let at = start (t .before) in omega (arith, t .loop-test .taken, guides-high (at .pre .0), t .before .loop .inv .1 .long)
+
+add-k : tie.Need-add-k Inv-loop μ-loop
+add-k c = let t = c .before .before in let at = start (t .before) in omega (arith, t .loop-test .taken, guides-high (at .pre .0), t .before .loop .inv .1 .long)
+
+loop-less : tie.Need-loop-less Inv-loop μ-loop
+loop-less c = omega (arith, c .before .before .loop-test .taken)
+
+loop-again : tie.Need-loop-again Inv-loop μ-loop
+loop-again c =
+    let t = c .before .before in
+    let at = start (t .before) in
+    (omega (arith, t .loop-test .taken), row-next (omega (arith, t .loop-test .taken, guides-high (at .pre .0))) (t .before .loop .inv .1) (c .weight-at .ensures))
+
+returns : tie.Need-returns Inv-loop μ-loop
+returns c =
+    let h = c .before in
+    record { long = h .loop .inv .1 .long; is = λ g l. h .loop .inv .1 .is g (omega (arith, h .loop .inv .0, c .loop-test .left)) }
+
+pub table-row-spec : {M : Type 1} → statement M
+table-row-spec =
+    tie.close
+    (tie.spec
+    Inv-loop
+    μ-loop
+    constants-requires
+    loop-holds
+    cast-t12
+    weight-at-requires
+    mul-out
+    array-write-out
+    add-k
+    loop-less
+    loop-again
+    returns)

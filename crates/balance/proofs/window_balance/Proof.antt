@@ -1,0 +1,141 @@
+-- `window_balance` meets its contract: after k turns the sum is that of the window's first k columns. Assumes nothing.
+use mathlib.Core.Path.{_≡_, sym, ap, _∙_}
+use native.Mathlib.Omega.{arith}
+use borrow.Author.Needs.{needs}
+use Prim.Native.Nat.{_-_, _≤_}
+use lib.ListN.{take, drop}
+use lib.IntN.{pos, _+ℤ_}
+use mir.Syntax.{w64}
+use mir.Val.{toZ}
+use Rattle.spec.specs.Base.{sumℤ}
+use Rattle.spec.specs.Frame.{frameOf}
+use Rattle.window.specs.Line.{columnLine, lineFold}
+use Rattle.window.proofs.PixelLaws.{plan-limits}
+use Rattle.window.proofs.LineLaws.{fold-none}
+use Rattle.window.proofs.SumLaws.{few-columns}
+use Rattle.pixels.specs.Pixels.{LinePixels}
+use Rattle.pixels.proofs.Laws.{line-part}
+use Rattle.balance.specs.Balance.{signedWeight}
+use Rattle.balance.proofs.BalanceLaws.{pixels-weighed, columns, column-asks, column-in-planes, columns-asks, columns-again, columns-balance}
+use Rattle.balance.proofs.window_balance.Statement.{statement}
+use Rattle.balance.proofs.window_balance.Tie as tie
+
+abbrev Inv-loop : tie.InvT-loop
+Inv-loop file z weights w s t top x n sum₀ k₀ sum k =
+    (k ≤ n) × (toZ w64 sum ≡ sumℤ (λ a. lineFold _+ℤ_ (pos 0) file (columnLine z a t) (signedWeight (frameOf file) s t (top .0))) (s - z .radius) k)
+
+abbrev μ-loop : tie.MeasureT-loop
+μ-loop file z weights w s t top x n sum₀ k₀ sum k = n - k
+
+abbrev start : tie.At-loop Inv-loop μ-loop → tie.Start Inv-loop μ-loop
+start h = h .before .before .before .before .before
+
+-- the places passed: the turn, its column, and the list that the column was read into
+abbrev line : tie.After-read Inv-loop μ-loop → tie.After-column-line Inv-loop μ-loop
+line r = r .before .before
+
+abbrev turn : tie.After-read Inv-loop μ-loop → tie.In-loop Inv-loop μ-loop
+turn r = r .before .before .before
+
+abbrev list : tie.After-line-balance Inv-loop μ-loop → tie.After-read Inv-loop μ-loop
+list e = e .before .before .before .before
+
+listed : (r : tie.After-read Inv-loop μ-loop) → let at = start (turn r .before) in LinePixels (at .args .file .now) (at .args .z) (line r .column-line .result)
+    (take (r .read .result - 0) (drop 0 (r .read .last .1 .1 .1 .0)))
+listed r = line-part (r .read .result) (r .read .last .1 .1 .1 .0) (r .read .ensures .1)
+
+low-requires : tie.Need-low-requires Inv-loop μ-loop
+low-requires c κs = tt
+
+span-of-requires : tie.Need-span-of-requires Inv-loop μ-loop
+span-of-requires c κs = let at = c .before .before .before in (at .pre .column, plan-limits (at .pre .planned) .width, plan-limits (at .pre .planned) .radius)
+
+loop-holds : tie.Need-loop-holds Inv-loop μ-loop
+loop-holds c = (omega arith, sym (fold-none _+ℤ_ (pos 0) _ _))
+
+add-column-line : tie.Need-add-column-line Inv-loop μ-loop
+add-column-line c = let h = c .before in let at = start h in omega (arith, column-asks (at .pre) (at .args .top .0) (c .loop-test .taken) (h .before .span-of .ensures) (h .before .before .low .ensures) .1 .0)
+
+column-line-requires : tie.Need-column-line-requires Inv-loop μ-loop
+column-line-requires c κs = let h = c .before in let at = start h in column-asks (at .pre) (at .args .top .0) (c .loop-test .taken) (h .before .span-of .ensures) (h .before .before .low .ensures)
+
+slice-aggregate-read : tie.Need-slice-aggregate-read Inv-loop μ-loop
+slice-aggregate-read c = search needs
+
+read-requires : tie.Need-read-requires Inv-loop μ-loop
+read-requires c κs =
+    let d = c .before in
+    let h = d .before .before in
+    let at = start h in
+    (at .pre .planned, column-in-planes (at .pre) (at .args .top .0) (d .before .loop-test .taken) (h .before .span-of .ensures) (h .before .before .low .ensures) (d .column-line .ensures), omega arith)
+
+sub-line-balance : tie.Need-sub-line-balance Inv-loop μ-loop
+sub-line-balance c = search needs
+
+part-line-balance-start : tie.Need-part-line-balance-start Inv-loop μ-loop
+part-line-balance-start c = search needs
+
+part-line-balance-end : tie.Need-part-line-balance-end Inv-loop μ-loop
+part-line-balance-end c = search needs
+
+line-balance-requires : tie.Need-line-balance-requires Inv-loop μ-loop
+line-balance-requires c κs = let r = c .before .before .before in pixels-weighed (start (turn r .before) .pre) (listed r)
+
+add-requires : tie.Need-add-requires Inv-loop μ-loop
+add-requires c κs =
+    let r = list c in
+    let h = turn r .before in
+    let at = start h in
+    columns-asks (at .pre) (at .args .top .0) (turn r .loop-test .taken) (h .before .span-of .ensures) (h .before .before .low .ensures) (line r .column-line .ensures) (listed r)
+    (toZ w64 (h .loop .sum)) (c .line-balance .result) (h .loop .inv .1) (c .line-balance .ensures)
+
+add-k : tie.Need-add-k Inv-loop μ-loop
+add-k c =
+    let t = turn (list (c .before)) in
+    let h = t .before in
+    let at = start h in
+    omega (arith, t .loop-test .taken, h .before .span-of .ensures, few-columns (at .args .z) (plan-limits (at .pre .planned)) (at .args .s))
+
+loop-less : tie.Need-loop-less Inv-loop μ-loop
+loop-less c = omega (arith, turn (list (c .before)) .loop-test .taken)
+
+loop-again : tie.Need-loop-again Inv-loop μ-loop
+loop-again c =
+    let e = c .before in
+    let r = list e in
+    let h = turn r .before in
+    let at = start h in (
+      omega (arith, turn r .loop-test .taken),
+      columns-again (at .pre) (at .args .top .0) (turn r .loop-test .taken) (h .before .span-of .ensures) (h .before .before .low .ensures) (line r .column-line .ensures) (listed r)
+          (toZ w64 (h .loop .sum)) (e .line-balance .result) (c .add .result) (h .loop .inv .1) (e .line-balance .ensures) (c .add .ok) (c .add .ensures),
+    )
+
+returns : tie.Need-returns Inv-loop μ-loop
+returns c =
+    let h = c .before in
+    let at = start h in
+    let done : h .loop .k ≡ h .before .span-of .result = omega (arith, h .loop .inv .0, c .loop-test .left) in
+    h .loop .inv .1 ∙ ap (columns (at .pre) (at .args .top .0)) (done ∙ h .before .span-of .ensures) ∙ columns-balance (at .pre) (at .args .top .0)
+
+pub window-balance-spec : {M : Type 1} → statement M
+window-balance-spec =
+    tie.close
+    (tie.spec
+    Inv-loop
+    μ-loop
+    low-requires
+    span-of-requires
+    loop-holds
+    add-column-line
+    column-line-requires
+    slice-aggregate-read
+    read-requires
+    sub-line-balance
+    part-line-balance-start
+    part-line-balance-end
+    line-balance-requires
+    add-requires
+    add-k
+    loop-less
+    loop-again
+    returns)

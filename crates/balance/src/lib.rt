@@ -1,0 +1,152 @@
+// Document 01's balance of a window at any level, 2U(i) - T, from the file alone: no stores, one pass over the window's pixels in 64 bits.
+use frame::weight;
+use joint_rows::rows;
+use joint_rows::table;
+use joint_search::formula;
+use joint_search::formula::Formula;
+use spec::Guide;
+use spec::Level;
+use spec::Plan;
+use window::coefficients;
+use window::line::column_line;
+use window::line::low;
+use window::line::span_of;
+use window::pixel;
+use window::sums;
+ghost use mathlib.Core.Path.{_≡_};
+ghost use Prim.Native.Nat.{_<_, _≤_};
+ghost use lib.IntN.{pos, natAbs, _+ℤ_, _*ℤ_};
+ghost use Rattle.spec.specs.Frame.{frameOf};
+ghost use Rattle.spec.specs.Checks.{Planned};
+ghost use Rattle.spec.specs.Median.{balance};
+ghost use Rattle.pixels.specs.Pixels.{pixelFold};
+ghost use Rattle.joint.specs.Side.{side};
+ghost use Rattle.joint_rows.specs.Rows.{TableRow};
+ghost use Rattle.balance.specs.Balance.{signedBy, PixelsWeighed, Weighed};
+
+// A sum with a pixel's weight more, or less where the pixel's level is above the given one.
+pub fn add_signed(sum: i64, weight: i64, level: Level, top: Level) -> i64
+    requires { ⌜ (natAbs sum ≤ 173129780571075) × (natAbs weight ≤ 180155859075) ⌝ }
+    ensures { λ r. ⌜ r ≡ sum +ℤ side (top .0) (level .0) *ℤ weight ⌝ }
+{
+    if level.0 <= top.0 {
+        return sum + weight;
+    }
+    sum - weight
+}
+
+pub fn add(a: i64, b: i64) -> i64
+    requires { ⌜ (natAbs a ≤ 173129780571075) × (natAbs b ≤ 173129780571075) ⌝ }
+    ensures { λ r. ⌜ r ≡ a +ℤ b ⌝ }
+{
+    a + b
+}
+
+// What a list's pixels add.
+pub fn line_balance(p: &[u16], weights: &[u16], w: Formula, top: Level) -> i64
+    requires { ⌜ PixelsWeighed (now p) (now weights) w ⌝ }
+    ensures { λ r. ⌜ r ≡ pixelFold _+ℤ_ (pos 0) (now (p .entry)) (signedBy (now (weights .entry)) w (top .0)) ⌝ }
+{
+    let row = w.row;
+    let n = p.len() / 2;
+    let mut sum: i64 = 0;
+    let mut k = 0;
+    while k < n {
+        let at = 2 * k;
+        let next = at + 1;
+        let level = Level(p[at]);
+        let g = Guide(p[next]);
+        let x = weights[row + (g.0 as usize)] as i64;
+        sum = add_signed(sum, formula::combine(w.slope, w.offset, x, 1), level, top);
+        k += 1;
+    }
+    sum
+}
+
+// The window's columns, one after the other.
+pub fn window_balance(
+    file: &[u8],
+    z: Plan,
+    weights: &[u16],
+    w: Formula,
+    s: usize,
+    t: usize,
+    top: Level,
+) -> i64
+    requires { ⌜ Weighed (now file) z s t (now weights) w ⌝ }
+    ensures { λ r. ⌜ r ≡ balance (frameOf (now (file .entry))) s t (top .0) ⌝ }
+{
+    let x = low(s, z.radius);
+    let n = span_of(s, z.radius, z.width);
+    let mut sum: i64 = 0;
+    let mut k = 0;
+    while k < n {
+        let mut places = [0u16; 62];
+        let d = column_line(z, x + k, t);
+        let e = pixels::read(file, z, d, &mut places);
+        sum = add(sum, line_balance(&places[0..e], weights, w, top));
+        k += 1;
+    }
+    sum
+}
+
+// The table's row of the centre's guide.
+pub fn table_row(file: &[u8], z: Plan, f: Guide) -> [u16; 256]
+    requires { ⌜ (Planned (now file) z) × (f .0 < z .guides) ⌝ }
+    ensures { λ r. ⌜ TableRow (frameOf (now (file .entry))) (z .guides) (f .0) r ⌝ }
+{
+    let built = weight::constants();
+    let m = z.guides;
+    let mut out = [0u16; 256];
+    let mut k = 0;
+    while k < m {
+        out[k] = table::weight_at(&built, file, z, f, Guide(k as u16));
+        k += 1;
+    }
+    out
+}
+
+// Kind 1.
+pub fn table_balance(file: &[u8], z: Plan, s: usize, t: usize, top: Level) -> i64
+    requires { ⌜ (Planned (now file) z) × (z .kind ≡ 1) × (s < z .width) × (t < z .height) ⌝ }
+    ensures { λ r. ⌜ r ≡ balance (frameOf (now (file .entry))) s t (top .0) ⌝ }
+{
+    let centre = pixel::guide_at(file, z, t * z.width + s);
+    let row = table_row(file, z, centre);
+    let w = Formula {
+        row: 0,
+        slope: 1,
+        offset: 0,
+    };
+    window_balance(file, z, &row, w, s, t, top)
+}
+
+// Kind 2.
+pub fn guided_balance(file: &[u8], z: Plan, s: usize, t: usize, top: Level) -> i64
+    requires { ⌜ (Planned (now file) z) × (z .kind ≡ 2) × (s < z .width) × (t < z .height) ⌝ }
+    ensures { λ r. ⌜ r ≡ balance (frameOf (now (file .entry))) s t (top .0) ⌝ }
+{
+    let centre = pixel::guide_at(file, z, t * z.width + s);
+    let a = sums::start(file, z, s, t);
+    let k = coefficients::from_sums(z, a, centre);
+    let m = z.guides;
+    let mut row = [0u16; 256];
+    rows::ramp(&mut row, m);
+    let w = Formula {
+        row: 0,
+        slope: k.slope,
+        offset: k.offset,
+    };
+    window_balance(file, z, &row, w, s, t, top)
+}
+
+// The balance of the window at (s, t), at a level.
+pub fn balance_at(file: &[u8], z: Plan, s: usize, t: usize, top: Level) -> i64
+    requires { ⌜ (Planned (now file) z) × (s < z .width) × (t < z .height) ⌝ }
+    ensures { λ r. ⌜ r ≡ balance (frameOf (now (file .entry))) s t (top .0) ⌝ }
+{
+    if z.kind == 2 {
+        return guided_balance(file, z, s, t, top);
+    }
+    table_balance(file, z, s, t, top)
+}

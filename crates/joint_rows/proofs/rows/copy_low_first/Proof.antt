@@ -1,0 +1,97 @@
+-- `copy_low_first` meets its contract: after k turns the first k numbers are there. Assumes nothing.
+use native.Mathlib.Omega.{arith}
+use Prim.Native.Nat.{ℕ, _+_, _*_, _-_, _≤_}
+use mathlib.Core.Path.{_∙_}
+use Rattle.joint_rows.proofs.RowLaws.{Copied, copied-start, copied-next, low-first}
+use Rattle.joint_rows.proofs.rows.copy_low_first.Statement.{statement}
+use Rattle.joint_rows.proofs.rows.copy_low_first.Tie as tie
+
+abbrev Inv-loop : tie.InvT-loop
+Inv-loop file first m row₀ k₀ row k = (k ≤ m) × Copied file first k row₀ row
+
+abbrev μ-loop : tie.MeasureT-loop
+μ-loop file first m row₀ k₀ row k = m - k
+
+loop-holds : tie.Need-loop-holds Inv-loop μ-loop
+loop-holds c = (omega arith, copied-start _ _ _)
+
+mul-at : tie.Need-mul-at Inv-loop μ-loop
+mul-at c = omega (arith, c .before .before .pre)
+
+add-at : tie.Need-add-at Inv-loop μ-loop
+add-at c = omega (arith, c .before .before .pre, c .before .before .good .0)
+
+shared-slice-read-row : tie.Need-shared-slice-read-row Inv-loop μ-loop
+shared-slice-read-row c = omega (arith, c .before .loop-test .taken, c .before .before .before .pre)
+
+cast-row : tie.Need-cast-row Inv-loop μ-loop
+cast-row c = omega (arith, c .shared-slice-known .given (c .before .before .before .args .first + 2 * c .before .before .loop .k))
+
+add-row : tie.Need-add-row Inv-loop μ-loop
+add-row c = omega (arith, c .before .loop-test .taken, c .before .before .before .pre, c .before .before .before .good .0)
+
+shared-slice-read-row-2 : tie.Need-shared-slice-read-row-2 Inv-loop μ-loop
+shared-slice-read-row-2 c = omega (arith, c .before .before .loop-test .taken, c .before .before .before .before .pre)
+
+-- the two bytes at k
+abbrev place : tie.After-shared-slice-known2 Inv-loop μ-loop → ℕ
+place c = c .before .before .before .before .args .first + 2 * c .before .before .before .loop .k
+
+cast-row-2 : tie.Need-cast-row-2 Inv-loop μ-loop
+cast-row-2 c = omega (arith, c .shared-slice-known2 .given (place c + 1))
+
+mul-row : tie.Need-mul-row Inv-loop μ-loop
+mul-row c = omega (arith, c .shared-slice-known2 .given (place c + 1))
+
+add-row-2 : tie.Need-add-row-2 Inv-loop μ-loop
+add-row-2 c = omega (arith, c .before .shared-slice-known .given (place c), c .shared-slice-known2 .given (place c + 1))
+
+mul-row-2 : tie.Need-mul-row-2 Inv-loop μ-loop
+mul-row-2 c = omega (arith, c .before .before .loop-test .taken, c .before .before .before .before .pre)
+
+element-write-row : tie.Need-element-write-row Inv-loop μ-loop
+element-write-row c = omega (arith, c .before .before .loop-test .taken, c .before .before .before .before .pre, c .before .before .before .loop .inv .1 .long)
+
+add-k : tie.Need-add-k Inv-loop μ-loop
+add-k c = omega (arith, c .before .before .loop-test .taken, c .before .before .before .before .pre)
+
+loop-less : tie.Need-loop-less Inv-loop μ-loop
+loop-less c = omega (arith, c .before .before .loop-test .taken)
+
+loop-again : tie.Need-loop-again Inv-loop μ-loop
+loop-again c =
+    let t = c .before .before in
+    let at = t .before .before in (
+      omega (arith, t .loop-test .taken),
+      copied-next _ (omega (arith, t .loop-test .taken, at .pre))
+          (low-first (at .args .file .now) (at .args .first) (t .before .loop .k) (omega (arith, c .before .shared-slice-known .given (place c))) (omega (arith, c .shared-slice-known2 .given (place c + 1))))
+          (t .before .loop .inv .1),
+    )
+
+returns : tie.Need-returns Inv-loop μ-loop
+returns c =
+    let h = c .before in
+    record { long = h .loop .inv .1 .long ∙ h .before .pre .2; is = λ g l. h .loop .inv .1 .is g (omega (arith, h .loop .inv .0, c .loop-test .left)) }
+
+pub copy-low-first-spec : {M : Type 1} → statement M
+copy-low-first-spec =
+    tie.close
+    (tie.spec
+    Inv-loop
+    μ-loop
+    loop-holds
+    mul-at
+    add-at
+    shared-slice-read-row
+    cast-row
+    add-row
+    shared-slice-read-row-2
+    cast-row-2
+    mul-row
+    add-row-2
+    mul-row-2
+    element-write-row
+    add-k
+    loop-less
+    loop-again
+    returns)

@@ -1,0 +1,99 @@
+-- `own_row` meets its contract: the bytes copied, then each number's two exchanged. Assumes nothing.
+use native.Mathlib.Omega.{arith}
+use borrow.Author.Needs.{needs}
+use Prim.Native.Nat.{ℕ, _+_, _*_, _-_, _≤_, _<_}
+use lib.ListN.{length, length-replicate}
+use Rattle.spec.proofs.Plans.{facts}
+use Rattle.joint_rows.proofs.TableLaws.{guides-within, weight-place}
+use Rattle.joint_rows.proofs.RowLaws.{Exchanging, exchange-start, exchange-next, row-inside, row-exchanged}
+use Rattle.joint_rows.proofs.rows.own_row.Statement.{statement}
+use Rattle.joint_rows.proofs.rows.own_row.Tie as tie
+
+abbrev Inv-loop : tie.InvT-loop
+Inv-loop file m first row₀ k₀ row k = (k ≤ m) × Exchanging file first m k row
+
+abbrev μ-loop : tie.MeasureT-loop
+μ-loop file m first row₀ k₀ row k = m - k
+
+-- the row's place, small and in the file
+module _ (at : tie.Start Inv-loop μ-loop) where
+  small : at .args .f .0 * at .args .z .guides + 0 < 65536
+  small = weight-place (at .pre .0) (at .pre .2) (at .args .f .0) 0 (at .pre .1) (omega (arith, guides-within (at .pre .0) .0)) .0
+
+  inside : at .args .z .table + 2 * (at .args .f .0 * at .args .z .guides) + 2 * at .args .z .guides ≤ length (at .args .file .now)
+  inside = row-inside (at .pre .0) (at .pre .1) (at .pre .2)
+
+abbrev begin : tie.At-loop Inv-loop μ-loop → tie.Start Inv-loop μ-loop
+begin h = h .before .before .before .before .before .before
+
+cast-first : tie.Need-cast-first Inv-loop μ-loop
+cast-first c = search needs
+
+mul-first : tie.Need-mul-first Inv-loop μ-loop
+mul-first c = omega (arith, small (c .before .before))
+
+mul-first-2 : tie.Need-mul-first-2 Inv-loop μ-loop
+mul-first-2 c = omega (arith, small (c .before .before))
+
+add-first : tie.Need-add-first Inv-loop μ-loop
+add-first c = let at = c .before .before .before in omega (arith, inside at, at .good .0, small at, facts (at .pre .0) .value-last)
+
+copy-low-first-requires : tie.Need-copy-low-first-requires Inv-loop μ-loop
+copy-low-first-requires c κs = let at = c .before .before .before .before in (guides-within (at .pre .0) .1, omega (arith, inside at), length-replicate {A = ℕ} 256 0)
+
+loop-holds : tie.Need-loop-holds Inv-loop μ-loop
+loop-holds c = (omega arith, exchange-start (c .copy-low-first .ensures))
+
+mul-exchanged : tie.Need-mul-exchanged Inv-loop μ-loop
+mul-exchanged c = omega (arith, c .loop-test .taken, guides-within (begin (c .before) .pre .0) .1)
+
+array-read-exchanged : tie.Need-array-read-exchanged Inv-loop μ-loop
+array-read-exchanged c = omega (arith, c .loop-test .taken, guides-within (begin (c .before) .pre .0) .1, c .before .loop .inv .1 .long)
+
+exchanged-requires : tie.Need-exchanged-requires Inv-loop μ-loop
+exchanged-requires c κs = search needs
+
+mul-row : tie.Need-mul-row Inv-loop μ-loop
+mul-row c = let t = c .before in omega (arith, t .loop-test .taken, guides-within (begin (t .before) .pre .0) .1)
+
+array-write-row : tie.Need-array-write-row Inv-loop μ-loop
+array-write-row c = let t = c .before in omega (arith, t .loop-test .taken, guides-within (begin (t .before) .pre .0) .1, t .before .loop .inv .1 .long)
+
+add-k : tie.Need-add-k Inv-loop μ-loop
+add-k c = let t = c .before in omega (arith, t .loop-test .taken, guides-within (begin (t .before) .pre .0) .1)
+
+loop-less : tie.Need-loop-less Inv-loop μ-loop
+loop-less c = omega (arith, c .before .loop-test .taken)
+
+loop-again : tie.Need-loop-again Inv-loop μ-loop
+loop-again c =
+    let t = c .before in
+    (omega (arith, t .loop-test .taken), exchange-next (guides-within (begin (t .before) .pre .0) .1) (t .loop-test .taken) (c .exchanged .ensures) (t .before .loop .inv .1))
+
+returns : tie.Need-returns Inv-loop μ-loop
+returns c =
+    let h = c .before in
+    let at = begin h in
+    row-exchanged (at .pre .0) (at .pre .1) (at .pre .2) (omega (arith, c .loop-test .left)) (h .loop .inv .1)
+
+pub own-row-spec : {M : Type 1} → statement M
+own-row-spec =
+    tie.close
+    (tie.spec
+    Inv-loop
+    μ-loop
+    cast-first
+    mul-first
+    mul-first-2
+    add-first
+    copy-low-first-requires
+    loop-holds
+    mul-exchanged
+    array-read-exchanged
+    exchanged-requires
+    mul-row
+    array-write-row
+    add-k
+    loop-less
+    loop-again
+    returns)

@@ -1,0 +1,100 @@
+// The weights of a window's pixels as a row of numbers, and the window's formula over it.
+use frame::weight;
+use joint_search::formula::Formula;
+use spec::Guide;
+use spec::Plan;
+use window::pixel;
+ghost use mathlib.Core.Path.{_≡_};
+ghost use Prim.Native.Nat.{_+_, _*_, _<_, _≤_};
+ghost use lib.ListN.{length};
+ghost use lib.IntN.{pos};
+ghost use Rattle.spec.specs.Frame.{frameOf};
+ghost use Rattle.spec.specs.Checks.{Planned};
+ghost use Rattle.joint_search.specs.Formula.{Weighs};
+ghost use Rattle.joint_rows.specs.Rows.{Lower, Mirror, Ramp, TableRow, WeightRows, exchanged};
+
+// The numbers 0 1 2 .., m of them.
+pub fn ramp(row: &mut [u16], m: usize)
+    requires { ⌜ (m ≤ length (now row)) × (m ≤ 256) ⌝ }
+    ensures { λ _. ⌜ Ramp m (now (row .exit)) ⌝ }
+{
+    let mut k = 0;
+    while k < m {
+        row[k] = k as u16;
+        k += 1;
+    }
+}
+
+// The built-in weights from 255 guides below the centre's to 255 above: guide f's row begins at place 255 - f.
+pub fn mirror(out: &mut [u16])
+    requires { ⌜ 511 ≤ length (now out) ⌝ }
+    ensures { λ _. ⌜ Mirror (now (out .exit)) ⌝ }
+{
+    let built = weight::constants();
+    let mut k: u16 = 0;
+    while k < 511 {
+        out[k as usize] = built[weight::apart(Guide(255), Guide(k)) as usize];
+        k += 1;
+    }
+}
+
+// What a call of kind 1 makes once: the built-in weights, where the file has no table of its own.
+pub fn built_rows(z: Plan, out: &mut [u16])
+    requires { ⌜ 511 ≤ length (now out) ⌝ }
+    ensures { λ _. ⌜ WeightRows z (now (out .exit)) ⌝ }
+{
+    if z.weights == 0 {
+        mirror(out);
+    }
+}
+
+// m numbers of a file from a byte on, low byte first: a plain copy of the bytes, which is fast.
+fn copy_low_first(file: &[u8], first: usize, m: usize, row: &mut [u16; 256])
+    requires { ⌜ (m ≤ 256) × (first + 2 * m ≤ length (now file)) × (length (now row) ≡ 256) ⌝ }
+    ensures { λ _. ⌜ Lower (now (file .entry)) first m (now (row .exit)) ⌝ }
+{
+    let mut k = 0;
+    while k < m {
+        let at = first + 2 * k;
+        row[k] = (file[at] as u16) + (file[at + 1] as u16) * 256;
+        k += 1;
+    }
+}
+
+// A number's two bytes exchanged.
+fn exchanged(v: u16) -> u16
+    ensures { λ r. ⌜ r ≡ exchanged v ⌝ }
+{
+    (v % 256) * 256 + v / 256
+}
+
+// The file's own row of a guide. In two turns, because each is then done many numbers at a time.
+pub fn own_row(file: &[u8], z: Plan, f: Guide) -> [u16; 256]
+    requires { ⌜ (Planned (now file) z) × (f .0 < z .guides) × (z .weights ≡ 0 → ⊥) ⌝ }
+    ensures { λ r. ⌜ TableRow (frameOf (now (file .entry))) (z .guides) (f .0) r ⌝ }
+{
+    let m = z.guides;
+    let first = z.table + 2 * ((f.0 as usize) * m);
+    let mut row = [0u16; 256];
+    copy_low_first(file, first, m, &mut row);
+    let mut k = 0;
+    while k < m {
+        row[k] = exchanged(row[k]);
+        k += 1;
+    }
+    row
+}
+
+// Kind 1, built-in weights: the row of the centre's guide.
+pub fn built_formula(file: &[u8], z: Plan, weights: &[u16], s: usize, t: usize) -> Formula
+    requires { ⌜ (Planned (now file) z) × (z .kind ≡ 1) × (z .weights ≡ 0) × (s < z .width) × (t < z .height) ⌝ }
+    requires { ⌜ Mirror (now weights) ⌝ }
+    ensures { λ r. ⌜ (Weighs (frameOf (now (file .entry))) s t (now (weights .entry)) r) × (r .slope ≡ pos 1) × (r .offset ≡ pos 0) ⌝ }
+{
+    let centre = pixel::guide_at(file, z, t * z.width + s);
+    Formula {
+        row: 255 - (centre.0 as usize),
+        slope: 1,
+        offset: 0,
+    }
+}

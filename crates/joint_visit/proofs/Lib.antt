@@ -1,0 +1,3 @@
+pub mod WeightlessLaws
+pub mod ArriveLaws
+pub mod VisitLaws

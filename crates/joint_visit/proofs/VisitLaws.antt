@@ -1,0 +1,75 @@
+-- Laws of a visit: from the stores that a start or a move leaves to those that the search reads, and what kind 2 carries.
+-- Assumes nothing.
+use mathlib.Core.Path.{_≡_, refl, sym, ap, _∙_}
+use mathlib.Core.List.{List}
+use Prim.Native.Nat.{ℕ, _+_, _-_, _≤_, _<_}
+use native.Mathlib.Nat.{zero-add}
+use native.Mathlib.Omega.{arith}
+use lib.IntN.{ℤ}
+use lib.ListN.{length, getD, take, drop, length-drop}
+use lib.Seq.{getD-take, getD-drop, length-take-le}
+use Rattle.spec.specs.declared.Plan.{Plan}
+use Rattle.spec.specs.Frame.{frameOf}
+use Rattle.spec.specs.Checks.{Planned}
+use Rattle.spec.specs.Median.{median}
+use Rattle.spec.specs.Walk.{arrive}
+use Rattle.spec.proofs.Plans.{facts, pixel-of}
+use Rattle.spec.proofs.Totals.{median-low}
+use Rattle.spec.proofs.Climb.{guided-full}
+use Rattle.window.specs.declared.sums.Sums.{Sums}
+use Rattle.levels.specs.declared.search.Found.{Found}
+use Rattle.levels.specs.declared.tally.Tally.{Tally}
+use Rattle.levels.specs.Answer.{Profiled, Answered}
+use Rattle.histogram.specs.Histogram.{Histogram}
+use Rattle.histogram.proofs.Laws.{count-at, sum-at}
+use Rattle.joint.specs.Window.{JointAt}
+use Rattle.joint.proofs.WindowLaws.{settled}
+use Rattle.joint_search.specs.Search.{Counted}
+use Rattle.joint_visit.specs.Arrive.{Carried}
+
+-- ---- a part of a list
+part-long : (xs : List ℕ) (i n : ℕ) → i + n ≤ length xs → length (take n (drop i xs)) ≡ n
+part-long xs i n h = length-take-le n (drop i xs) (rw length-drop (omega arith))
+
+part-cell : (xs : List ℕ) (i n k : ℕ) → k < n → getD (take n (drop i xs)) k 0 ≡ getD xs (i + k) 0
+part-cell xs i n k h = getD-take n (drop i xs) k 0 h ∙ getD-drop i xs k 0
+
+module _ {b : List ℕ} {z : Plan} (pl : Planned b z) where
+  pub counted-of : {s t c : ℕ} {xs ws xs′ ws′ : List ℕ} {bx′ : List ℤ} → s < z .width → t < z .height → JointAt (frameOf b) s t c xs ws xs′ ws′ bx′ → Counted b z s t xs′ ws′
+  counted-of hs ht j =
+      let k = settled (pixel-of pl hs ht) j in
+      record { planned = pl; column = hs; row = ht; counts = k .counts; words = k .words }
+
+  pub level-in : {c : ℕ} → c < z .levels → c < frameOf b .set .levels
+  level-in h = rw (facts pl .levels) at h
+
+  -- kind 1 carries nothing
+  pub carried-none : {s t c : ℕ} {a : Sums} {w : Tally} {ns : List ℕ} → z .kind ≡ 1 → Carried (frameOf b) s t c a w ns
+  carried-none one = record { guided = λ two. absurd (omega (arith, one, facts pl .kind, two)) }
+
+  -- ---- the histogram, as the search reads it
+  module _ {s t : ℕ} {ns : List ℕ} (v : Histogram (frameOf b) s t ns) {l last : ℕ} (el : l ≡ z .levels) (ea : last ≡ l + l) where
+    pub numbers-long : last ≤ length ns
+    numbers-long = omega (arith, v .long, facts pl .levels)
+
+    pub profiled : Profiled (frameOf b) s t (take (l - 0) (drop 0 ns)) (take (last - l) (drop l ns))
+    profiled =
+        let f = facts pl in
+        let n : l - 0 ≡ z .levels = omega arith in
+        let m : last - l ≡ z .levels = omega arith in
+        rw (n, m)
+        (record {
+          count-long = part-long ns 0 (z .levels) (omega (arith, numbers-long)) ∙ f .levels;
+          sum-long = part-long ns l (z .levels) (omega (arith, numbers-long)) ∙ f .levels;
+          count-cell = λ i h. part-cell ns 0 (z .levels) i (rw (f .levels) h) ∙ ap (λ (j : ℕ). getD ns j 0) (zero-add i) ∙ count-at v i h;
+          sum-cell = λ i h. part-cell ns l (z .levels) i (rw (f .levels) h) ∙ ap (λ (j : ℕ). getD ns (j + i) 0) (el ∙ f .levels) ∙ sum-at v i h;
+        })
+
+  -- ---- kind 2: the answer is a level
+  module _ {s t c n : ℕ} (hs : s < z .width) (ht : t < z .height) (two : z .kind ≡ 2) {f : Found} (h : Answered (frameOf b) s t c n f) where
+    cut-is : arrive (frameOf b) s t c n .cut ≡ median (frameOf b) s t
+    unfolding arrive
+    cut-is = rw (guided-full (pixel-of pl hs ht) (sym (facts pl .kind) ∙ two) .1) refl
+
+    pub answer-low : f .level .0 < frameOf b .set .levels
+    answer-low = omega (arith, h .cut, cut-is, median-low (pixel-of pl hs ht))

@@ -1,0 +1,124 @@
+-- `arrive` meets its contract: the coefficients, the tally where it is needed, the answer from the histogram, then the box moved. Assumes nothing.
+use Prim.Native.Nat.{_+_, _≤_}
+use mathlib.Core.Path.{refl}
+use native.Mathlib.Omega.{arith}
+use lib.ListN.{length}
+use Rattle.window.proofs.PixelLaws.{levels-high}
+use borrow.Author.Needs.{needs}
+use Rattle.spec.specs.Frame.{frameOf}
+use Rattle.levels.specs.Answer.{Answered}
+use Rattle.levels.proofs.AnswerLaws.{guides-range, answerable, answered-at}
+use Rattle.joint_visit.proofs.VisitLaws.{numbers-long, profiled, level-in, answer-low}
+use Rattle.joint_visit.proofs.guided.arrive.Statement.{statement}
+use Rattle.joint_visit.proofs.guided.arrive.Tie as tie
+
+long : (at : tie.Start) → at .args .z .levels + at .args .z .levels ≤ length (at .args .numbers .now)
+long at = numbers-long (at .pre .0 .0 .planned) (at .pre .0 .2) refl refl
+
+abbrev start : tie.After-carried-where → tie.Start
+start w = w .before .before .before .before .before .before .before .before .before .before
+
+-- the window's answer
+says : (r : tie.After-answer) → let at = start (r .before .before .before) in
+    Answered (frameOf (at .args .file .now)) (at .args .s) (at .args .t) (at .args .cut .0) (at .args .shifts) (r .answer .result)
+says r =
+    let w = r .before .before .before in
+    let m = w .before .before in
+    let at = start w in
+    let k = at .pre .0 .0 in
+    answered-at (k .planned) (at .pre .0 .1) (k .column) (k .row) (m .before .coefficients-at .ensures) (profiled (k .planned) (at .pre .0 .2) refl refl) (m .monotone .ensures) (r .answer .ensures .0)
+    (r .answer .ensures .1)
+
+add-last : tie.Need-add-last
+add-last c = omega (arith, levels-high (c .before .before .before .before .before .before .pre .0 .0 .planned))
+
+coefficients-at-requires : tie.Need-coefficients-at-requires
+coefficients-at-requires c κs =
+    let at = c .before .before .before .before .before .before in
+    let k = at .pre .0 .0 in
+    ((k .planned, at .pre .0 .1), (k .column, k .row, at .pre .1 .0 .0))
+
+monotone-requires : tie.Need-monotone-requires
+monotone-requires c κs =
+    let at = c .before .before .before .before .before .before .before in
+    let k = at .pre .0 .0 in
+    (guides-range (k .planned) (at .pre .0 .1) (k .column) (k .row), c .coefficients-at .ensures .1)
+
+cast-carried-where : tie.Need-cast-carried-where
+cast-carried-where c = search needs
+
+add-carried-where : tie.Need-add-carried-where
+add-carried-where c = search needs
+
+carried-where-requires : tie.Need-carried-where-requires
+carried-where-requires c κs = let v = c .before .before .before .before .before .before .before .before .before .pre .1 .0 .1 in ((v .entering, v .leaving), v .carriable)
+
+sub-answer : tie.Need-sub-answer
+sub-answer c = search needs
+
+part-answer-start : tie.Need-part-answer-start
+part-answer-start c = search needs
+
+part-answer-end : tie.Need-part-answer-end
+part-answer-end c = omega (arith, long (start c))
+
+mul-answer : tie.Need-mul-answer
+mul-answer c = omega (arith, levels-high (start (c .before) .pre .0 .0 .planned))
+
+sub-answer-2 : tie.Need-sub-answer-2
+sub-answer-2 c = search needs
+
+part-answer-start-2 : tie.Need-part-answer-start-2
+part-answer-start-2 c = search needs
+
+part-answer-end-2 : tie.Need-part-answer-end-2
+part-answer-end-2 c = long (start (c .before))
+
+answer-requires : tie.Need-answer-requires
+answer-requires c κs =
+    let w = c .before .before in
+    let m = w .before .before in
+    let at = start w in
+    let k = at .pre .0 .0 in
+    let g = at .pre .1 .1 in
+    answerable (k .planned) (at .pre .0 .1) (k .column) (k .row) (m .before .coefficients-at .ensures) (profiled (k .planned) (at .pre .0 .2) refl refl) (m .monotone .ensures) (g .0) (g .1)
+    (λ e. at .pre .1 .0 .1 .carried _ (w .carried-where .ensures e))
+
+move-to-requires : tie.Need-move-to-requires
+move-to-requires c κs =
+    let r = c .before .before .before in
+    let at = start (r .before .before .before) in
+    let k = at .pre .0 .0 in
+    let low = level-in (k .planned) (at .pre .1 .1 .0) in
+    (k, (low, omega (arith, low, answer-low (k .planned) (k .column) (k .row) (at .pre .0 .1) (says r)), at .pre .1 .1 .2))
+
+returns : tie.Need-returns
+returns c =
+    let r = c .before .before .before .before in
+    let at = start (r .before .before .before) in
+    let h = says r in
+    record {
+      same = record { answer = h .said; cut = h .cut; shifts = h .shifts; box = c .move-to .ensures };
+      guided = record { sums = at .pre .1 .0 .0; below = h .below; histogram = at .pre .0 .2 };
+    }
+
+pub arrive-spec : {M : Type 1} → statement M
+arrive-spec =
+    tie.close
+    (tie.spec
+    add-last
+    coefficients-at-requires
+    monotone-requires
+    cast-carried-where
+    add-carried-where
+    carried-where-requires
+    sub-answer
+    part-answer-start
+    part-answer-end
+    mul-answer
+    sub-answer-2
+    part-answer-start-2
+    part-answer-end-2
+    answer-requires
+    move-to-requires
+    returns)

@@ -1,0 +1,61 @@
+-- What a walk carries, and what a window answers and adds to a walk.
+-- Assumes nothing.
+use mathlib.Core.Path.{_≡_}
+use mathlib.Core.List.{List}
+use Prim.Native.Nat.{ℕ, _+_}
+use lib.IntN.{ℤ}
+use Rattle.spec.specs.Frame.{Frame}
+use Rattle.spec.specs.Median.{median}
+use Rattle.spec.specs.Joint.{balanceBox}
+use Rattle.spec.specs.Walk.{arrive}
+use Rattle.window.specs.declared.sums.Sums.{Sums}
+use Rattle.window.specs.Sums.{SumsAt}
+use Rattle.joint.specs.Window.{JointAt}
+use Rattle.histogram.specs.Histogram.{Histogram}
+use Rattle.levels.specs.declared.tally.Tally.{Tally}
+use Rattle.levels.specs.Tally.{BelowAt}
+use Rattle.joint_search.specs.declared.find.Found.{Found}
+use Rattle.joint_visit.specs.declared.visit.Visit.{Visit}
+use Rattle.joint_visit.specs.declared.arrive.Arrival.{Arrival}
+
+-- a search rests at the answer after k shifts more than n, and the box is there
+pub record Answered (p : Frame) (s t k n : ℕ) (r : Found) (bx : List ℤ) : Type 0 where
+  pub level : r .level .0 ≡ median p s t
+  pub shifts : r .shifts ≡ n + k
+  pub box : bx ≡ balanceBox p s t (r .level .0)
+
+-- ---- a window's part in a walk, with the cut point c and n shifts before it
+
+-- what kind 2 carries beside the stores: the window's sums, its tally of the levels up to the cut point, and its histogram of levels
+pub record Guided (p : Frame) (s t c : ℕ) (a : Sums) (w : Tally) (ns : List ℕ) : Type 0 where
+  pub sums : SumsAt p s t a
+  pub below : BelowAt p s t (c + 1) w
+  pub histogram : Histogram p s t ns
+
+pub record Carried (p : Frame) (s t c : ℕ) (a : Sums) (w : Tally) (ns : List ℕ) : Type 0 where
+  pub guided : p .set .kind ≡ 2 → Guided p s t c a w ns
+
+pub record Arrives (p : Frame) (s t c n : ℕ) (r : Arrival) (bx : List ℤ) : Type 0 where
+  pub answer : r .answer .0 ≡ arrive p s t c n .said
+  pub cut : r .cut .0 ≡ arrive p s t c n .cut
+  pub shifts : r .shifts ≡ arrive p s t c n .shifts
+  pub box : bx ≡ balanceBox p s t (r .cut .0)
+
+-- the same of a visit; and in kind 2, with what it carries
+pub record Says (p : Frame) (s t c n : ℕ) (r : Visit) (bx : List ℤ) : Type 0 where
+  pub answer : r .answer .0 ≡ arrive p s t c n .said
+  pub cut : r .cut .0 ≡ arrive p s t c n .cut
+  pub shifts : r .shifts ≡ arrive p s t c n .shifts
+  pub box : bx ≡ balanceBox p s t (r .cut .0)
+
+pub record Answers (p : Frame) (s t c n : ℕ) (r : Visit) (bx : List ℤ) (ns : List ℕ) : Type 0 where
+  pub same : Says p s t c n r bx
+  pub guided : Guided p s t (r .cut .0) (r .sums) (r .below) ns
+
+-- either kind, with the stores, which held xs and ws
+pub record Visited (p : Frame) (s t c n : ℕ) (r : Visit) (xs ws xs′ ws′ : List ℕ) (bx′ : List ℤ) (ns′ : List ℕ) : Type 0 where
+  pub joint : JointAt p s t (r .cut .0) xs ws xs′ ws′ bx′
+  pub carried : Carried p s t (r .cut .0) (r .sums) (r .below) ns′
+  pub answer : r .answer .0 ≡ arrive p s t c n .said
+  pub cut : r .cut .0 ≡ arrive p s t c n .cut
+  pub shifts : r .shifts ≡ arrive p s t c n .shifts
