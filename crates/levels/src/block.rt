@@ -64,9 +64,6 @@ pub fn light(
     ensures { λ r. ⌜ (r ≡ true → Light k heaviest (now (counts .entry)) (from .0) count sum) ⌝ }
 {
     let i = from.0 as usize;
-    if i % BLOCK != 0 {
-        return false;
-    }
     if counts.len() < i + BLOCK {
         return false;
     }

@@ -88,7 +88,7 @@ pub fn ascend(
     let mut i = first;
     while i < last {
         let level = Level(i as u16);
-        if block::light(counts, k, heaviest, level, count, sum) {
+        if i % BLOCK == 0 && block::light(counts, k, heaviest, level, count, sum) {
             count += block::total(counts, level);
             sum += block::total(sums, level);
             i += BLOCK;

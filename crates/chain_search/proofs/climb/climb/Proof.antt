@@ -1,6 +1,6 @@
 -- `chain_search::climb::climb` meets its contract.
 -- Assumes nothing.
-use mathlib.Core.Path.{_∙_, sym}
+use mathlib.Core.Path.{sym}
 use native.Mathlib.Omega.{arith}
 use borrow.Author.Needs.{needs}
 use Rattle.chain_search.specs.Climb.{Climbs}

@@ -16,18 +16,18 @@ use Rattle.levels.specs.Search.{sumTo, weightOf}
 use Rattle.levels.proofs.block.light.Statement.{statement}
 use Rattle.levels.proofs.block.light.Tie as tie
 
-whole : (c : tie.Else2) → c .before .before .before .before .args .from .0 + 16 ≤ length (c .before .before .before .before .args .counts .now)
-whole c = omega (arith, c .if2 .left)
+whole : (c : tie.Else1) → c .before .before .before .args .from .0 + 16 ≤ length (c .before .before .before .args .counts .now)
+whole c = omega (arith, c .if1 .left)
 
-pixels-is : (c : tie.After-total) → c .total .result ≡ sumTo (c .before .before .before .before .before .args .counts .now) (c .before .before .before .before .before .args .from .0 + 16) - sumTo (c .before .before .before .before .before .args .counts .now) (c .before .before .before .before .before .args .from .0)
+pixels-is : (c : tie.After-total) → c .total .result ≡ sumTo (c .before .before .before .before .args .counts .now) (c .before .before .before .before .args .from .0 + 16) - sumTo (c .before .before .before .before .args .counts .now) (c .before .before .before .before .args .from .0)
 pixels-is c = omega (arith, c .total .ensures)
 
 pixels-few : (c : tie.After-total) → c .total .result ≤ 961
-pixels-few c = let st = c .before .before .before .before .before in omega (arith, c .total .ensures, st .pre .1 .2 (st .args .from .0 + 16) (whole (c .before)))
+pixels-few c = let st = c .before .before .before .before in omega (arith, c .total .ensures, st .pre .1 .2 (st .args .from .0 + 16) (whole (c .before)))
 
 abbrev env : tie.After-total → List Cell
 env c =
-    let st = c .before .before .before .before .before in
+    let st = c .before .before .before .before in
     paramCell w64 (st .args .k .slope) 235497855 (st .pre .0 .0 .slope) tt
     ∷ paramCell w64 (st .args .k .offset) 180155859075 (st .pre .0 .0 .offset) tt
     ∷ paramCell w64 (st .args .k .total) 173129780571075 (st .pre .0 .0 .total) tt
@@ -40,17 +40,14 @@ env c =
 cast-i : tie.Need-cast-i
 cast-i c = search needs
 
+add-if1 : tie.Need-add-if1
+add-if1 c = search needs
+
 returns : tie.Need-returns
 returns c = λ e. absurd (true≢false (sym e))
 
-add-if2 : tie.Need-add-if2
-add-if2 c = search needs
-
-returns-2 : tie.Need-returns-2
-returns-2 c = λ e. absurd (true≢false (sym e))
-
 total-requires : tie.Need-total-requires
-total-requires c κs = let st = c .before .before .before .before in (whole c, st .pre .1 .1, omega (arith, st .pre .1 .2 (st .args .from .0 + 16) (whole c)))
+total-requires c κs = let st = c .before .before .before in (whole c, st .pre .1 .1, omega (arith, st .pre .1 .2 (st .args .from .0 + 16) (whole c)))
 
 cast-most : tie.Need-cast-most
 cast-most c = search needs
@@ -79,10 +76,10 @@ add-most-2 c = need! w64 (env (c .before .before .before .before)) (search signe
 mul-result : tie.Need-mul-result
 mul-result c = need! w64 (env (c .before .before .before .before)) (search signedCode depth 12) tt
 
-returns-3 : tie.Need-returns-3
-returns-3 c = λ e.
+returns-2 : tie.Need-returns-2
+returns-2 c = λ e.
     let a = c .before .before .before .before .before .before in
-    let st = a .before .before .before .before .before in
+    let st = a .before .before .before .before in
     record {
       whole = whole (a .before);
       short = subst (λ (n : ℕ). (pos 2 *ℤ (weightOf (st .args .k) (st .args .count) (st .args .sum) +ℤ st .args .heaviest *ℤ pos n)) <ℤ st .args .k .total) (pixels-is a)
@@ -94,9 +91,8 @@ light-spec =
     tie.close
     (tie.spec
     cast-i
+    add-if1
     returns
-    add-if2
-    returns-2
     total-requires
     cast-most
     mul-most
@@ -107,4 +103,4 @@ light-spec =
     mul-most-3
     add-most-2
     mul-result
-    returns-3)
+    returns-2)
