@@ -1,5 +1,5 @@
-// The list of a window: made at a start, whatever the store held, and carried to a neighbour by one line out and one line in. The line goes out first,
-// so that a node is free for each level that comes in.
+// The list of a window: made at a start, whatever the store held, and carried to a neighbour by one line out and one line in. The line goes out
+// first, so that a node is free for each level that comes in.
 use crate::FreeList;
 use crate::line;
 use crate::list;
