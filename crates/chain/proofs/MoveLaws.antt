@@ -26,8 +26,8 @@ use Rattle.pixels.specs.Pixels.{countOf, pixelFold, PixelsBelow, LinePixels}
 use Rattle.pixels.proofs.AdditiveLaws.{stepped}
 use Rattle.pixels.proofs.SumLaws.{below-most}
 use Rattle.chain.specs.declared.FreeList.{FreeList}
-use Rattle.chain.specs.Chain.{sumBelow, Beyond, Cleared, Size}
-use Rattle.chain.specs.Lines.{nodesOf, sizeOf, counted, guided, lineCount, lineGuides, withCounts, withGuides, ListOf, MergeableLine, MergedLine}
+use Rattle.chain.specs.Chain.{sumBelow, Beyond, Cleared, Size, ListOf}
+use Rattle.chain.specs.Lines.{nodesOf, sizeOf, counted, guided, lineCount, lineGuides, withCounts, withGuides, MergeableLine, MergedLine}
 use Rattle.chain.specs.Moves.{levelCounts, levelGuides, Listed, storeSize, Stored, Slides, Slid}
 use Rattle.chain.proofs.SumLaws.{sum-ext}
 use Rattle.chain.proofs.MergeLaws.{chain-ext}

@@ -9,7 +9,7 @@ use Rattle.spec.specs.declared.Plan.{Plan}
 use Rattle.pixels.specs.Pixels.{countOf, pixelFold, PixelsBelow}
 use Rattle.chain.specs.declared.FreeList.{FreeList}
 use Rattle.chain.specs.Keys.{NoneLeft}
-use Rattle.chain.specs.Chain.{sumBelow, Chain, Beyond, Size}
+use Rattle.chain.specs.Chain.{sumBelow, Beyond, Size, ListOf}
 
 -- a node for each pixel of the largest window
 abbrev pub nodesOf : Plan → ℕ
@@ -38,10 +38,6 @@ withCounts present p cnt = λ i. if present then cnt i + lineCount p i else cnt 
 
 abbrev pub withGuides : Bool → List ℕ → (ℕ → ℕ) → ℕ → ℕ
 withGuides present p sm = λ i. if present then sm i + lineGuides p i else sm i
-
--- the chain of a store with its free list
-abbrev pub ListOf : Size → (ℕ → ℕ) → (ℕ → ℕ) → FreeList → List ℕ → Type 0
-ListOf z cnt sm free m = Chain (z .cap) (z .levels) cnt sm (free .head) (free .count) m
 
 -- ---- the pixels p come into the linked list (adding), or go out of it; cnt and sm are the counts and guide sums without them
 

@@ -13,9 +13,9 @@ use Rattle.spec.specs.Chain.{ChainStore}
 use Rattle.spec.specs.Calls.{roomOf}
 use Rattle.pixels.specs.Pixels.{PixelsBelow}
 use Rattle.chain.specs.declared.FreeList.{FreeList}
-use Rattle.chain.specs.Chain.{Beyond, Size}
+use Rattle.chain.specs.Chain.{Beyond, Size, ListOf}
 use Rattle.chain.specs.Keys.{NoneLeft}
-use Rattle.chain.specs.Lines.{sizeOf, ListOf, withCounts, withGuides, InsertLineReady}
+use Rattle.chain.specs.Lines.{sizeOf, withCounts, withGuides, InsertLineReady}
 
 -- the pixels of level i in the window at (s, t), and the sum of their guides
 abbrev pub levelCounts : List ℕ → ℕ → ℕ → ℕ → ℕ

@@ -19,7 +19,7 @@ use Rattle.chain.proofs.moves.start.Tie as tie
 
 abbrev Inv-loop : tie.InvT-loop
 Inv-loop file z s t numbers₀ cap left columns free₀ k₀ numbers free k =
-    (k ≤ columns) × (length numbers ≡ length numbers₀) × Beyond (nodesOf z) numbers₀ numbers × ColumnsListed file z s t k free numbers
+    ColumnsListed file z s t k free numbers × (k ≤ columns) × (length numbers ≡ length numbers₀) × Beyond (nodesOf z) numbers₀ numbers
 
 abbrev μ-loop : tie.MeasureT-loop
 μ-loop file z s t numbers₀ cap left columns free₀ k₀ numbers free k = columns - k
@@ -65,7 +65,7 @@ loop-holds c =
     let k = c .before .before in
     let z = k .before .before .before .before in
     let at = z .before .before .before in
-    (omega arith, refl, (λ j h. refl), columns-empty (at .pre .0) _ _ (at .pre .1 .0 .0) (at .pre .1 .0 .1) _ (rw (z .node-count .ensures .0) at (k .clear .ensures)))
+    (columns-empty (at .pre .0) _ _ (at .pre .1 .0 .0) (at .pre .1 .0 .1) _ (rw (z .node-count .ensures .0) at (k .clear .ensures)), omega arith, refl, λ j h. refl)
 
 add-column-line : tie.Need-add-column-line Inv-loop μ-loop
 add-column-line c = omega (arith, wide c, plan-limits (start (c .before) .pre .0) .width)
@@ -113,7 +113,7 @@ merge-line-requires c κs =
     let r = c .before .before .before .before in
     let h = turn r .before in
     let at = start h in
-    columns-insertable (at .pre .0) _ _ (at .pre .1 .0 .0) (at .pre .1 .0 .1) (within (turn r)) (line-is r) (listed r) (h .loop .inv .3)
+    columns-insertable (at .pre .0) _ _ (at .pre .1 .0 .0) (at .pre .1 .0 .1) (within (turn r)) (line-is r) (listed r) (h .loop .inv .0)
 
 -- the reading, from a turn's end
 abbrev read : tie.After-slice-known3 Inv-loop μ-loop → tie.After-read Inv-loop μ-loop
@@ -135,24 +135,24 @@ loop-again c =
     let h = turn r .before in
     let at = start h in
     let v = h .loop .inv in (
+      columns-inserted (at .pre .0) _ _ (at .pre .1 .0 .0) (at .pre .1 .0 .1) (within (turn r)) (line-is r) (listed r) (v .0) (n .merge-line .ensures),
       omega (arith, turn r .loop-test .taken),
-      n .merge-line .kept .1 .1 .1 .0 ∙ v .1,
-      (λ j b. columns-beyond (at .pre .0) _ _ (at .pre .1 .0 .0) (at .pre .1 .0 .1) (within (turn r)) (line-is r) (listed r) (v .3) (n .merge-line .ensures) j b ∙ v .2 j b),
-      columns-inserted (at .pre .0) _ _ (at .pre .1 .0 .0) (at .pre .1 .0 .1) (within (turn r)) (line-is r) (listed r) (v .3) (n .merge-line .ensures),
+      n .merge-line .kept .1 .1 .1 .0 ∙ v .2,
+      λ j b. columns-beyond (at .pre .0) _ _ (at .pre .1 .0 .0) (at .pre .1 .0 .1) (within (turn r)) (line-is r) (listed r) (v .0) (n .merge-line .ensures) j b ∙ v .3 j b,
     )
 
 same-length : tie.Need-same-length Inv-loop μ-loop
-same-length c = let h = c .before in h .loop .inv .1 ∙ cleared h .clear .kept .0
+same-length c = let h = c .before in h .loop .inv .2 ∙ cleared h .clear .kept .0
 
 returns : tie.Need-returns Inv-loop μ-loop
 returns c =
     let h = c .before in
     let at = start h in
     let v = h .loop .inv in
-    let e : h .loop .k ≡ span (at .args .z .radius) (at .args .s) (at .args .z .width) = omega (arith, v .0, c .loop-test .left, spanned h .span-of .ensures) in
-    listed-stored (at .pre .0) _ _ _ (v .1 ∙ cleared h .clear .kept .0)
-    (λ j b. v .2 j b ∙ cleared h .clear .ensures .beyond j (rw (sized h .node-count .ensures .0) b))
-    (columns-listed (at .pre .0) _ _ (at .pre .1 .0 .0) (at .pre .1 .0 .1) (rw e at (v .3)))
+    let e : h .loop .k ≡ span (at .args .z .radius) (at .args .s) (at .args .z .width) = omega (arith, v .1, c .loop-test .left, spanned h .span-of .ensures) in
+    listed-stored (at .pre .0) _ _ _ (v .2 ∙ cleared h .clear .kept .0)
+    (λ j b. v .3 j b ∙ cleared h .clear .ensures .beyond j (rw (sized h .node-count .ensures .0) b))
+    (columns-listed (at .pre .0) _ _ (at .pre .1 .0 .0) (at .pre .1 .0 .1) (rw e at (v .0)))
 
 pub start-spec : {M : Type 1} → statement M
 start-spec =
