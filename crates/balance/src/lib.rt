@@ -4,10 +4,10 @@ use joint_rows::rows;
 use joint_rows::table;
 use joint_search::formula;
 use joint_search::formula::Formula;
+use levels::answer;
 use spec::Guide;
 use spec::Level;
 use spec::Plan;
-use window::coefficients;
 use window::line::column_line;
 use window::line::low;
 use window::line::span_of;
@@ -126,9 +126,8 @@ pub fn guided_balance(file: &[u8], z: Plan, s: usize, t: usize, top: Level) -> i
     requires { ⌜ (Planned (now file) z) × (z .kind ≡ 2) × (s < z .width) × (t < z .height) ⌝ }
     ensures { λ r. ⌜ r ≡ balance (frameOf (now (file .entry))) s t (top .0) ⌝ }
 {
-    let centre = pixel::guide_at(file, z, t * z.width + s);
     let a = sums::start(file, z, s, t);
-    let k = coefficients::from_sums(z, a, centre);
+    let k = answer::coefficients_at(file, z, a, s, t);
     let m = z.guides;
     let mut row = [0u16; 256];
     rows::ramp(&mut row, m);
