@@ -10,7 +10,7 @@ ghost use Rattle.joint_search.specs.Scan.{Marked, Row, cellSum, cellDot}
 ghost use Rattle.joint_search.specs.Box.{BoxLow, boxAll, boxDot};
 ghost use Rattle.joint_search.specs.Formula.{Small};
 
-// The row begins at a place of the decoded weights.
+// A window's weights as a row of numbers, which begins at a place of those lent, times a slope plus an offset.
 pub struct Formula {
     pub row: usize,
     pub slope: i64,
