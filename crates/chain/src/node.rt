@@ -17,8 +17,8 @@ pub fn place(node: u32) -> usize
 // Whether the node is there and has the level.
 pub fn holds(numbers: &[u32], node: u32, level: Level) -> bool
     requires { ⌜ 4 * node < length (now numbers) ⌝ }
-    ensures { λ r. ⌜ (r ≡ true → (0 < node) × (levelIn (now (numbers .entry)) node ≡ level .0)) ⌝ }
-    ensures { λ r. ⌜ (r ≡ false → 0 < node → levelIn (now (numbers .entry)) node ≡ level .0 → ⊥) ⌝ }
+    ensures { λ r. ⌜ (r ≡ true → (0 < node) × (levelIn (now (numbers .entry)) node ≡ level .0))
+        × (r ≡ false → 0 < node → levelIn (now (numbers .entry)) node ≡ level .0 → ⊥) ⌝ }
 {
     if node == 0 {
         return false;
