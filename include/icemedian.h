@@ -95,8 +95,8 @@ enum { ICEMEDIAN_DEFAULT_RADIUS = 7, ICEMEDIAN_DEFAULT_SMOOTHING = 64 };
 #define ICEMEDIAN_RADIUS(file, length) ((file)[(length) - 19])
 #define ICEMEDIAN_SMOOTHING(file, length) ICEMEDIAN_TRAILER16(file, length, 10)
 
-/* Stack: icemedian_filter and icemedian_walk take about 142 KB of it, the other calls under 2 KB. Threads
- * often have less by default (128 KB with musl) and end without a status where it does not suffice. */
+/* Stack: icemedian_filter and icemedian_walk take under 16 KB of it, icemedian_balance under 2 KB, the other
+ * calls under 1 KB. */
 
 /* Checks 1 to 7. */
 uint32_t icemedian_check(const uint8_t *file, size_t file_length, uint64_t *offset);
