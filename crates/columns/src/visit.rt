@@ -48,8 +48,8 @@ pub fn tally_below(file: &[u8], z: Plan, numbers: &[u32], s: usize, t: usize, en
     search::gather(&numbers[at..middle], &numbers[middle..last], end)
 }
 
-// The tally a of the levels below the end in the window at (s, t), carried to the neighbour
-// (s2, t2) where that is asked for: the lines are read only there.
+// The tally a of the levels below the end in the window at (s, t), carried to the neighbour (s2, t2) where that is asked for: the lines are read
+// only there.
 pub fn carry(
     file: &[u8],
     z: Plan,

@@ -116,8 +116,7 @@ pub record Minimises (p : Frame) (s t m : ℕ) : Type 0 where
   pub lower : NoneNegative p s t → NotAllZero p s t → (i : ℕ) → i < m → differences p s t m <ℤ differences p s t i
 
 -- the answer to a byte, in the state before it: demand 2's level at the pixel that it leads to, which minimises there; or the mark of a byte that
--- moves
--- nothing. 65,534 exactly for a move that would leave the picture, 65,533 exactly for another byte, a level exactly for a move that is made
+-- moves nothing. 65,534 exactly for a move that would leave the picture, 65,533 exactly for another byte, a level exactly for a move that is made
 pub record Answered (p : Frame) (x : State) (byte m : ℕ) : Type 0 where
   pub moved : (s t : ℕ) → move (p .set) (x .column) (x .row) byte ≡ To s t → LowestLevel p s t m × Minimises p s t m
   pub off : (m ≡ 65534) ↔ (move (p .set) (x .column) (x .row) byte ≡ Nowhere 65534)

@@ -43,9 +43,8 @@ writerRows k v g a room =
     ∷ (scanList v (k .levels) 0 ▷ scanList g (k .guides) (2 * pixels k) ▷ scanList a (heaviest + 1) (4 * pixels k))
     ∷ accepted ∷ accepted ∷ accepted ∷ refuse 11 (ltb room (writtenSize k (length a))) ∷ []
 
--- a number is given, with its values, exactly if its row fires and no row before it does; there is no number 0; and the outcome is accepted
--- exactly if
--- no row fires
+-- a number is given, with its values, exactly if its row fires and no row before it does; there is no number 0; and the outcome is accepted exactly
+-- if no row fires
 pub record ByTable (rows : List Outcome) (o : Outcome) : Type 0 where
   pub given : (n : ℕ) (l : List ℕ) → (o ≡ refused (suc n) l)
       ↔ ((getD rows n accepted ≡ refused (suc n) l) × ((j : ℕ) → j < n → getD rows j accepted ≡ accepted))

@@ -1,6 +1,5 @@
 -- A list of pixels that enters the window or leaves it: what it asks of the stores and the box, and what they hold afterwards. The counts and the
--- box are
--- apart, so that a way without a box has the counts alone.
+-- box are apart, so that a way without a box has the counts alone.
 -- Assumes nothing.
 use mathlib.Core.Path.{_≡_}
 use mathlib.Core.Bool.{Bool, true}

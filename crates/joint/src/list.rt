@@ -1,6 +1,5 @@
 // A list of pixels that enters the window or leaves it: counts and occupancy words, alone or with the balance box at the cut point. One loop does
-// both,
-// because a move in kind 2 takes 3 % longer with two.
+// both, because a move in kind 2 takes 3 % longer with two.
 use crate::cell;
 use crate::side::side_changed;
 use spec::Guide;

@@ -34,9 +34,8 @@ pub fn tally_below(file: &[u8], z: Plan, numbers: &[u32], s: usize, t: usize, en
     search::gather(&numbers[0..l], &numbers[l..last], end)
 }
 
-// The window's answer, and the box moved to it; before is the tally of the window that the two lists lead from. Only a monotone window needs it,
-// and it is
-// carried there alone.
+// The window's answer, and the box moved to it; before is the tally of the window that the two lists lead from. Only a monotone window needs it, and
+// it is carried there alone.
 pub fn arrive(
     file: &[u8],
     z: Plan,

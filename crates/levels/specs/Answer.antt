@@ -24,8 +24,7 @@ pub record Profiled (p : Frame) (s t : ℕ) (counts sums : List ℕ) : Type 0 wh
   pub sum-cell : (i : ℕ) → i < p .set .levels → getD sums i 0 ≡ levelSum p s t (guide p) i
 
 -- what an answer asks, by the coefficients k over so many guides: a search that ends, and what no pixel outweighs; from the cut point c of a
--- monotone window
--- also the tally of the levels up to it, and that the cumulative weight never falls
+-- monotone window also the tally of the levels up to it, and that the cumulative weight never falls
 pub record Answerable (k : Coefficients) (guides : ℕ) (monotone : Bool) (c n : ℕ) (a : Tally) (counts sums : List ℕ) : Type 0 where
   pub search : Searchable k counts sums
   pub heaviest : (w : ℤ) → EndsBelow k guides w → Heaviest k counts sums w

@@ -29,9 +29,8 @@ pub fn coefficients_at(file: &[u8], z: Plan, a: Sums, s: usize, t: usize) -> Coe
     coefficients::from_sums(z, a, centre)
 }
 
-// By the coefficients k over so many guides: from the cut point where the window is monotone, with the tally of the levels up to it; else, and
-// that is
-// often, from level 0, where no tally is asked for.
+// By the coefficients k over so many guides: from the cut point where the window is monotone, with the tally of the levels up to it; else, and that
+// is often, from level 0, where no tally is asked for.
 pub fn answer(
     counts: &[u32],
     sums: &[u32],

@@ -1,6 +1,5 @@
--- A store whose number at q adds up a share of each of the window's pixels, whatever the places q are: fields of a record, cells of a list, a
--- level and a
--- guide. How the numbers are kept is the store's own; how they change with a line, and what they are for a window, is said here once.
+-- A store whose number at q adds up a share of each of the window's pixels, whatever the places q are: fields of a record, cells of a list, a level
+-- and a guide. How the numbers are kept is the store's own; how they change with a line, and what they are for a window, is said here once.
 -- Assumes nothing.
 use mathlib.Core.Path.{_≡_}
 use mathlib.Core.Bool.{Bool, true, false}

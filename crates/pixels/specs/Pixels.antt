@@ -35,8 +35,7 @@ pub record PixelsBelow (l m : ℕ) (p : List ℕ) : Type 0 where
   pub guide : (k : ℕ) → k < countOf p → guideIn p k < m
 
 -- the list has the line's pixels: every sum over it is that over the line. Nothing else is said of their order or number, so that a line may have
--- pixels
--- that count nowhere.
+-- pixels that count nowhere.
 pub record LinePixels (b : List ℕ) (z : Plan) (d : Line) (p : List ℕ) : Type 0 where
   pub below : PixelsBelow (z .levels) (z .guides) p
   pub sum : (h : ℕ → ℕ → ℕ) → pixelFold _+_ 0 p h ≡ lineFold _+_ 0 b d h

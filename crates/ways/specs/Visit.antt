@@ -69,9 +69,8 @@ pub record Kept (way : Way) (k : Settings) (a z : Stores) : Type 0 where
 abbrev pub Cleared : Way → Plan → List ℕ → Type 0
 Cleared way z ns = way ≡ Joint → Blank (z .levels) ns
 
--- what the way carries to the next window of a file: the window's sums, for columns and joint the tally up to the cut point, for joint the
--- histogram of
--- levels in the numbers, for the chain its free list
+-- what the way carries to the next window of a file: the window's sums, for columns and joint the tally up to the cut point, for joint the histogram
+-- of levels in the numbers, for the chain its free list
 unfoldable pub Carried : Way → List ℕ → ℕ → ℕ → ℕ → List ℕ → Carry → Type 0
 Carried Joint b s t c m k = joint.Carried (frameOf b) s t c (k .sums) (k .below) m
 Carried Columns b s t c m k = SumsAt (frameOf b) s t (k .sums) × BelowAt (frameOf b) s t (c + 1) (k .below)
