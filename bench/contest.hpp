@@ -1,4 +1,4 @@
-// The contestants, the proved library and the yardstick in the same four contests, and the clock.
+// The contestants, the proved library and the yardstick in the same contests, and the clock.
 #pragma once
 #include "../include/icemedian.h"
 #include "yardstick.hpp"
@@ -8,9 +8,11 @@
 
 namespace bench {
 
-// What is timed: a way and a kind. The library and the yardstick both have all four.
-enum Contest { JOINT_TABLE, JOINT_GUIDED, COLUMNS, CHAIN, CONTESTS };
-inline constexpr const char *NAMES[CONTESTS] = {"joint, kind 1", "joint, kind 2", "columns", "chain"};
+// What is timed: a way and a kind, and in kind 1 the built-in weights or a table of the file's own. The
+// library and the yardstick both have all of them.
+enum Contest { JOINT_TABLE, JOINT_OWN, JOINT_GUIDED, COLUMNS, CHAIN, CONTESTS };
+inline constexpr const char *NAMES[CONTESTS] = {"joint, kind 1", "joint, own table", "joint, kind 2", "columns", "chain"};
+inline Kind kind_of(Contest contest) { return contest == JOINT_TABLE || contest == JOINT_OWN ? TABLE : GUIDED; }
 inline constexpr double NOT_TIMED = 0;
 // Every contestant has so many turns, and its best counts.
 inline constexpr int ROUNDS = 6;
@@ -72,6 +74,20 @@ class Library {
         accept(icemedian_walk(file.data(), file.size(), way, 0, 0, moves.data(), moves.size(), counts.data(), counts.size(),
                               words.data(), words.size(), numbers.data(), numbers.size(), output.data(), output.size(), &shifts,
                               &cut, box, &offset));
+#endif
+    }
+    void check() {
+#ifdef WITH_LIBRARY
+        uint64_t offset;
+        accept(icemedian_check(file.data(), file.size(), &offset));
+#endif
+    }
+    // Of the first pixel's window at level 1.
+    void balance() {
+#ifdef WITH_LIBRARY
+        uint64_t offset;
+        int64_t balance;
+        accept(icemedian_balance(file.data(), file.size(), 0, 0, 1, &balance, &offset));
 #endif
     }
     // The contestants must have done the same work.

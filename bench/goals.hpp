@@ -49,11 +49,12 @@ inline std::vector<Goal> goals_of(const Rows &rows) {
         goals.push_back({"OpenCV's time / library's, joint, kind 1," + place(noisy), Goal::AT_LEAST, noisy ? 1.6 : 2.0,
                          mean(on(noisy, rows), opencv(), library(JOINT_TABLE))});
     goals.push_back(slowest(rows));
-    for (int c = 0; c < CONTESTS; c++)
+    // A file's own table has no goal yet: its row is made anew at each pixel, which the C++ need not do.
+    for (int c : {JOINT_TABLE, JOINT_GUIDED, COLUMNS, CHAIN})
         for (bool noisy : {false, true})
             goals.push_back({std::string("library's time / C++'s, ") + NAMES[c] + "," + place(noisy), Goal::AT_MOST, 1.15,
                              mean(on(noisy, rows), library(c), yardstick(c))});
-    const double growth[CONTESTS] = {3, 3, 1.4, 5};
+    const double growth[CONTESTS] = {3, 3, 3, 1.4, 5};
     for (int c = 0; c < CONTESTS; c++)
         goals.push_back({std::string("library's time at r 15 / at r 3, ") + NAMES[c] + "," + place(false), Goal::AT_MOST,
                          growth[c], growth_in_radius(on(false, rows), library(c))});

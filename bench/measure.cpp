@@ -15,21 +15,22 @@ static Frame frame_of(bool noisy, const Settings &k) { return noisy ? noise(k) :
 // Times every contestant on one frame, in turns.
 static Row measure(bool noisy, Settings k) {
     k.kind = TABLE;
-    Frame table = frame_of(noisy, k);
+    Frame table = frame_of(noisy, k), own = table;
+    own.built_in = false;
     k.kind = GUIDED;
     Frame guided = frame_of(noisy, k);
+    auto frame_for = [&](int c) -> const Frame & { return c == JOINT_TABLE ? table : c == JOINT_OWN ? own : guided; };
     std::vector<uint8_t> moves = serpentine(k);
     OpenCv opencv(table);
     std::vector<Library> libraries;
-    for (int c = 0; c < CONTESTS; c++) libraries.emplace_back(Contest(c), c == JOINT_TABLE ? table : guided);
+    for (int c = 0; c < CONTESTS; c++) libraries.emplace_back(Contest(c), frame_for(c));
 
     Row row{noisy, k, NOT_TIMED, {}, {}};
     for (int round = 0; round < ROUNDS; round++) {
         if (k.levels == 256) keep_best(row.opencv, table.pixels(), [&] { opencv.filter(); });
         for (int c = 0; c < CONTESTS; c++) {
             Walk walk;
-            const Frame &frame = c == JOINT_TABLE ? table : guided;
-            keep_best(row.yardstick[c], table.pixels(), [&] { walk = by_yardstick(Contest(c), frame, moves); });
+            keep_best(row.yardstick[c], table.pixels(), [&] { walk = by_yardstick(Contest(c), frame_for(c), moves); });
             if (!Library::LINKED) continue;
             Library &library = libraries[size_t(c)];
             keep_best(row.library[c], table.pixels(), [&] { library.filter(); });
@@ -50,7 +51,8 @@ static void print_row(const Row &row) {
 
 static void print_head() {
     std::printf("\n## Nanoseconds a pixel (library, then C++)\n\n"
-                "OpenCV %s; best of %d turns, 256 guides, smoothing 64 in kind 2.\n\n| frame | size | r | L | OpenCV |",
+                "OpenCV %s; best of %d turns, 256 guides, smoothing 64 in kind 2. Kind 1 with the built-in weights, and with the "
+                "same weights as a table of the file's own.\n\n| frame | size | r | L | OpenCV |",
                 CV_VERSION, ROUNDS);
     for (const char *name : NAMES) std::printf(" %s | C++ |", name);
     std::printf(" OpenCV / library |\n|---|---|---|---|---|");

@@ -29,7 +29,8 @@ inline size_t stack_touched(std::function<void()> run) {
 
 // What a call takes of the stack, less what a thread takes that does nothing.
 inline double call_stack(Contest contest, void (*call)(Library &)) {
-    Frame frame = noise({64, 32, 1024, 256, contest == JOINT_TABLE ? TABLE : GUIDED, 15, 64});
+    Frame frame = noise({64, 32, 1024, 256, kind_of(contest), 15, 64});
+    frame.built_in = contest != JOINT_OWN;
     Library library(contest, frame);
     return Library::LINKED ? double(stack_touched([&] { call(library); }) - stack_touched([] {})) : NOT_TIMED;
 }
@@ -46,18 +47,20 @@ inline void print_stores(int levels, int radius) {
     double joint = counts + kilobytes(ICEMEDIAN_WORDS_LENGTH(levels, 256), sizeof(uint64_t));
     double columns = kilobytes(ICEMEDIAN_COLUMNS_LENGTH(1024, levels), sizeof(uint32_t));
     double chain = kilobytes(ICEMEDIAN_CHAIN_LENGTH(radius), sizeof(uint32_t));
-    std::printf("| stores, L %d, r %d | %.0f | %.0f | %.0f | %.1f |\n", levels, radius, joint, joint, columns, chain);
+    std::printf("| stores, L %d, r %d | %.0f | %.0f | %.0f | %.0f | %.1f |\n", levels, radius, joint, joint, joint, columns, chain);
 }
 
 // Frame and output, which are the caller's own, come on top; nothing else does.
 inline void print_memory() {
     std::printf("\n## Memory, kilobytes, 1024 columns and 256 guides\n\n| |");
     for (const char *name : NAMES) std::printf(" %s |", name);
-    std::printf("\n|---|---|---|---|---|\n");
+    std::printf("\n|---|---|---|---|---|---|\n");
     for (int levels : {256, 1024})
         for (int radius : {3, 7, 15}) print_stores(levels, radius);
     print_stack("filter", [](Library &library) { library.filter(); });
     print_stack("walk", [](Library &library) { library.walk({RIGHT, DOWN, LEFT, UP}); });
+    print_stack("balance", [](Library &library) { library.balance(); });
+    print_stack("check", [](Library &library) { library.check(); });
 }
 
 }  // namespace bench
