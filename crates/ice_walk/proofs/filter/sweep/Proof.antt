@@ -108,11 +108,11 @@ answer-number-requires-2 c κs = search needs
 
 mul-output : tie.Need-mul-output Inv-loop μ-loop
 unfolding entry
-mul-output c = omega (arith, placed (c .before .before .before), small (c .before .before .before))
+mul-output c = omega (arith, placed (c .before .before .before), small (c .before .before .before), c .before .before .before .before .before .before .before .before .before .before .before .before .before .before .before .loop-test .taken)
 
 slice-write-output-2 : tie.Need-slice-write-output-2 Inv-loop μ-loop
 unfolding entry
-slice-write-output-2 c = omega (arith, placed (c .before .before .before), long (c .before .before .before), room (c .before .before .before .before .before .before .before .before .before .before .before .before .before .before .before .before .before))
+slice-write-output-2 c = omega (arith, placed (c .before .before .before), long (c .before .before .before), room (c .before .before .before .before .before .before .before .before .before .before .before .before .before .before .before .before .before), c .before .before .before .before .before .before .before .before .before .before .before .before .before .before .before .loop-test .taken)
 
 loop-less : tie.Need-loop-less Inv-loop μ-loop
 loop-less c = omega (arith, c .before .before .before .before .before .before .before .before .before .before .before .before .before .before .before .loop-test .taken)
