@@ -58,8 +58,8 @@ pub record BoxPassed (w : Bool) (c : ℕ) (p : List ℕ) (n : ℕ) (bx bx′ : L
 pub record Exchangeable (m : ℕ) (e l xs ws : List ℕ) : Type 0 where
   pub entering : Countable true m e xs ws
   pub leaving : PixelsBelow (entering .levels) m l
-  pub there : (i f : ℕ) → i < entering .levels → f < m → pixelFold _+_ 0 l (λ v g. hit v g i f) ≤ countIn m xs i f + pixelFold _+_ 0 e (λ v g. hit v g i f
-      )
+  pub there : (i f : ℕ) → i < entering .levels → f < m
+      → pixelFold _+_ 0 l (λ v g. hit v g i f) ≤ countIn m xs i f + pixelFold _+_ 0 e (λ v g. hit v g i f)
 
 pub record CountsExchanged (n m : ℕ) (e l xs ws xs′ ws′ : List ℕ) : Type 0 where
   pub kept : RestKept n m xs ws xs′ ws′
