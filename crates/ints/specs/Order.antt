@@ -69,7 +69,8 @@ nat-eq (negsuc a) (negsuc b) h = ap negsuc (omega (arith, h))
 
 -- ---- the parts of a sum, a negation, a difference, a product
 -- `subℕ a b` is the integer a - b, by the flag c that tells whether a < b
-sub-parts′ : (a b : ℕ) (c : Bool) → (T c → a < b) → (T (not c) → b ≤ a) → posPart (cond c (negsuc (b - suc a)) (pos (a - b))) + b ≡ a + negPart (cond c (negsuc (b - suc a)) (pos (a - b)))
+sub-parts′ : (a b : ℕ) (c : Bool) → (T c → a < b) → (T (not c) → b ≤ a) →
+    posPart (cond c (negsuc (b - suc a)) (pos (a - b))) + b ≡ a + negPart (cond c (negsuc (b - suc a)) (pos (a - b)))
 sub-parts′ a b true f g = omega (arith, f tt)
 sub-parts′ a b false f g = omega (arith, g tt)
 
@@ -95,7 +96,8 @@ negPart-neg (negsuc n) = refl
 pub diff-parts : (a b : ℤ) → posPart (a -ℤ b) + (negPart a + posPart b) ≡ (posPart a + negPart b) + negPart (a -ℤ b)
 diff-parts a b = omega (arith, add-parts a (negℤ b), posPart-neg b, negPart-neg b)
 
-pub mul-parts : (a b : ℤ) → posPart (a *ℤ b) + (posPart a * negPart b + negPart a * posPart b) ≡ (posPart a * posPart b + negPart a * negPart b) + negPart (a *ℤ b)
+pub mul-parts : (a b : ℤ) →
+    posPart (a *ℤ b) + (posPart a * negPart b + negPart a * posPart b) ≡ (posPart a * posPart b + negPart a * negPart b) + negPart (a *ℤ b)
 mul-parts (pos a) (pos b) = omega arith
 mul-parts (pos a) (negsuc b) = omega (arith, posPart-neg (pos (a * suc b)), negPart-neg (pos (a * suc b)))
 mul-parts (negsuc a) (pos b) = omega (arith, posPart-neg (pos (suc a * b)), negPart-neg (pos (suc a * b)))
