@@ -93,15 +93,15 @@ module _ (plan : Plan) (cs : List ℕ) where
       outside l = h .rest f l ∙ sym (ap (λ (n : ℕ). getD bx f (pos 0) +ℤ by *ℤ pos n) (count-out (plan .guides) i f cs l) ∙ ap (λ (q : ℤ). getD bx f (pos 0) +ℤ q) (*ℤ-zero by) ∙ +ℤ-idr (getD bx f (pos 0)))
 
   -- the cut point one level up, and one down
-  pub raised : (c i : ℕ) (by : ℤ) (bx bx′ : List ℤ) → i ≡ c + 1 → by ≡ pos 2 → bx ≡ boxIn plan cs c → CountsAdded (plan .guides) i by cs (plan .guides) bx bx′ → bx′ ≡ boxIn plan cs (c + 1)
-  raised c i by bx bx′ ei eb e h =
+  pub raised : (c i : ℕ) (by : ℤ) (bx bx′ : List ℤ) → bx ≡ boxIn plan cs c → CountsAdded (plan .guides) i by cs (plan .guides) bx bx′ → i ≡ c + 1 → by ≡ pos 2 → bx′ ≡ boxIn plan cs (c + 1)
+  raised c i by bx bx′ e h ei eb =
       box-is (c + 1) bx′ (h .long ∙ ap length e ∙ box-long c)
       (λ f l. let N : ℕ → ℤ = λ i. pos (countIn (plan .guides) cs i f) in
       added-cell i by bx bx′ h f ∙ ap₂ (λ (j : ℕ) (k : ℤ). getD bx f (pos 0) +ℤ k *ℤ N j) (ei ∙ add-one c) eb ∙ ap (λ (q : List ℤ). getD q f (pos 0) +ℤ pos 2 *ℤ N (suc c)) e
       ∙ ap (λ (q : ℤ). q +ℤ pos 2 *ℤ N (suc c)) (box-cell c f l) ∙ sym (balance-next N (plan .levels) c) ∙ ap (balanceOf N (plan .levels)) (sym (add-one c)))
 
-  pub lowered : (c i : ℕ) (by : ℤ) (bx bx′ : List ℤ) → i ≡ c + 1 → by ≡ negsuc 1 → bx ≡ boxIn plan cs (c + 1) → CountsAdded (plan .guides) i by cs (plan .guides) bx bx′ → bx′ ≡ boxIn plan cs c
-  lowered c i by bx bx′ ei eb e h =
+  pub lowered : (c i : ℕ) (by : ℤ) (bx bx′ : List ℤ) → bx ≡ boxIn plan cs (c + 1) → CountsAdded (plan .guides) i by cs (plan .guides) bx bx′ → i ≡ c + 1 → by ≡ negsuc 1 → bx′ ≡ boxIn plan cs c
+  lowered c i by bx bx′ e h ei eb =
       box-is c bx′ (h .long ∙ ap length e ∙ box-long (c + 1))
       (λ f l. let N : ℕ → ℤ = λ i. pos (countIn (plan .guides) cs i f) in
       added-cell i by bx bx′ h f ∙ ap₂ (λ (j : ℕ) (k : ℤ). getD bx f (pos 0) +ℤ k *ℤ N j) (ei ∙ add-one c) eb ∙ ap (λ (q : List ℤ). getD q f (pos 0) +ℤ negsuc 1 *ℤ N (suc c)) e
@@ -130,9 +130,6 @@ module _ {plan : Plan} {cs ws : List ℕ} (st : Searchable plan cs ws) where
 
       beyond : (f : ℕ) → 256 ≤ f → natAbs (getD (boxIn plan cs c) f (pos 0)) ≤ 961
       beyond f l = let k : length (boxIn plan cs c) ≤ f = rw (box-long plan cs c) l in rw (List·getD-eq-default (boxIn plan cs c) (pos 0) k) (omega arith)
-
-  pub shift-asks : (i c : ℕ) (by : ℤ) (bx : List ℤ) → i < plan .levels → c < plan .levels → natAbs by ≤ 2 → bx ≡ boxIn plan cs c → Marked (plan .guides) i cs ws × ((natAbs by ≤ 2) × BoxInBounds bx)
-  shift-asks i c by bx h l k e = (st .marked i h, (k, box-bounds c bx l e))
 
 -- ---- so do the weights
 sum-times : (g : ℕ → ℕ) (n : ℕ) → sum (λ i. g i * 15613507786500) 0 n ≡ sum g 0 n * 15613507786500

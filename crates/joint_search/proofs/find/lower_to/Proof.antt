@@ -2,9 +2,8 @@
 use mathlib.Core.Path.{_≡_, refl, sym, ap, _∙_}
 use native.Mathlib.Omega.{arith}
 use Prim.Native.Nat.{_+_, _-_, _≤_}
-use lib.IntN.{negsuc}
 use Rattle.joint_search.specs.Search.{boxIn}
-use Rattle.joint_search.proofs.SearchLaws.{shift-asks, lowered}
+use Rattle.joint_search.proofs.SearchLaws.{box-bounds, lowered}
 use Rattle.joint_search.proofs.find.lower_to.Statement.{statement}
 use Rattle.joint_search.proofs.find.lower_to.Tie as tie
 
@@ -25,7 +24,8 @@ shift-level-requires : tie.Need-shift-level-requires Inv-loop μ-loop
 shift-level-requires c κs =
     let h = c .before .before in
     let at = start h in
-    shift-asks (at .pre .0) (h .loop .i) (h .loop .i) (negsuc 1) _ (omega (arith, at .pre .1 .1, h .loop .inv .1)) (omega (arith, at .pre .1 .1, h .loop .inv .1)) (omega arith) (h .loop .inv .2)
+    let q = at .pre .0 in
+    (q .marked _ (omega (arith, at .pre .1 .1, h .loop .inv .1)), (omega arith, box-bounds q (h .loop .i) _ (omega (arith, at .pre .1 .1, h .loop .inv .1)) (h .loop .inv .2)))
 
 sub-i : tie.Need-sub-i Inv-loop μ-loop
 sub-i c = omega (arith, c .before .before .loop-test .taken)
@@ -41,7 +41,7 @@ loop-again c =
     let d : h .loop .i - 1 + 1 ≡ h .loop .i = omega (arith, t .loop-test .taken) in (
       omega (arith, t .loop-test .taken),
       omega (arith, h .loop .inv .1),
-      lowered (at .args .plan) (at .args .counts .now) (h .loop .i - 1) _ _ _ _ (omega (arith, d)) refl (h .loop .inv .2 ∙ ap (boxIn (at .args .plan) (at .args .counts .now)) (sym d)) (c .shift-level .ensures),
+      lowered (at .args .plan) (at .args .counts .now) (h .loop .i - 1) _ _ _ _ (h .loop .inv .2 ∙ ap (boxIn (at .args .plan) (at .args .counts .now)) (sym d)) (c .shift-level .ensures) (omega (arith, d)) refl,
     )
 
 returns : tie.Need-returns Inv-loop μ-loop

@@ -2,9 +2,8 @@
 use mathlib.Core.Path.{_≡_, refl, ap, _∙_}
 use native.Mathlib.Omega.{arith}
 use Prim.Native.Nat.{_+_, _-_, _≤_}
-use lib.IntN.{pos}
 use Rattle.joint_search.specs.Search.{boxIn}
-use Rattle.joint_search.proofs.SearchLaws.{shift-asks, raised}
+use Rattle.joint_search.proofs.SearchLaws.{box-bounds, raised}
 use Rattle.joint_search.proofs.find.raise_to.Statement.{statement}
 use Rattle.joint_search.proofs.find.raise_to.Tie as tie
 
@@ -28,8 +27,8 @@ shift-level-requires : tie.Need-shift-level-requires Inv-loop μ-loop
 shift-level-requires c κs =
     let h = c .before .before in
     let at = start h in
-    let q = shift-asks (at .pre .0) (h .loop .i + 1) (h .loop .i) (pos 2) _ (omega (arith, at .pre .1 .1, c .before .loop-test .taken)) (omega (arith, at .pre .1 .1, c .before .loop-test .taken)) (omega arith) (h .loop .inv .1) in
-    (q .0, (omega arith, q .1 .1))
+    let q = at .pre .0 in
+    (q .marked _ (omega (arith, at .pre .1 .1, c .before .loop-test .taken)), (omega arith, box-bounds q (h .loop .i) _ (omega (arith, at .pre .1 .1, c .before .loop-test .taken)) (h .loop .inv .1)))
 
 loop-less : tie.Need-loop-less Inv-loop μ-loop
 loop-less c = omega (arith, c .before .before .loop-test .taken)
@@ -39,7 +38,7 @@ loop-again c =
     let t = c .before .before in
     let h = t .before in
     let at = start h in
-    (omega (arith, t .loop-test .taken), raised (at .args .plan) (at .args .counts .now) (h .loop .i) _ _ (h .loop .cells) (c .shift-level .last .1 .1 .1 .0) (omega arith) refl (h .loop .inv .1) (c .shift-level .ensures))
+    (omega (arith, t .loop-test .taken), raised (at .args .plan) (at .args .counts .now) (h .loop .i) _ _ (h .loop .cells) (c .shift-level .last .1 .1 .1 .0) (h .loop .inv .1) (c .shift-level .ensures) (omega arith) refl)
 
 returns : tie.Need-returns Inv-loop μ-loop
 returns c =
