@@ -17,7 +17,7 @@ ghost use Rattle.spec.specs.Joint.{balanceBox};
 ghost use Rattle.window.specs.Line.{Adjacent};
 ghost use Rattle.joint.specs.Window.{Fresh, Held};
 ghost use Rattle.histogram.specs.Histogram.{Blank};
-ghost use Rattle.joint_search.specs.Search.{Counted};
+ghost use Rattle.joint_search.specs.Window.{Counted};
 ghost use Rattle.joint_rows.specs.Rows.{WeightRows};
 ghost use Rattle.joint_visit.specs.Arrive.{Carried, Says, Visited};
 

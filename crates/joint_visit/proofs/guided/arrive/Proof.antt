@@ -1,6 +1,6 @@
 -- `arrive` meets its contract: the coefficients, the tally where it is needed, the answer from the histogram, then the box moved. Assumes nothing.
 use Prim.Native.Nat.{_+_, _≤_}
-use mathlib.Core.Path.{refl}
+use mathlib.Core.Path.{refl, sym, _∙_}
 use native.Mathlib.Omega.{arith}
 use lib.ListN.{length}
 use Rattle.window.proofs.PixelLaws.{levels-high}
@@ -8,11 +8,12 @@ use borrow.Author.Needs.{needs}
 use Rattle.spec.specs.Frame.{frameOf}
 use Rattle.levels.specs.Answer.{Answered}
 use Rattle.levels.proofs.AnswerLaws.{guides-range, answerable, answered-at}
-use Rattle.joint_visit.proofs.VisitLaws.{numbers-long, profiled, level-in, answer-low}
+use Rattle.joint_search.proofs.WindowLaws.{searchable, box-of}
+use Rattle.joint_visit.proofs.VisitLaws.{numbers-long, profiled-parts, answer-low}
 use Rattle.joint_visit.proofs.guided.arrive.Statement.{statement}
 use Rattle.joint_visit.proofs.guided.arrive.Tie as tie
 
-long : (at : tie.Start) → at .args .z .levels + at .args .z .levels ≤ length (at .args .numbers .now)
+long : (at : tie.Start) → at .args .plan .levels + at .args .plan .levels ≤ length (at .args .numbers .now)
 long at = numbers-long (at .pre .0 .0 .planned) (at .pre .0 .2) refl refl
 
 abbrev start : tie.After-carried-where → tie.Start
@@ -26,7 +27,7 @@ says r =
     let m = w .before .before in
     let at = start w in
     let k = at .pre .0 .0 in
-    answered-at (k .planned) (at .pre .0 .1) (k .column) (k .row) (m .before .coefficients-at .ensures) (profiled (k .planned) (at .pre .0 .2) refl refl) (m .monotone .ensures) (r .answer .ensures .0)
+    answered-at (k .planned) (at .pre .0 .1) (k .column) (k .row) (m .before .coefficients-at .ensures) (profiled-parts (k .planned) (at .pre .0 .2) refl refl) (m .monotone .ensures) (r .answer .ensures .0)
     (r .answer .ensures .1)
 
 add-last : tie.Need-add-last
@@ -81,7 +82,7 @@ answer-requires c κs =
     let at = start w in
     let k = at .pre .0 .0 in
     let g = at .pre .1 .1 in
-    answerable (k .planned) (at .pre .0 .1) (k .column) (k .row) (m .before .coefficients-at .ensures) (profiled (k .planned) (at .pre .0 .2) refl refl) (m .monotone .ensures) (g .0) (g .1)
+    answerable (k .planned) (at .pre .0 .1) (k .column) (k .row) (m .before .coefficients-at .ensures) (profiled-parts (k .planned) (at .pre .0 .2) refl refl) (m .monotone .ensures) (g .0) (g .1)
     (λ e. at .pre .1 .0 .1 .carried _ (w .carried-where .ensures e))
 
 move-to-requires : tie.Need-move-to-requires
@@ -89,8 +90,8 @@ move-to-requires c κs =
     let r = c .before .before .before in
     let at = start (r .before .before .before) in
     let k = at .pre .0 .0 in
-    let low = level-in (k .planned) (at .pre .1 .1 .0) in
-    (k, (low, omega (arith, low, answer-low (k .planned) (k .column) (k .row) (at .pre .0 .1) (says r)), at .pre .1 .1 .2))
+    let g = at .pre .1 .1 in
+    (searchable k, (g .0, answer-low (k .planned) (k .column) (k .row) (at .pre .0 .1) (says r), g .2 ∙ box-of k (at .args .cut .0) (g .0)))
 
 returns : tie.Need-returns
 returns c =
@@ -98,7 +99,7 @@ returns c =
     let at = start (r .before .before .before) in
     let h = says r in
     record {
-      same = record { answer = h .said; cut = h .cut; shifts = h .shifts; box = c .move-to .ensures };
+      same = record { answer = h .said; cut = h .cut; shifts = h .shifts; box = c .move-to .ensures ∙ sym (box-of (at .pre .0 .0) (r .answer .result .level .0) (answer-low (at .pre .0 .0 .planned) (at .pre .0 .0 .column) (at .pre .0 .0 .row) (at .pre .0 .1) h)) };
       guided = record { sums = at .pre .1 .0 .0; below = h .below; histogram = at .pre .0 .2 };
     }
 

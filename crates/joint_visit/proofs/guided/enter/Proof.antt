@@ -3,7 +3,9 @@ use borrow.Author.Needs.{needs}
 use mathlib.Core.Path.{refl}
 use native.Mathlib.Omega.{arith}
 use Rattle.spec.proofs.Plans.{pixel-of}
+use Rattle.levels.proofs.AnswerLaws.{level-cells, gathered}
 use Rattle.levels.proofs.ListTallyLaws.{carries-still}
+use Rattle.joint_visit.proofs.VisitLaws.{numbers-long, profiled}
 use Rattle.joint_visit.proofs.guided.enter.Statement.{statement}
 use Rattle.joint_visit.proofs.guided.enter.Tie as tie
 
@@ -30,7 +32,8 @@ tally-below-requires c κs =
     let h = c .before .before .before .before .before in
     let at = begin h in
     let k = at .pre .0 .0 in
-    ((k .planned, k .column, k .row, omega (arith, at .pre .1 .0)), h .start .ensures)
+    let v = h .start .ensures in
+    (numbers-long (k .planned) v refl refl, level-cells (pixel-of (k .planned) (k .column) (k .row)) (profiled (k .planned) v refl refl), omega (arith, at .pre .1 .0))
 
 sub-arrive : tie.Need-sub-arrive
 sub-arrive c = search needs
@@ -57,7 +60,7 @@ arrive-requires c κs =
     let h = a .before .before .before in
     let at = begin h in
     let k = at .pre .0 .0 in
-    ((k, at .pre .0 .1, h .start .ensures), ((a .start2 .ensures, carries-still (pixel-of (k .planned) (k .column) (k .row)) (w .tally-below .ensures) refl refl), at .pre .1))
+    ((k, at .pre .0 .1, h .start .ensures), ((a .start2 .ensures, carries-still (pixel-of (k .planned) (k .column) (k .row)) (gathered (k .planned) (k .column) (k .row) (profiled (k .planned) (h .start .ensures) refl refl) (omega (arith, at .pre .1 .0)) (w .tally-below .ensures)) refl refl), at .pre .1))
 
 same-length : tie.Need-same-length
 same-length c = c .before .before .before .before .before .before .before .before .before .before .before .before .before .start .kept .1 .1 .1 .1 .0
