@@ -9,12 +9,14 @@ use native.Mathlib.Numerals.{add-one}
 use native.Mathlib.Omega.{arith}
 use Rattle.spec.specs.declared.Plan.{Plan}
 use Rattle.spec.specs.Base.{fold}
-use Rattle.spec.specs.Frame.{frameOf}
+use Rattle.spec.specs.Frame.{level, guide, frameOf}
 use Rattle.spec.specs.Checks.{Planned}
+use Rattle.spec.specs.Window.{span, over}
+use Rattle.window.specs.declared.line.Line.{Line}
 use Rattle.window.specs.declared.line.Step.{Step}
-use Rattle.window.specs.Line.{Adjacent, stepOf}
-use Rattle.window.proofs.LineLaws.{step-sum}
-use Rattle.pixels.specs.Pixels.{countOf, levelIn, guideIn, pixelFoldTo, pixelFold, LinePixels}
+use Rattle.window.specs.Line.{columnLine, Adjacent, stepOf, lineFold}
+use Rattle.window.proofs.LineLaws.{fold-none, fold-more, columns-law, step-sum}
+use Rattle.pixels.specs.Pixels.{countOf, levelIn, guideIn, pixelFoldTo, pixelFold, columnsFold, LinePixels}
 use Rattle.pixels.specs.Additive.{changed, Fits, PassedTo, Exchanged, Exchangeable, windowSum}
 
 -- ---- a number that changes
@@ -46,6 +48,23 @@ module _ {A : Type 0} (_⊕_ : A → A → A) (o : A) (p : List ℕ) (h : ℕ �
 
   pub pixels-more : (k : ℕ) → pixelFoldTo _⊕_ o p h (k + 1) ≡ pixelFoldTo _⊕_ o p h k ⊕ h (levelIn p k) (guideIn p k)
   pixels-more k = ap (pixelFoldTo _⊕_ o p h) (add-one k) ∙ pixels-next k
+
+-- ---- column by column, for any operation
+module _ {A : Type 0} (_⊕_ : A → A → A) (o : A) (b : List ℕ) (z : Plan) (x t : ℕ) (h : ℕ → ℕ → A) where
+  infixl 6 _⊕_
+  pub columns-none : columnsFold _⊕_ o b z x t h 0 ≡ o
+  columns-none = fold-none _⊕_ o _ x
+
+  -- a column that was read into the list p
+  pub columns-more : (n : ℕ) (p : List ℕ) {d : Line} → d ≡ columnLine z (x + n) t → pixelFold _⊕_ o p h ≡ lineFold _⊕_ o b d h
+      → columnsFold _⊕_ o b z x t h (n + 1) ≡ columnsFold _⊕_ o b z x t h n ⊕ pixelFold _⊕_ o p h
+  columns-more n p ed e =
+      fold-more _⊕_ o _ x n ∙ ap (λ (q : A). columnsFold _⊕_ o b z x t h n ⊕ q) (sym (e ∙ ap (λ (y : Line). lineFold _⊕_ o b y h) ed))
+
+  -- the window's columns are the window
+  pub columns-window : Planned b z → (s : ℕ) {n : ℕ} → x ≡ s - z .radius → n ≡ span (z .radius) s (z .width)
+      → columnsFold _⊕_ o b z x t h n ≡ over _⊕_ o (frameOf b) s t (λ x y. h (level (frameOf b) x y) (guide (frameOf b) x y))
+  columns-window pl s ex en = rw (ex, en) (sym (columns-law _⊕_ o pl h s t))
 
 -- ---- for plain sums
 module _ (p : List ℕ) (h : ℕ → ℕ → ℕ) where
