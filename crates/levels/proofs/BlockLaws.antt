@@ -17,7 +17,8 @@ use Rattle.ints.specs.Machine.{stored, read-bounded}
 use Rattle.ints.specs.Polynomial.{_⊕_, _⊗_, _≐_, solve3, solve6}
 use Rattle.spec.proofs.Totals.{lt-leZ}
 use Rattle.window.specs.declared.coefficients.Coefficients.{Coefficients}
-use Rattle.levels.specs.Search.{sumTo, weightOf, passes, TallyTo, FailTo}
+use Rattle.window.specs.Coefficients.{weightOf, reachesHalf}
+use Rattle.levels.specs.Search.{sumTo, passes, TallyTo, FailTo}
 use Rattle.levels.specs.Block.{Heaviest, Light}
 use Rattle.levels.proofs.SearchLaws.{tally, sumTo-more}
 
@@ -76,7 +77,7 @@ module _ {k : Coefficients} {counts sums : List ℕ} {w : ℤ} (v : Heaviest k c
       (subst₂ (λ (x y : ℤ). (x +ℤ most i) ≤ℤ (at i +ℤ y)) (sym (at-more (i + d))) (sym (most-more (i + d))) (grow (at i) (at (i + d)) (most i) (most (i + d)) _ _ (range i d (omega arith)) (v .level (i + d) (omega arith))))
 
   pub light-fails : {i n s : ℕ} → TallyTo counts sums i (tally n s) → Light k w counts i n s → (j : ℕ) → i ≤ j → j < i + 16 → passes k counts sums j ≡ false
-  unfolding passes
+  unfolding passes reachesHalf
   light-fails {i} {n} {s} a l j h m =
       let e : i + (suc j - i) ≡ suc j = omega arith in
       let d : sumTo counts (i + 16) ≡ (sumTo counts (i + 16) - sumTo counts i) + sumTo counts i = omega (arith, sumTo-le counts {i = i} {n = i + 16} (omega arith)) in

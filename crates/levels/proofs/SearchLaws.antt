@@ -11,10 +11,11 @@ use lib.ListN.{length, getD}
 use Rattle.spec.specs.Base.{sum, first, distance}
 use Rattle.spec.proofs.First.{first-is, first-unique}
 use Rattle.window.specs.declared.coefficients.Coefficients.{Coefficients}
+use Rattle.window.specs.Coefficients.{reachesHalf}
 use Rattle.window.proofs.LineLaws.{fold-none, fold-more}
 use Rattle.levels.specs.declared.tally.Tally.{Tally}
 use Rattle.levels.specs.declared.search.Found.{Found}
-use Rattle.levels.specs.Search.{foundAt, sumTo, TallyTo, half, passes, firstLevel, Searchable, Rising, FoundAt, FailTo}
+use Rattle.levels.specs.Search.{foundAt, sumTo, TallyTo, passes, firstLevel, Searchable, Rising, FoundAt, FailTo}
 
 abbrev pub tally : ℕ → ℕ → Tally
 tally n s = record { count = n; sum = s }
@@ -41,9 +42,9 @@ module _ {counts sums : List ℕ} where
   pub tally-enough : {n s : ℕ} (c : ℕ) → TallyTo counts sums (c + 1) (tally n s) → (getD counts c 0 ≤ n) × (getD sums c 0 ≤ s)
   tally-enough {n} {s} c a = (omega (arith, a .count, sumTo-more counts c), omega (arith, a .sum, sumTo-more sums c))
 
-  pub half-at : (k : Coefficients) {n s : ℕ} (i : ℕ) → TallyTo counts sums (i + 1) (tally n s) → half k n s ≡ passes k counts sums i
+  pub half-at : (k : Coefficients) {n s : ℕ} (i : ℕ) → TallyTo counts sums (i + 1) (tally n s) → reachesHalf k n s ≡ passes k counts sums i
   unfolding passes
-  half-at k {n} {s} i a = ap₂ (λ (x y : ℕ). half k x y) (a .count ∙ ap (sumTo counts) (add-one i)) (a .sum ∙ ap (sumTo sums) (add-one i))
+  half-at k {n} {s} i a = ap₂ (reachesHalf k) (a .count ∙ ap (sumTo counts) (add-one i)) (a .sum ∙ ap (sumTo sums) (add-one i))
 
   -- ---- where the first one is
   module _ {k : Coefficients} where

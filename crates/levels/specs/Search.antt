@@ -4,12 +4,10 @@ use mathlib.Core.Path.{_≡_}
 use mathlib.Core.Bool.{Bool, true, false}
 use mathlib.Core.List.{List}
 use Prim.Native.Nat.{ℕ, suc, _+_, _≤_, _<_}
-use lib.IntN.{ℤ, pos, _+ℤ_, _*ℤ_}
 use lib.ListN.{length, getD}
-use lib.Signed.{leZ}
 use Rattle.spec.specs.Base.{sum, first}
 use Rattle.window.specs.declared.coefficients.Coefficients.{Coefficients}
-use Rattle.window.specs.Coefficients.{CoefficientsSmall}
+use Rattle.window.specs.Coefficients.{CoefficientsSmall, reachesHalf}
 use Rattle.levels.specs.declared.tally.Tally.{Tally}
 use Rattle.levels.specs.declared.search.Found.{Found}
 
@@ -25,16 +23,9 @@ pub record TallyTo (counts sums : List ℕ) (n : ℕ) (a : Tally) : Type 0 where
   pub count : a .count ≡ sumTo counts n
   pub sum : a .sum ≡ sumTo sums n
 
--- what the pixels of a tally weigh, and whether that is at least half of the total
-abbrev pub weightOf : Coefficients → ℕ → ℕ → ℤ
-weightOf k count sum = k .slope *ℤ pos sum +ℤ k .offset *ℤ pos count
-
-abbrev pub half : Coefficients → ℕ → ℕ → Bool
-half k count sum = leZ (k .total) (pos 2 *ℤ weightOf k count sum)
-
--- whether the cumulative weight of level i is
+-- whether the cumulative weight of level i is at least half of the total
 unfoldable pub passes : Coefficients → List ℕ → List ℕ → ℕ → Bool
-passes k counts sums i = half k (sumTo counts (suc i)) (sumTo sums (suc i))
+passes k counts sums i = reachesHalf k (sumTo counts (suc i)) (sumTo sums (suc i))
 
 -- the answer
 unfoldable pub firstLevel : Coefficients → List ℕ → List ℕ → ℕ

@@ -7,7 +7,6 @@ use spec::Level;
 use spec::Plan;
 use window::coefficients;
 use window::coefficients::Coefficients;
-use window::pixel;
 use window::sums::Sums;
 ghost use mathlib.Core.Path.{_≡_};
 ghost use Prim.Native.Nat.{_+_, _<_};
@@ -25,8 +24,7 @@ pub fn coefficients_at(file: &[u8], z: Plan, a: Sums, s: usize, t: usize) -> Coe
     requires { ⌜ (s < z .width) × (t < z .height) × (SumsAt (frameOf (now file)) s t a) ⌝ }
     ensures { λ k. ⌜ (WeighsAt (frameOf (now (file .entry))) s t k) × (CoefficientsSmall k) ⌝ }
 {
-    let centre = pixel::guide_at(file, z, t * z.width + s);
-    coefficients::from_sums(z, a, centre)
+    coefficients::of_window(file, z, a, s, t)
 }
 
 // By the coefficients k over so many guides: from the cut point where the window is monotone, with the tally of the levels up to it; else, and that

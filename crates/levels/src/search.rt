@@ -4,29 +4,20 @@ use crate::block::BLOCK;
 use crate::tally::Tally;
 use spec::Level;
 use window::coefficients::Coefficients;
+use window::coefficients::reached;
 ghost use mathlib.Core.Path.{_≡_};
 ghost use mathlib.Core.Bool.{true};
 ghost use Prim.Native.Nat.{_+_, _<_, _≤_};
 ghost use lib.ListN.{length};
 ghost use Rattle.spec.specs.Base.{distance};
-ghost use Rattle.window.specs.Coefficients.{CoefficientsSmall};
 ghost use Rattle.levels.specs.Block.{Heaviest};
-ghost use Rattle.levels.specs.Search.{foundAt, TallyTo, half, passes, LevelCells, Searchable, Rising, FoundAt, FailTo};
+ghost use Rattle.levels.specs.Search.{foundAt, TallyTo, passes, LevelCells, Searchable, Rising, FoundAt, FailTo};
 
 // The answer, the tally of the levels up to it, and the shift count.
 pub struct Found {
     pub level: Level,
     pub tally: Tally,
     pub shifts: u64,
-}
-
-// Whether the pixels of a tally weigh at least half of the total.
-pub fn reached(k: Coefficients, count: usize, sum: usize) -> bool
-    requires { ⌜ CoefficientsSmall k ⌝ }
-    requires { ⌜ (count ≤ 961) × (sum ≤ 245055) ⌝ }
-    ensures { λ r. ⌜ r ≡ half k count sum ⌝ }
-{
-    k.total <= 2 * (k.slope * (sum as i64) + k.offset * (count as i64))
 }
 
 pub fn ended(level: Level, count: usize, sum: usize, shifts: u64) -> Found

@@ -1,4 +1,4 @@
--- `levels::search::reached` meets its contract. Assumes nothing.
+-- `window::coefficients::reached` meets its contract. Assumes nothing.
 use mathlib.Core.Path.{ap₂}
 use mathlib.Core.List.{List, [], _∷_}
 use lib.Signed.{leZ}
@@ -6,9 +6,10 @@ use mir.Syntax.{w64}
 use Rattle.ints.specs.Machine.{Cell, paramCell, unsignedCell, computes}
 use Rattle.ints.specs.Polynomial.{_⊕_, _⊗_, #_, x₀, x₁, x₂, x₃, x₄}
 use Rattle.ints.specs.Auto.{signedCode, need! }
+use Rattle.window.specs.Coefficients.{reachesHalf}
 use borrow.Author.Needs.{needs}
-use Rattle.levels.proofs.search.reached.Statement.{statement}
-use Rattle.levels.proofs.search.reached.Tie as tie
+use Rattle.window.proofs.coefficients.reached.Statement.{statement}
+use Rattle.window.proofs.coefficients.reached.Tie as tie
 
 abbrev env : tie.Start → List Cell
 env c =
@@ -38,6 +39,7 @@ mul-result-3 : tie.Need-mul-result-3
 mul-result-3 c = need! w64 (env (c .before .before .before .before)) (search signedCode depth 12) tt
 
 returns : tie.Need-returns
+unfolding reachesHalf
 returns c =
     let st = c .before .before .before .before .before .before in
     ap₂ leZ (computes w64 (env st) x₂ tt) (computes w64 (env st) (# 2 ⊗ (x₀ ⊗ x₄ ⊕ x₁ ⊗ x₃)) tt)
