@@ -1,5 +1,6 @@
 // A line's pixels, read once: a list of each pixel's level and guide in turn. What counts pixels (sums, tally, histogram, joint store, linked list)
 // goes by such lists and knows neither file nor border.
+pub mod store;
 pub mod sums;
 
 use spec::Plan;

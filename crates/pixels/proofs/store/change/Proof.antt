@@ -2,10 +2,10 @@
 use mathlib.Core.Path.{refl}
 use native.Mathlib.Omega.{arith}
 use borrow.Author.Needs.{needs}
 use Rattle.pixels.specs.Additive.{changed}
-use Rattle.histogram.proofs.Laws.{fits-up, fits-down}
-use Rattle.histogram.proofs.change.Statement.{statement}
-use Rattle.histogram.proofs.change.Tie as tie
+use Rattle.pixels.proofs.AdditiveLaws.{fits-up, fits-down}
+use Rattle.pixels.proofs.store.change.Statement.{statement}
+use Rattle.pixels.proofs.store.change.Tie as tie
 
 mul-n : tie.Need-mul-n
 mul-n c = search needs
@@ -14,7 +14,7 @@ slice-read-n : tie.Need-slice-read-n
 slice-read-n c = search needs
 
 add-numbers : tie.Need-add-numbers
-add-numbers c = let h = fits-up _ _ _ (c .if1 .taken) (c .before .before .pre .1) in omega arith
+add-numbers c = let h = fits-up _ _ _ _ (c .if1 .taken) (c .before .before .pre .1) in omega arith
 
 mul-numbers : tie.Need-mul-numbers
 mul-numbers c = search needs
@@ -30,7 +30,7 @@ unfolding changed
 returns c = rw (c .if1 .taken) refl
 
 sub-numbers : tie.Need-sub-numbers
-sub-numbers c = fits-down _ _ _ (c .if1 .left) (c .before .before .pre .1)
+sub-numbers c = fits-down _ _ _ _ (c .if1 .left) (c .before .before .pre .1)
 
 mul-numbers-2 : tie.Need-mul-numbers-2
 mul-numbers-2 c = search needs
