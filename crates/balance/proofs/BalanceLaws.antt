@@ -6,7 +6,7 @@ use mathlib.Core.List.{List}
 use Prim.Native.Nat.{ℕ, _+_, _-_, _*_, _^_, _≤_, _<_}
 use native.Mathlib.Nat.{le-trans, zero-add}
 use native.Mathlib.Omega.{arith}
-use lib.ListN.{length, getD, set, replicate, length-replicate, length-set}
+use lib.ListN.{getD, set, replicate, length-replicate, length-set}
 use lib.Seq.{getD-set-same, getD-set-other}
 use lib.IntN.{ℤ, pos, natAbs, _+ℤ_, _-ℤ_, _*ℤ_, +ℤ-idr}
 use lib.Signed.{mag}
@@ -22,7 +22,6 @@ use Rattle.spec.specs.declared.Plan.{Plan}
 use Rattle.spec.specs.Frame.{Frame, guide, table, frameOf}
 use Rattle.spec.specs.Checks.{Planned}
 use Rattle.spec.specs.Window.{span}
-use Rattle.spec.specs.Weight.{weight}
 use Rattle.spec.specs.Median.{balance}
 use Rattle.spec.proofs.Limits.{Pixel}
 use Rattle.spec.proofs.Plans.{facts, pixel-of}
@@ -147,14 +146,10 @@ module _ {b : List ℕ} {z : Plan} {s t : ℕ} {row : List ℕ} {w : Formula} (w
   columns-balance c {x} ex en = columns-window _+ℤ_ (pos 0) b z x t (signedWeight (frameOf b) s t c) (wd .planned) s ex en ∙ sym (balance-signed (frameOf b) s t c)
 
 -- ---- the table's row of a guide, after k turns
-pub record Rowed (p : Frame) (k f : ℕ) (row : List ℕ) : Type 0 where
-  pub long : length row ≡ 256
-  pub is : (g : ℕ) → g < k → getD row g 0 ≡ table p f g
-
-pub row-start : (p : Frame) (f : ℕ) → Rowed p 0 f (replicate 256 0)
+pub row-start : (p : Frame) (f : ℕ) → TableRow p 0 f (replicate 256 0)
 row-start p f = record { long = length-replicate {A = ℕ} 256 0; is = λ g h. absurd (omega arith) }
 
-pub row-next : {p : Frame} {k f v : ℕ} {row : List ℕ} → k < 256 → Rowed p k f row → v ≡ table p f k → Rowed p (k + 1) f (set row k v)
+pub row-next : {p : Frame} {k f v : ℕ} {row : List ℕ} → k < 256 → TableRow p k f row → v ≡ table p f k → TableRow p (k + 1) f (set row k v)
 row-next {p} {k} {f} {v} {row} h r e = record {
   long = length-set row k v ∙ r .long;
   is = λ g l. ⊎-elim (λ q. rw q (getD-set-same row k v 0 (rw (r .long) h) ∙ e)) (λ n. getD-set-other row k g v 0 n ∙ r .is g (omega arith)) (eq-or-ne g k);

@@ -21,7 +21,7 @@ use Rattle.spec.proofs.Levels.{cell}
 use Rattle.window.specs.declared.line.Line.{Line}
 use Rattle.window.specs.Line.{columnLine, InPlanes}
 use Rattle.window.proofs.PixelLaws.{plan-limits, guides-high, levels-high}
-use Rattle.window.proofs.LineLaws.{column-in}
+use Rattle.window.proofs.LineLaws.{column-in, span-high}
 use Rattle.joint.specs.Bit.{bit}
 use Rattle.pixels.specs.Pixels.{countOf, pixelFold, columnsFold, LinePixels}
 use Rattle.pixels.specs.Additive.{changed, changedℤ}
@@ -170,9 +170,9 @@ module _ {b : List ℕ} {z : Plan} (pl : Planned b z) where
       mul-le-mul {n₂ = 1024} (levels-high pl) m
 
 -- ---- the whole start
-few : (r s w : ℕ) → r ≤ 15 → s < w → (s - r + span r s w ≤ w) × (span r s w ≤ 31)
+columns-wide : (r s w : ℕ) → s < w → s - r + span r s w ≤ w
 unfolding span
-few r s w h k = (omega arith, omega arith)
+columns-wide r s w k = omega arith
 
 module _ {b : List ℕ} {z : Plan} {s t c x n : ℕ} {xs ws xs₁ ws₁ : List ℕ} (fr : Fresh b z s t xs ws)
     (ex : xs₁ ≡ replicate (z .levels * z .guides) 0 ++ drop (z .levels * z .guides) xs)
@@ -183,8 +183,8 @@ module _ {b : List ℕ} {z : Plan} {s t c x n : ℕ} {xs ws xs₁ ws₁ : List �
 
   pub build-asks : (Planned b z × Columns z x n t) × Filled b z x t c 0 xs₁ ws₁ xs₁ ws₁ (replicate 256 (pos 0))
   build-asks =
-      let r = few (z .radius) s (z .width) (plan-limits (fr .planned) .radius) (fr .column) in
-      ((fr .planned, record { wide = rw (e, d) (r .0); few = rw d (r .1); row = fr .row }), zeros .0)
+      let few = span-high (z .radius) s (z .width) (plan-limits (fr .planned) .radius) in
+      ((fr .planned, record { wide = rw (e, d) (columns-wide (z .radius) s (z .width) (fr .column)); few = rw d few; row = fr .row }), zeros .0)
 
   pub built : {xs₂ ws₂ : List ℕ} {bx₂ : List ℤ} → ((k : ℕ) → getD ws₂ k 0 < 2 ^ 64) → Filled b z x t c n xs₁ ws₁ xs₂ ws₂ bx₂ → JointAt (frameOf b) s t c xs ws xs₂ ws₂ bx₂
   built {xs₂} {ws₂} fit fl =

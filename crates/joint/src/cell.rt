@@ -3,7 +3,7 @@ use crate::bits;
 use spec::Guide;
 use spec::Level;
 ghost use mathlib.Core.Path.{_≡_};
-ghost use Prim.Native.Nat.{_-_, _%_, _<_, _≤_};
+ghost use Prim.Native.Nat.{_-_, _%_, _≤_};
 ghost use lib.ListN.{getD};
 ghost use Rattle.pixels.specs.Additive.{Fits};
 ghost use Rattle.joint.specs.Store.{cellAt, wordAt, Place, changedCounts, changedWords};

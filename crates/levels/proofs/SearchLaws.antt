@@ -8,7 +8,7 @@ use native.Mathlib.Nat.{zero-add, le-antisymm}
 use native.Mathlib.Numerals.{add-one}
 use native.Mathlib.Omega.{arith}
 use lib.ListN.{length, getD}
-use Rattle.spec.specs.Base.{sum, first, distance}
+use Rattle.spec.specs.Base.{sum, distance}
 use Rattle.spec.proofs.First.{first-is, first-unique}
 use Rattle.window.specs.declared.coefficients.Coefficients.{Coefficients}
 use Rattle.window.specs.Coefficients.{reachesHalf}

@@ -9,7 +9,7 @@ use native.Mathlib.Numerals.{add-one}
 use native.Mathlib.Omega.{arith}
 use lib.IntN.{ℤ, pos, natAbs, _+ℤ_, _-ℤ_, +ℤ-idr, +ℤ-assoc}
 use Rattle.ints.specs.Bound.{abs-add, abs-sub-le}
-use Rattle.ints.specs.Polynomial.{Expr, Equation, _⊕_, _⊖_, _≐_, solve2, solve3}
+use Rattle.ints.specs.Polynomial.{_⊕_, _⊖_, _≐_, solve2, solve3}
 use Rattle.spec.specs.declared.Plan.{Plan}
 use Rattle.spec.specs.Base.{fold}
 use Rattle.spec.specs.Frame.{level, guide, frameOf}

@@ -6,7 +6,6 @@ pub mod sums;
 use spec::Plan;
 use window::line::Line;
 use window::pixel;
-ghost use mathlib.Core.Path.{_≡_};
 ghost use Prim.Native.Nat.{_≤_};
 ghost use lib.ListN.{length, take};
 ghost use Rattle.spec.specs.Checks.{Planned};

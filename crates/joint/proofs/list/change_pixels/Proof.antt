@@ -6,7 +6,7 @@ use lib.IntN.{pos, natAbs}
 use mir.Syntax.{w16}
 use mir.Val.{toZ, ofZ}
 use mir.Facts.{toZ-ofZ}
-use Prim.Native.Nat.{ℕ, _-_, _≤_, _<_}
+use Prim.Native.Nat.{_-_, _≤_, _<_}
 use Rattle.ints.specs.Machine.{read-bounded}
 use Rattle.pixels.specs.Pixels.{countOf, levelIn, guideIn}
 use Rattle.pixels.proofs.Laws.{places-in}

@@ -1,5 +1,4 @@
 -- `levels::answer::answer` meets its contract: from the cut point where the window is monotone, else from level 0. Assumes nothing.
-use mathlib.Core.Path.{_∙_}
 use native.Mathlib.Omega.{arith}
 use Rattle.levels.proofs.SearchLaws.{tally-none, fail-none, fail-inside}
 use Rattle.levels.proofs.BlockLaws.{handed-on}

@@ -4,7 +4,7 @@ use Prim.Native.Nat.{_+_, _-_, _<_, _≤_}
 use mathlib.Core.Path.{_≡_, refl, sym, _∙_, subst}
 use native.Mathlib.Omega.{arith}
 use lib.ListN.{length, getD}
-use Rattle.levels.specs.Search.{TallyTo, passes, FailTo}
+use Rattle.levels.specs.Search.{TallyTo, FailTo}
 use Rattle.levels.proofs.SearchLaws.{tally, Descending, tally-back, tally-enough, tally-end, half-at, fail-below, fail-to, found-at, shifted-back}
 use Rattle.levels.proofs.search.descend.Statement.{statement}
 use Rattle.levels.proofs.search.descend.Tie as tie

@@ -4,7 +4,7 @@ use mathlib.Core.Path.{refl, sym, ap, ap₂}
 use mathlib.Core.Bool.{Bool, _&&_}
 use mathlib.Core.List.{List, [], _∷_}
 use native.Mathlib.Omega.{arith}
-use lib.IntN.{ℤ, pos, _+ℤ_, _*ℤ_}
+use lib.IntN.{pos, _+ℤ_, _*ℤ_}
 use lib.Signed.{nonNeg}
 use mir.Syntax.{w64}
 use Rattle.ints.specs.Machine.{Cell, paramCell, unsignedCell, computes, lt-true, lt-false}
