@@ -37,14 +37,14 @@ use Rattle.window.specs.declared.coefficients.Coefficients.{Coefficients}
 use Rattle.window.specs.Coefficients.{WeighsAt, CoefficientsSmall, endsNotNegative, weightOf, reachesHalf}
 use Rattle.window.proofs.PixelLaws.{guides-high, guide-low}
 use Rattle.window.proofs.CoefficientLaws.{ends-monotone}
-use Rattle.levels.specs.declared.tally.Tally.{Tally}
-use Rattle.levels.specs.declared.search.Found.{Found}
+use Rattle.level_search.specs.declared.Tally.{Tally}
+use Rattle.level_search.specs.declared.search.Found.{Found}
 use Rattle.levels.specs.Tally.{belowSum, BelowAt}
-use Rattle.levels.specs.Search.{sumTo, TallyTo, passes, firstLevel, LevelCells, Searchable, Rising, FoundAt}
-use Rattle.levels.specs.Block.{EndsBelow, Heaviest}
+use Rattle.level_search.specs.Search.{sumTo, TallyTo, passes, firstLevel, LevelCells, Searchable, Rising, FoundAt}
+use Rattle.level_search.specs.Block.{EndsBelow, Heaviest}
 use Rattle.levels.specs.Answer.{Profiled, Answerable, Answered}
-use Rattle.levels.proofs.SearchLaws.{sumTo-none, sumTo-more}
-use Rattle.levels.proofs.BlockLaws.{formula-below}
+use Rattle.level_search.proofs.SearchLaws.{sumTo-none, sumTo-more}
+use Rattle.level_search.proofs.BlockLaws.{formula-below}
 use Rattle.levels.proofs.TallyLaws.{below-count-high, below-guide-high}
 
 pub guided : {b : List ℕ} {z : Plan} → Planned b z → z .kind ≡ 2 → frameOf b .set .kind ≡ 2

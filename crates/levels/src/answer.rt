@@ -1,8 +1,8 @@
 // The window's answer from its counts and guide sums of each level. The two lists are the window's: how they are kept is the way's own.
-use crate::block;
-use crate::search;
-use crate::search::Found;
-use crate::tally::Tally;
+use level_search::Tally;
+use level_search::block;
+use level_search::search;
+use level_search::search::Found;
 use spec::Level;
 use spec::Plan;
 use window::coefficients;
@@ -15,7 +15,7 @@ ghost use Rattle.spec.specs.Checks.{Planned};
 ghost use Rattle.spec.specs.Frame.{frameOf};
 ghost use Rattle.window.specs.Sums.{SumsAt};
 ghost use Rattle.window.specs.Coefficients.{WeighsAt, CoefficientsSmall};
-ghost use Rattle.levels.specs.Search.{FoundAt};
+ghost use Rattle.level_search.specs.Search.{FoundAt};
 ghost use Rattle.levels.specs.Answer.{Answerable};
 
 // The coefficients of the window at (s, t), whose sums are a.

@@ -9,8 +9,8 @@ ghost use lib.IntN.{natAbs};
 ghost use lib.ListN.{length};
 ghost use lib.Signed.{_≤ℤ_};
 ghost use Rattle.window.specs.Coefficients.{CoefficientsSmall};
-ghost use Rattle.levels.specs.Search.{sumTo};
-ghost use Rattle.levels.specs.Block.{EndsBelow, Light};
+ghost use Rattle.level_search.specs.Search.{sumTo};
+ghost use Rattle.level_search.specs.Block.{EndsBelow, Light};
 
 pub const BLOCK: usize = 16;
 

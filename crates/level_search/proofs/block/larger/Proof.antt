@@ -1,4 +1,4 @@
--- `levels::block::larger` meets its contract. Assumes nothing.
+-- `level_search::block::larger` meets its contract. Assumes nothing.
 use mathlib.Core.Path.{_≡_, sym, subst}
 use Prim.Native.Nat.{_≤_}
 use lib.IntN.{ℤ, natAbs}
@@ -6,8 +6,8 @@ use lib.Signed.{_≤ℤ_, ≤ℤ-refl}
 use mir.Syntax.{w64}
 use Rattle.ints.specs.Order.{<-to-≤}
 use Rattle.ints.specs.Machine.{stored, read-bounded, lt-true, lt-false}
-use Rattle.levels.proofs.block.larger.Statement.{statement}
-use Rattle.levels.proofs.block.larger.Tie as tie
+use Rattle.level_search.proofs.block.larger.Statement.{statement}
+use Rattle.level_search.proofs.block.larger.Tie as tie
 
 first : (c : tie.Start) → stored w64 (c .args .a) ≡ c .args .a
 first c = read-bounded w64 240207812100 (c .pre .0) tt

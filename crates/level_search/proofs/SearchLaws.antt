@@ -13,9 +13,9 @@ use Rattle.spec.proofs.First.{first-is, first-unique}
 use Rattle.window.specs.declared.coefficients.Coefficients.{Coefficients}
 use Rattle.window.specs.Coefficients.{reachesHalf}
 use Rattle.window.proofs.LineLaws.{fold-none, fold-more}
-use Rattle.levels.specs.declared.tally.Tally.{Tally}
-use Rattle.levels.specs.declared.search.Found.{Found}
-use Rattle.levels.specs.Search.{foundAt, sumTo, TallyTo, passes, firstLevel, Searchable, Rising, FoundAt, FailTo}
+use Rattle.level_search.specs.declared.Tally.{Tally}
+use Rattle.level_search.specs.declared.search.Found.{Found}
+use Rattle.level_search.specs.Search.{foundAt, sumTo, TallyTo, passes, firstLevel, Searchable, Rising, FoundAt, FailTo}
 
 abbrev pub tally : ℕ → ℕ → Tally
 tally n s = record { count = n; sum = s }

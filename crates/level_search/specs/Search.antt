@@ -8,8 +8,8 @@ use lib.ListN.{length, getD}
 use Rattle.spec.specs.Base.{sum, first}
 use Rattle.window.specs.declared.coefficients.Coefficients.{Coefficients}
 use Rattle.window.specs.Coefficients.{CoefficientsSmall, reachesHalf}
-use Rattle.levels.specs.declared.tally.Tally.{Tally}
-use Rattle.levels.specs.declared.search.Found.{Found}
+use Rattle.level_search.specs.declared.Tally.{Tally}
+use Rattle.level_search.specs.declared.search.Found.{Found}
 
 abbrev pub foundAt : ℕ → ℕ → ℕ → ℕ → Found
 foundAt level count sum shifts = record { level = record { 0 = level }; tally = record { count = count; sum = sum }; shifts = shifts }

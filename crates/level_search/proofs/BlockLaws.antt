@@ -18,9 +18,9 @@ use Rattle.ints.specs.Polynomial.{_⊕_, _⊗_, _≐_, solve3, solve6}
 use Rattle.spec.proofs.Totals.{lt-leZ}
 use Rattle.window.specs.declared.coefficients.Coefficients.{Coefficients}
 use Rattle.window.specs.Coefficients.{weightOf, reachesHalf}
-use Rattle.levels.specs.Search.{sumTo, passes, TallyTo, FailTo}
-use Rattle.levels.specs.Block.{Heaviest, Light}
-use Rattle.levels.proofs.SearchLaws.{tally, sumTo-more}
+use Rattle.level_search.specs.Search.{sumTo, passes, TallyTo, FailTo}
+use Rattle.level_search.specs.Block.{Heaviest, Light}
+use Rattle.level_search.proofs.SearchLaws.{tally, sumTo-more}
 
 -- ---- sums of a block
 sumTo-add : (xs : List ℕ) (i n : ℕ) → sumTo xs i ≤ sumTo xs (i + n)

@@ -7,7 +7,7 @@ use lib.ListN.{length, getD}
 use lib.Signed.{_≤ℤ_, _<ℤ_}
 use Rattle.window.specs.declared.coefficients.Coefficients.{Coefficients}
 use Rattle.window.specs.Coefficients.{weightOf}
-use Rattle.levels.specs.Search.{sumTo}
+use Rattle.level_search.specs.Search.{sumTo}
 
 -- w is at least 0 and at least each end of the weight formula, over so many guides
 pub record EndsBelow (k : Coefficients) (guides : ℕ) (w : ℤ) : Type 0 where

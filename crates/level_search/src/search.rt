@@ -1,7 +1,7 @@
 // The search for a window's answer among its levels, by the cumulative count and guide sum: counts and sums are the window's, level by level.
+use crate::Tally;
 use crate::block;
 use crate::block::BLOCK;
-use crate::tally::Tally;
 use spec::Level;
 use window::coefficients::Coefficients;
 use window::coefficients::reached;
@@ -10,8 +10,8 @@ ghost use mathlib.Core.Bool.{true};
 ghost use Prim.Native.Nat.{_+_, _<_, _≤_};
 ghost use lib.ListN.{length};
 ghost use Rattle.spec.specs.Base.{distance};
-ghost use Rattle.levels.specs.Block.{Heaviest};
-ghost use Rattle.levels.specs.Search.{foundAt, TallyTo, passes, LevelCells, Searchable, Rising, FoundAt, FailTo};
+ghost use Rattle.level_search.specs.Block.{Heaviest};
+ghost use Rattle.level_search.specs.Search.{foundAt, TallyTo, passes, LevelCells, Searchable, Rising, FoundAt, FailTo};
 
 // The answer, the tally of the levels up to it, and the shift count.
 pub struct Found {

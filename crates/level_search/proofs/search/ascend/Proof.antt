@@ -1,4 +1,4 @@
--- `levels::search::ascend` meets its contract. Assumes nothing.
+-- `level_search::search::ascend` meets its contract. Assumes nothing.
 use Prim.Native.Nat.{ℕ, _+_, _-_, _≤_}
 use mathlib.Core.Path.{_≡_, sym, _∙_, subst}
 use native.Mathlib.Omega.{arith}
@@ -6,12 +6,12 @@ use lib.IntN.{ℤ, natAbs}
 use lib.ListN.{length, getD}
 use mir.Syntax.{w64}
 use Rattle.ints.specs.Machine.{stored, read-bounded}
-use Rattle.levels.specs.Search.{TallyTo, passes}
-use Rattle.levels.specs.Block.{Light}
-use Rattle.levels.proofs.SearchLaws.{tally, Ascending, tally-next, half-at, fail-next, fail-inside, pass-last, found-at, shifted}
-use Rattle.levels.proofs.BlockLaws.{tally-block, fail-block}
-use Rattle.levels.proofs.search.ascend.Statement.{statement}
-use Rattle.levels.proofs.search.ascend.Tie as tie
+use Rattle.level_search.specs.Search.{TallyTo, passes}
+use Rattle.level_search.specs.Block.{Light}
+use Rattle.level_search.proofs.SearchLaws.{tally, Ascending, tally-next, half-at, fail-next, fail-inside, pass-last, found-at, shifted}
+use Rattle.level_search.proofs.BlockLaws.{tally-block, fail-block}
+use Rattle.level_search.proofs.search.ascend.Statement.{statement}
+use Rattle.level_search.proofs.search.ascend.Tie as tie
 
 abbrev Inv-loop : tie.InvT-loop
 Inv-loop counts sums k heaviest shifts last first count₀ sum₀ i₀ count sum i = Ascending k counts sums first count sum i

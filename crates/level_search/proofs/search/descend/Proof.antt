@@ -1,13 +1,13 @@
--- `levels::search::descend` meets its contract. Assumes nothing.
+-- `level_search::search::descend` meets its contract. Assumes nothing.
 use borrow.Author.Tests.{not-true, not-false}
 use Prim.Native.Nat.{_+_, _-_, _<_, _≤_}
 use mathlib.Core.Path.{_≡_, refl, sym, _∙_, subst}
 use native.Mathlib.Omega.{arith}
 use lib.ListN.{length, getD}
-use Rattle.levels.specs.Search.{TallyTo, FailTo}
-use Rattle.levels.proofs.SearchLaws.{tally, Descending, tally-back, tally-enough, tally-end, half-at, fail-below, fail-to, found-at, shifted-back}
-use Rattle.levels.proofs.search.descend.Statement.{statement}
-use Rattle.levels.proofs.search.descend.Tie as tie
+use Rattle.level_search.specs.Search.{TallyTo, FailTo}
+use Rattle.level_search.proofs.SearchLaws.{tally, Descending, tally-back, tally-enough, tally-end, half-at, fail-below, fail-to, found-at, shifted-back}
+use Rattle.level_search.proofs.search.descend.Statement.{statement}
+use Rattle.level_search.proofs.search.descend.Tie as tie
 
 abbrev Inv-loop : tie.InvT-loop
 Inv-loop counts sums k shifts count₀ sum₀ n₀ c₀ count sum n c = Descending k counts sums shifts c₀ count sum n c

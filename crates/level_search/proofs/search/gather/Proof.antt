@@ -1,10 +1,10 @@
--- `levels::search::gather` meets its contract. Assumes nothing.
+-- `level_search::search::gather` meets its contract. Assumes nothing.
 use Prim.Native.Nat.{_+_, _-_, _≤_}
 use native.Mathlib.Omega.{arith}
-use Rattle.levels.specs.Search.{TallyTo}
-use Rattle.levels.proofs.SearchLaws.{tally, tally-none, tally-next, tally-end}
-use Rattle.levels.proofs.search.gather.Statement.{statement}
-use Rattle.levels.proofs.search.gather.Tie as tie
+use Rattle.level_search.specs.Search.{TallyTo}
+use Rattle.level_search.proofs.SearchLaws.{tally, tally-none, tally-next, tally-end}
+use Rattle.level_search.proofs.search.gather.Statement.{statement}
+use Rattle.level_search.proofs.search.gather.Tie as tie
 
 abbrev Inv-loop : tie.InvT-loop
 Inv-loop counts sums end count₀ sum₀ i₀ count sum i = (i ≤ end) × TallyTo counts sums i (tally count sum)

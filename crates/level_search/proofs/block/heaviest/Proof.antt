@@ -1,4 +1,4 @@
--- `levels::block::heaviest` meets its contract. Assumes nothing.
+-- `level_search::block::heaviest` meets its contract. Assumes nothing.
 use Prim.Native.Nat.{_-_, _≤_}
 use mathlib.Core.Path.{_≡_, sym, subst}
 use mathlib.Core.List.{List, [], _∷_}
@@ -11,9 +11,9 @@ use Rattle.ints.specs.Machine.{Cell, paramCell, unsignedCell, stored, read-boun
 use Rattle.ints.specs.Polynomial.{_⊕_, _⊗_, x₀, x₁, x₂}
 use Rattle.ints.specs.Auto.{signedCode, need! }
 use borrow.Author.Needs.{needs}
-use Rattle.levels.specs.Block.{EndsBelow}
-use Rattle.levels.proofs.block.heaviest.Statement.{statement}
-use Rattle.levels.proofs.block.heaviest.Tie as tie
+use Rattle.level_search.specs.Block.{EndsBelow}
+use Rattle.level_search.proofs.block.heaviest.Statement.{statement}
+use Rattle.level_search.proofs.block.heaviest.Tie as tie
 
 guides-low : (c : tie.Start) → c .args .guides - 1 ≤ 255
 guides-low c = omega (arith, c .pre .1)

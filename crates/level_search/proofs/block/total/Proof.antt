@@ -1,13 +1,13 @@
--- `levels::block::total` meets its contract. Assumes nothing.
+-- `level_search::block::total` meets its contract. Assumes nothing.
 use Prim.Native.Nat.{ℕ, _+_, _-_, _≤_}
 use mathlib.Core.Path.{_≡_, subst}
 use native.Mathlib.Nat.{le-trans, le-antisymm}
 use native.Mathlib.Omega.{arith}
 use lib.ListN.{getD}
-use Rattle.levels.specs.Search.{sumTo}
-use Rattle.levels.proofs.BlockLaws.{sumTo-le, total-none, total-next}
-use Rattle.levels.proofs.block.total.Statement.{statement}
-use Rattle.levels.proofs.block.total.Tie as tie
+use Rattle.level_search.specs.Search.{sumTo}
+use Rattle.level_search.proofs.BlockLaws.{sumTo-le, total-none, total-next}
+use Rattle.level_search.proofs.block.total.Statement.{statement}
+use Rattle.level_search.proofs.block.total.Tie as tie
 
 abbrev Inv-loop : tie.InvT-loop
 Inv-loop numbers at sum₀ j₀ sum j = (j ≤ 16) × (sum + sumTo numbers at ≡ sumTo numbers (at + j))

@@ -1,4 +1,4 @@
--- `levels::block::light` meets its contract. Assumes nothing.
+-- `level_search::block::light` meets its contract. Assumes nothing.
 use Prim.Native.Nat.{ℕ, _+_, _-_, _≤_}
 use mathlib.Core.Path.{_≡_, sym, subst}
 use mathlib.Core.Bool.{true≢false}
@@ -13,9 +13,9 @@ use Rattle.ints.specs.Polynomial.{var, _⊕_, _⊗_, #_, x₀, x₁, x₂, x₃
 use Rattle.ints.specs.Auto.{signedCode, need! }
 use borrow.Author.Needs.{needs}
 use Rattle.window.specs.Coefficients.{weightOf}
-use Rattle.levels.specs.Search.{sumTo}
-use Rattle.levels.proofs.block.light.Statement.{statement}
-use Rattle.levels.proofs.block.light.Tie as tie
+use Rattle.level_search.specs.Search.{sumTo}
+use Rattle.level_search.proofs.block.light.Statement.{statement}
+use Rattle.level_search.proofs.block.light.Tie as tie
 
 whole : (c : tie.Else1) → c .before .before .before .args .from .0 + 16 ≤ length (c .before .before .before .args .counts .now)
 whole c = omega (arith, c .if1 .left)

@@ -1,12 +1,12 @@
--- `levels::search::from_cut` meets its contract. Assumes nothing.
+-- `level_search::search::from_cut` meets its contract. Assumes nothing.
 use Prim.Native.Nat.{_+_}
 use mathlib.Core.Path.{sym, _∙_}
 use native.Mathlib.Omega.{arith}
-use Rattle.levels.proofs.SearchLaws.{half-at, fail-inside, fail-below, distance-down, distance-up}
-use Rattle.levels.proofs.BlockLaws.{handed-on}
+use Rattle.level_search.proofs.SearchLaws.{half-at, fail-inside, fail-below, distance-down, distance-up}
+use Rattle.level_search.proofs.BlockLaws.{handed-on}
 use borrow.Author.Needs.{needs}
-use Rattle.levels.proofs.search.from_cut.Statement.{statement}
-use Rattle.levels.proofs.search.from_cut.Tie as tie
+use Rattle.level_search.proofs.search.from_cut.Statement.{statement}
+use Rattle.level_search.proofs.search.from_cut.Tie as tie
 
 reached-requires : tie.Need-reached-requires
 reached-requires c κs = let st = c .before .before in let a = st .pre .1 .1 .0 in (st .pre .0 .0 .small, (omega (arith, a .count, st .pre .0 .0 .cells .count-high (st .args .cut .0 + 1) (omega (arith, st .pre .1 .0 .0))), omega (arith, a .sum, st .pre .0 .0 .cells .sum-high (st .args .cut .0 + 1) (omega (arith, st .pre .1 .0 .0)))))
