@@ -1,6 +1,5 @@
 -- What a pixel adds to the balance: its weight, taken off where its level is above the given one.
 -- Assumes nothing.
-use mathlib.Core.Path.{_≡_}
 use mathlib.Core.List.{List}
 use Prim.Native.Nat.{ℕ, _+_, _≤_, _<_}
 use lib.ListN.{length}

@@ -4,15 +4,15 @@ use joint_rows::rows;
 use joint_rows::table;
 use joint_search::formula;
 use joint_search::formula::Formula;
-use levels::answer;
+use pixels::sums;
 use spec::Guide;
 use spec::Level;
 use spec::Plan;
+use window::coefficients;
 use window::line::column_line;
 use window::line::low;
 use window::line::span_of;
 use window::pixel;
-use window::sums;
 ghost use mathlib.Core.Path.{_≡_};
 ghost use Prim.Native.Nat.{_<_, _≤_};
 ghost use lib.IntN.{pos, natAbs, _+ℤ_, _*ℤ_};
@@ -127,7 +127,7 @@ pub fn guided_balance(file: &[u8], z: Plan, s: usize, t: usize, top: Level) -> i
     ensures { λ r. ⌜ r ≡ balance (frameOf (now (file .entry))) s t (top .0) ⌝ }
 {
     let a = sums::start(file, z, s, t);
-    let k = answer::coefficients_at(file, z, a, s, t);
+    let k = coefficients::of_window(file, z, a, s, t);
     let m = z.guides;
     let mut row = [0u16; 256];
     rows::ramp(&mut row, m);

@@ -28,7 +28,7 @@ use Rattle.chain.specs.Lines.{nodesOf, sizeOf}
 use Rattle.chain.specs.Moves.{levelCounts, levelGuides, Listed}
 use Rattle.chain.proofs.WindowLaws.{level-total}
 use Rattle.chain_search.specs.declared.visit.Visit.{Visit}
-use Rattle.chain_search.specs.Climb.{reachAt, Climbs}
+use Rattle.chain_search.specs.Climb.{reachesAt, Climbs}
 use Rattle.chain_search.specs.Visit.{StateIs, Holds, Visited}
 use Rattle.chain_search.proofs.ClimbLaws.{climb-median}
 
@@ -56,8 +56,8 @@ module _ {b : List ℕ} {z : Plan} (pl : Planned b z) where
       total-pos k w = subst (λ (n : ℤ). pos 0 <ℤ n) (sym (w .total)) (guided-full (pixel-of pl hs ht) kind-is .0)
 
       -- where the climb ends is the median
-      climb-is : (k : Coefficients) → WeighsAt (frameOf b) s t k → first (reachAt (levelCounts b s t) (levelGuides b s t) k) (z .levels) ≡ median (frameOf b) s t
-      climb-is k w = ap (first (reachAt (levelCounts b s t) (levelGuides b s t) k)) (facts pl .levels) ∙ climb-median (frameOf b) s t kind-is k w
+      climb-is : (k : Coefficients) → WeighsAt (frameOf b) s t k → first (reachesAt (levelCounts b s t) (levelGuides b s t) k) (z .levels) ≡ median (frameOf b) s t
+      climb-is k w = ap (first (reachesAt (levelCounts b s t) (levelGuides b s t) k)) (facts pl .levels) ∙ climb-median (frameOf b) s t kind-is k w
 
       -- the window's list is one to climb along
       pub climbs : (k : Coefficients) → WeighsAt (frameOf b) s t k → (free : FreeList) (m : List ℕ) → Listed b z s t free m → Climbs (z .levels) k m
@@ -82,7 +82,7 @@ module _ {b : List ℕ} {z : Plan} (pl : Planned b z) where
           }
 
       pub climbed : (k : Coefficients) (w : WeighsAt (frameOf b) s t k) (free : FreeList) (m : List ℕ) → Listed b z s t free m → (r : ℕ)
-          → ((a : Climbs (z .levels) k m) → r ≡ first (reachAt (a .cnt) (a .sm) k) (z .levels)) → r ≡ median (frameOf b) s t
+          → ((a : Climbs (z .levels) k m) → r ≡ first (reachesAt (a .cnt) (a .sm) k) (z .levels)) → r ≡ median (frameOf b) s t
       unfolding climbs
       climbed k w free m c r h = h (climbs k w free m c) ∙ climb-is k w
 

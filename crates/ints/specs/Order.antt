@@ -8,6 +8,7 @@ use mathlib.Core.Bool.{Bool, true, false, not, cond}
 use Prim.Native.Nat.{ℕ, zero, suc, _+_, _-_, _*_, _≤_, _<_}
 use native.Mathlib.Nat as NatL
 use native.Mathlib.Omega.{arith}
+use native.Mathlib.Decide.{decLt, ℕ-discrete}
 use lib.Dec.{T, leb, ltb, leb→le, le→leb, ltb→lt, lt→ltb, nleb→lt, nltb→le}
 use lib.IntN.{ℤ, pos, negsuc, negℤ, subℕ, _+ℤ_, _-ℤ_, _*ℤ_}
 use lib.Signed.{_≤ℤ_, _<ℤ_, leZ, ltZ, leZ-yes, ≤ℤ-refl, <ℤ-irrefl}
@@ -216,3 +217,10 @@ mul-cancel-≤ {a} {b} c hc h = go (≤-or-> a b)
     go : (a ≤ℤ b) ⊎ (b <ℤ a) → a ≤ℤ b
     go (inl k) = k
     go (inr k) = absurd (≤-not-< h (pos-sub (subst (λ (x : ℤ). pos 0 <ℤ x) (mul-sub c a b) (mul-pos hc (sub-pos k)))))
+
+-- ---- which of two cases holds, of natural numbers
+pub lt-or-le : (a b : ℕ) → (a < b) ⊎ (b ≤ a)
+lt-or-le a b = elim (decLt a b) [ yes p ↦ inl p | no q ↦ inr (omega arith) ]
+
+pub eq-or-ne : (a b : ℕ) → (a ≡ b) ⊎ (a ≡ b → ⊥)
+eq-or-ne a b = elim (ℕ-discrete a b) [ yes p ↦ inl p | no q ↦ inr q ]

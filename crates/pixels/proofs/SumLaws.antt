@@ -8,18 +8,19 @@ use native.Mathlib.Omega.{arith}
 use Rattle.spec.specs.declared.Plan.{Plan}
 use Rattle.spec.specs.Frame.{frameOf}
 use Rattle.spec.specs.Checks.{Planned}
-use Rattle.spec.specs.Window.{pixelCount, guideSum, squareSum}
+use Rattle.spec.specs.Window.{span, pixelCount, guideSum, squareSum}
 use Rattle.spec.proofs.Plans.{pixel-of}
 use Rattle.spec.proofs.Bounds.{pixelCount-high, guideSum-high, squareSum-high}
+use Rattle.window.specs.declared.line.Line.{Line}
 use Rattle.window.specs.declared.line.Step.{Step}
 use Rattle.window.specs.declared.sums.Sums.{Sums}
-use Rattle.window.specs.Line.{Adjacent, stepOf}
+use Rattle.window.specs.Line.{columnLine, Adjacent, stepOf}
 use Rattle.window.specs.Sums.{one, itself, squared, SumsAt}
 use Rattle.window.proofs.FormLaws.{both-in}
 use Rattle.window.proofs.PixelLaws.{guides-high, levels-high}
 use Rattle.pixels.specs.Pixels.{countOf, guideIn, PixelsBelow, LinePixels}
-use Rattle.pixels.specs.Sums.{ListSums, Movable, Moved}
-use Rattle.pixels.proofs.AdditiveLaws.{pixels-none, pixels-more, stepped}
+use Rattle.pixels.specs.Sums.{ListSums, ColumnSums, Movable, Moved}
+use Rattle.pixels.proofs.AdditiveLaws.{pixels-none, pixels-more, columns-none, columns-more, columns-window, stepped}
 
 abbrev sums : ℕ → ℕ → ℕ → Sums
 sums n s q = record { count = n; sum = s; squares = q }
@@ -57,6 +58,38 @@ module _ {p : List ℕ} (v : PixelsBelow 1024 256 p) {k : ℕ} (h : k < countOf 
     squares-high = omega (arith, a .squares-high, guide-small .1);
   }
 
+-- ---- column by column
+pub columns-start : (b : List ℕ) (z : Plan) (x t : ℕ) → ColumnSums b z x t 0 (sums 0 0 0)
+columns-start b z x t = record {
+  count = sym (columns-none _+_ 0 b z x t one);
+  sum = sym (columns-none _+_ 0 b z x t itself);
+  squares = sym (columns-none _+_ 0 b z x t squared);
+  count-high = omega arith;
+  sum-high = omega arith;
+  squares-high = omega arith;
+}
+
+module _ {b : List ℕ} {z : Plan} {x t : ℕ} where
+  pub columns-next : {k n u q : ℕ} {d : Line} {p : List ℕ} {a : Sums} → ColumnSums b z x t k (sums n u q) → d ≡ columnLine z (x + k) t → LinePixels b z d p → ListSums p (countOf p) a
+      → ColumnSums b z x t (k + 1) (sums (n + a .count) (u + a .sum) (q + a .squares))
+  columns-next {k} {p = p} v ed r l = record {
+    count = ap₂ _+_ (v .count) (l .count) ∙ sym (columns-more _+_ 0 b z x t one k p ed (r .sum one));
+    sum = ap₂ _+_ (v .sum) (l .sum) ∙ sym (columns-more _+_ 0 b z x t itself k p ed (r .sum itself));
+    squares = ap₂ _+_ (v .squares) (l .squares) ∙ sym (columns-more _+_ 0 b z x t squared k p ed (r .sum squared));
+    count-high = omega (arith, v .count-high, l .count-high, r .below .few);
+    sum-high = omega (arith, v .sum-high, l .sum-high, r .below .few);
+    squares-high = omega (arith, v .squares-high, l .squares-high, r .below .few);
+  }
+
+  pub columns-end : Planned b z → (s : ℕ) {n : ℕ} {a : Sums} → x ≡ s - z .radius → n ≡ span (z .radius) s (z .width) → ColumnSums b z x t n a → SumsAt (frameOf b) s t a
+  unfolding pixelCount guideSum squareSum
+  columns-end pl s ex en v = record {
+    count = v .count ∙ columns-window _+_ 0 b z x t one pl s ex en;
+    sum = v .sum ∙ columns-window _+_ 0 b z x t itself pl s ex en;
+    squares = v .squares ∙ columns-window _+_ 0 b z x t squared pl s ex en;
+  }
+
+-- ---- one list in, another out
 pub exchanged : {e l : List ℕ} {a less more : Sums} → Movable e l a → ListSums l (countOf l) less → ListSums e (countOf e) more
     → Moved e l a (sums (a .count + more .count - less .count) (a .sum + more .sum - less .sum) (a .squares + more .squares - less .squares))
 exchanged m l e = record {

@@ -8,7 +8,7 @@ use lib.IntN.{pos, _+ℤ_}
 use Rattle.spec.specs.declared.Plan.{Plan}
 use Rattle.spec.specs.Base.{fold}
 use Rattle.window.specs.declared.line.Line.{Line}
-use Rattle.window.specs.Line.{lineFold}
+use Rattle.window.specs.Line.{columnLine, lineFold}
 
 -- how many pixels a list has; the level and the guide of pixel k
 abbrev pub countOf : List ℕ → ℕ
@@ -27,6 +27,10 @@ module _ {A : Type 0} (_⊕_ : A → A → A) (e : A) where
 
   abbrev pub pixelFold : List ℕ → (ℕ → ℕ → A) → A
   pixelFold p h = pixelFoldTo p h (countOf p)
+
+  -- the sum of h over n columns from column x of the windows of row t
+  abbrev pub columnsFold : List ℕ → Plan → ℕ → ℕ → (ℕ → ℕ → A) → ℕ → A
+  columnsFold b z x t h n = fold _⊕_ e (λ a. lineFold _⊕_ e b (columnLine z a t) h) x n
 
 -- few pixels, of l levels and m guides
 pub record PixelsBelow (l m : ℕ) (p : List ℕ) : Type 0 where

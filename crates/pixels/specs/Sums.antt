@@ -5,7 +5,8 @@ use mathlib.Core.List.{List}
 use Prim.Native.Nat.{ℕ, _+_, _*_, _≤_}
 use Rattle.window.specs.declared.sums.Sums.{Sums}
 use Rattle.window.specs.Sums.{one, itself, squared}
-use Rattle.pixels.specs.Pixels.{pixelFoldTo, pixelFold}
+use Rattle.spec.specs.declared.Plan.{Plan}
+use Rattle.pixels.specs.Pixels.{pixelFoldTo, pixelFold, columnsFold}
 
 -- of the first k pixels of a list
 pub record ListSums (p : List ℕ) (k : ℕ) (a : Sums) : Type 0 where
@@ -15,6 +16,15 @@ pub record ListSums (p : List ℕ) (k : ℕ) (a : Sums) : Type 0 where
   pub count-high : a .count ≤ k
   pub sum-high : a .sum ≤ 255 * k
   pub squares-high : a .squares ≤ 65025 * k
+
+-- of the first k columns from column x of the windows of row t
+pub record ColumnSums (b : List ℕ) (z : Plan) (x t k : ℕ) (a : Sums) : Type 0 where
+  pub count : a .count ≡ columnsFold _+_ 0 b z x t one k
+  pub sum : a .sum ≡ columnsFold _+_ 0 b z x t itself k
+  pub squares : a .squares ≡ columnsFold _+_ 0 b z x t squared k
+  pub count-high : a .count ≤ 31 * k
+  pub sum-high : a .sum ≤ 7905 * k
+  pub squares-high : a .squares ≤ 2015775 * k
 
 -- before a step: nothing overflows, and what leaves is there
 pub record Movable (e l : List ℕ) (a : Sums) : Type 0 where

@@ -1,11 +1,11 @@
 // A line's pixels, read once: a list of each pixel's level and guide in turn. What counts pixels (sums, tally, histogram, joint store, linked list)
 // goes by such lists and knows neither file nor border.
+pub mod store;
 pub mod sums;
 
 use spec::Plan;
 use window::line::Line;
 use window::pixel;
-ghost use mathlib.Core.Path.{_≡_};
 ghost use Prim.Native.Nat.{_≤_};
 ghost use lib.ListN.{length, take};
 ghost use Rattle.spec.specs.Checks.{Planned};

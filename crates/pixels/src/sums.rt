@@ -1,5 +1,14 @@
-// Document 01's n, S and Q of a list's pixels, and over a step: one list in, one list out.
+// Document 01's n, S and Q of a list's pixels, of a window by the lists of its columns, and over a step: one list in, one list out.
+use crate::read;
+use spec::Plan;
+use window::line::column_line;
+use window::line::low;
+use window::line::span_of;
 use window::sums::Sums;
+ghost use Prim.Native.Nat.{_<_};
+ghost use Rattle.spec.specs.Checks.{Planned};
+ghost use Rattle.spec.specs.Frame.{frameOf};
+ghost use Rattle.window.specs.Sums.{SumsAt};
 ghost use Rattle.pixels.specs.Pixels.{countOf, PixelsBelow};
 ghost use Rattle.pixels.specs.Sums.{ListSums, Movable, Moved};
 
@@ -21,6 +30,35 @@ pub fn list_sums(p: &[u16]) -> Sums
     }
     Sums {
         count: k,
+        sum: sum,
+        squares: squares,
+    }
+}
+
+// Of the window at (s, t), from nothing.
+pub fn start(file: &[u8], plan: Plan, s: usize, t: usize) -> Sums
+    requires { ⌜ Planned (now file) plan ⌝ }
+    requires { ⌜ (s < plan .width) × (t < plan .height) ⌝ }
+    ensures { λ r. ⌜ SumsAt (frameOf (now (file .entry))) s t r ⌝ }
+{
+    let x = low(s, plan.radius);
+    let n = span_of(s, plan.radius, plan.width);
+    let mut count: usize = 0;
+    let mut sum: usize = 0;
+    let mut squares: usize = 0;
+    let mut k: usize = 0;
+    while k < n {
+        let mut places = [0u16; 62];
+        let line = column_line(plan, x + k, t);
+        let p = read(file, plan, line, &mut places);
+        let a = list_sums(&places[0..p]);
+        count += a.count;
+        sum += a.sum;
+        squares += a.squares;
+        k += 1;
+    }
+    Sums {
+        count: count,
         sum: sum,
         squares: squares,
     }

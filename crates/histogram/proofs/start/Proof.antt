@@ -5,8 +5,7 @@ use native.Mathlib.Omega.{arith}
 use borrow.Author.Needs.{needs}
 use Prim.Native.Nat.{ℕ, _+_, _-_, _≤_, _<_}
 use Rattle.window.proofs.PixelLaws.{plan-limits}
-use Rattle.window.proofs.LineLaws.{column-in}
-use Rattle.window.proofs.SumLaws.{in-span, few-columns}
+use Rattle.window.proofs.LineLaws.{column-in, span-in, span-high}
 use Rattle.pixels.specs.Pixels.{LinePixels}
 use Rattle.pixels.proofs.Laws.{line-part}
 use Rattle.histogram.specs.Histogram.{Filled}
@@ -28,13 +27,13 @@ wide : (c : tie.In-loop Inv-loop μ-loop) → c .before .before .before .low .re
 wide c =
     let h = c .before in
     let at = begin h in
-    omega (arith, h .before .before .low .ensures, in-span (at .args .z) (at .args .s) (h .loop .k) (subst (λ (n : ℕ). h .loop .k < n) (h .before .span-of .ensures) (c .loop-test .taken)))
+    omega (arith, h .before .before .low .ensures, span-in (at .args .z .radius) (at .args .s) (at .args .z .width) (h .loop .k) (subst (λ (n : ℕ). h .loop .k < n) (h .before .span-of .ensures) (c .loop-test .taken)))
 
 few : (c : tie.In-loop Inv-loop μ-loop) → c .before .loop .k < 31
 few c =
     let h = c .before in
     let at = begin h in
-    omega (arith, c .loop-test .taken, few-columns (at .args .z) (plan-limits (at .pre .0 .0)) (at .args .s), h .before .span-of .ensures)
+    omega (arith, c .loop-test .taken, span-high (at .args .z .radius) (at .args .s) (at .args .z .width) (plan-limits (at .pre .0 .0) .radius), h .before .span-of .ensures)
 
 -- the places passed: the turn, its column, and the list that the column was read into
 abbrev line : tie.After-read Inv-loop μ-loop → tie.After-column-line Inv-loop μ-loop

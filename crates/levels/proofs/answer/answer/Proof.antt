@@ -1,8 +1,7 @@
 -- `levels::answer::answer` meets its contract: from the cut point where the window is monotone, else from level 0. Assumes nothing.
-use mathlib.Core.Path.{_∙_}
 use native.Mathlib.Omega.{arith}
-use Rattle.levels.proofs.SearchLaws.{tally-none, fail-none, fail-inside}
-use Rattle.levels.proofs.BlockLaws.{handed-on}
+use Rattle.level_search.proofs.SearchLaws.{tally-none, fail-none, fail-inside}
+use Rattle.level_search.proofs.BlockLaws.{handed-on}
 use Rattle.levels.proofs.answer.answer.Statement.{statement}
 use Rattle.levels.proofs.answer.answer.Tie as tie
 
