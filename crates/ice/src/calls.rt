@@ -2,7 +2,6 @@
 // fires.
 use crate::Balanced;
 use balance::balance_at;
-use frame::check::stops;
 use frame::plan::open_plan;
 use ice_walk::Walked;
 use ice_walk::filter::sweep;
@@ -13,6 +12,7 @@ use spec::Plan;
 use spec::Room;
 use spec::Verdict;
 use spec::Way;
+use spec::stops;
 use ways::dispatch;
 ghost use mathlib.Core.Path.{_≡_};
 ghost use mathlib.Core.List.{_++_};
