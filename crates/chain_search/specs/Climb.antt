@@ -7,7 +7,7 @@ use lib.IntN.{pos, _+ℤ_, _*ℤ_}
 use lib.Signed.{leZ}
 use Rattle.spec.specs.Base.{first}
 use Rattle.window.specs.declared.coefficients.Coefficients.{Coefficients}
-use Rattle.chain.specs.Chain.{Chain, sumBelow}
+use Rattle.chain_list.specs.Chain.{Chain, sumBelow}
 
 -- whether twice the weight of so many pixels with that guide sum reaches the window's weight sum
 unfoldable pub reach : Coefficients → ℕ → ℕ → Bool
