@@ -1,5 +1,4 @@
 // Document 01's balance of a window at any level, 2U(i) - T, from the file alone: no stores, one pass over the window's pixels in 64 bits.
-use frame::weight;
 use joint_rows::rows;
 use joint_rows::table;
 use joint_search::formula;
@@ -95,7 +94,7 @@ pub fn table_row(file: &[u8], z: Plan, f: Guide) -> [u16; 256]
     requires { ⌜ (Planned (now file) z) × (f .0 < z .guides) ⌝ }
     ensures { λ r. ⌜ TableRow (frameOf (now (file .entry))) (z .guides) (f .0) r ⌝ }
 {
-    let built = weight::constants();
+    let built = frame_weights::constants();
     let m = z.guides;
     let mut out = [0u16; 256];
     let mut k = 0;

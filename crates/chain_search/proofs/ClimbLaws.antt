@@ -20,9 +20,10 @@ use Rattle.spec.proofs.Levels.{cumulative-zero, cumulative-next, level-linear}
 use Rattle.spec.proofs.Totals.{lt-leZ, median-first}
 use Rattle.window.specs.declared.coefficients.Coefficients.{Coefficients}
 use Rattle.window.specs.Coefficients.{WeighsAt, reachesHalf}
-use Rattle.chain.specs.Chain.{levelIn, countIn, guidesIn, nextIn, Used, floor, Live, Successor, sumBelow}
-use Rattle.chain.proofs.SumLaws.{zero-or-pos, lt-or-ge, sum-none, sum-suc, sum-mono, sum-flat}
-use Rattle.chain.proofs.ChainLaws.{floor-pos, floor-zero}
+use Rattle.chain_nodes.specs.Nodes.{levelIn, countIn, guidesIn, nextIn}
+use Rattle.chain_list.specs.Chain.{Used, floor, Live, Successor, sumBelow}
+use Rattle.chain_list.proofs.SumLaws.{zero-or-pos, lt-or-ge, sum-none, sum-suc, sum-mono, sum-flat}
+use Rattle.chain_list.proofs.ChainLaws.{floor-pos, floor-zero}
 use Rattle.chain_search.specs.Climb.{reachesAt, Climbs}
 
 -- ---- nothing does not reach a positive number

@@ -22,8 +22,8 @@ use Rattle.spec.proofs.Bounds.{pixelCount-high, guideSum-high}
 use Rattle.window.specs.declared.coefficients.Coefficients.{Coefficients}
 use Rattle.window.specs.Coefficients.{WeighsAt}
 use Rattle.window.proofs.PixelLaws.{guide-low, guides-high}
-use Rattle.chain.specs.declared.FreeList.{FreeList}
-use Rattle.chain.specs.Chain.{sumBelow}
+use Rattle.chain_nodes.specs.declared.FreeList.{FreeList}
+use Rattle.chain_list.specs.Chain.{sumBelow}
 use Rattle.chain.specs.Lines.{nodesOf, sizeOf}
 use Rattle.chain.specs.Moves.{levelCounts, levelGuides, Listed}
 use Rattle.chain.proofs.WindowLaws.{level-total}

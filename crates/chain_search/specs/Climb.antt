@@ -6,7 +6,7 @@ use Prim.Native.Nat.{ℕ, suc, _≤_, _<_}
 use Rattle.spec.specs.Base.{first}
 use Rattle.window.specs.declared.coefficients.Coefficients.{Coefficients}
 use Rattle.window.specs.Coefficients.{reachesHalf}
-use Rattle.chain.specs.Chain.{Chain, sumBelow}
+use Rattle.chain_list.specs.Chain.{Chain, sumBelow}
 
 -- whether the levels up to i weigh at least half
 abbrev pub reachesAt : (ℕ → ℕ) → (ℕ → ℕ) → Coefficients → ℕ → Bool

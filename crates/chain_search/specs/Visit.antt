@@ -8,7 +8,7 @@ use Rattle.spec.specs.Frame.{frameOf}
 use Rattle.spec.specs.Walk.{arrive}
 use Rattle.window.specs.declared.sums.Sums.{Sums}
 use Rattle.window.specs.Sums.{SumsAt}
-use Rattle.chain.specs.declared.FreeList.{FreeList}
+use Rattle.chain_nodes.specs.declared.FreeList.{FreeList}
 use Rattle.chain.specs.Moves.{Listed, Stored}
 use Rattle.chain_search.specs.declared.visit.Visit.{Visit}
 

@@ -1,6 +1,6 @@
 // The median along the list. In kind 2 the weight of any pixels is linear in their number and their guide sum, so two running sums are all that a
 // climb carries; weights may be negative, so it begins at the first node each time.
-use chain::node;
+use chain_nodes::place;
 use spec::Level;
 use window::coefficients::Coefficients;
 use window::coefficients::reached;
@@ -22,7 +22,7 @@ pub fn climb(numbers: &[u32], levels: usize, k: Coefficients) -> Level
 {
     let mut count: u32 = 0;
     let mut sum: u32 = 0;
-    let mut at = node::place(numbers[0]);
+    let mut at = place(numbers[0]);
     let mut next = numbers[at];
     while next != 0 {
         count += numbers[at - 2];
@@ -30,7 +30,7 @@ pub fn climb(numbers: &[u32], levels: usize, k: Coefficients) -> Level
         if reached(k, count as usize, sum as usize) {
             return Level(numbers[at - 3] as u16);
         }
-        at = node::place(next);
+        at = place(next);
         next = numbers[at];
     }
     Level(numbers[at - 3] as u16)

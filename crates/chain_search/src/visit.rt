@@ -1,7 +1,7 @@
 // A walk's visit to a window: its store, its sums, its answer, the new cut point and the shift count.
 use crate::climb;
-use chain::FreeList;
 use chain::moves;
+use chain_nodes::FreeList;
 use spec::Level;
 use spec::Plan;
 use window::coefficients;

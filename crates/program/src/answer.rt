@@ -4,15 +4,15 @@ use spec::Plan;
 use text::put_rows;
 use text::put_size;
 use text::put_way;
-ghost use mathlib.Core.Path.{_≡_};
-ghost use Prim.Native.Nat.{_+_, _≤_};
+ghost use Prim.Native.Nat.{_≤_};
 ghost use lib.ListN.{length};
 ghost use Rattle.spec.specs.Refusal.{accepted};
 ghost use Rattle.spec.specs.Frame.{frameOf};
 ghost use Rattle.spec.specs.Filter.{filterEnd};
 ghost use Rattle.spec.specs.Program.{outputText};
 ghost use Rattle.text.specs.Text.{Room, Puts};
-ghost use Rattle.program.specs.Admitted.{longest, Admitted, Serving, Filtered, guidedText};
+ghost use Rattle.program_checks.specs.Admitted.{Admitted};
+ghost use Rattle.program.specs.Answer.{longest, Serving, Filtered, guidedText};
 
 // The pixels that a file of 16,384 bytes can have: its planes may overlap, so that 28 bytes of trailer and 2 for each pixel are the least.
 const PIXELS: usize = 8192;

@@ -1,7 +1,7 @@
 // Each way's start and move, as what every visit leaves: its own stores in its own crate's words become the common record.
 use crate::Carry;
 use crate::Visit;
-use chain::FreeList;
+use chain_nodes::FreeList;
 use levels::tally::Tally;
 use spec::Answer;
 use spec::Level;

@@ -2,7 +2,7 @@
 pub mod dispatch;
 pub mod each;
 
-use chain::FreeList;
+use chain_nodes::FreeList;
 use levels::tally::Tally;
 use spec::Answer;
 use spec::Level;

@@ -5,7 +5,7 @@ use borrow.Author.Needs.{needs}
 use Rattle.spec.specs.Frame.{frameOf}
 use Rattle.window.specs.declared.sums.Sums.{Sums}
 use Rattle.window.specs.Sums.{SumsAt}
-use Rattle.chain.specs.declared.FreeList.{FreeList}
+use Rattle.chain_nodes.specs.declared.FreeList.{FreeList}
 use Rattle.chain.specs.Moves.{Stored}
 use Rattle.chain_search.proofs.visit.enter.Statement.{statement}
 use Rattle.chain_search.proofs.visit.enter.Tie as tie

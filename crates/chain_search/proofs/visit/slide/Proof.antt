@@ -13,7 +13,7 @@ use Rattle.window.proofs.PixelLaws.{plan-limits}
 use Rattle.pixels.specs.Pixels.{LinePixels}
 use Rattle.pixels.proofs.Laws.{line-part, step-in}
 use Rattle.pixels.proofs.SumLaws.{below-most, movable, sums-moved}
-use Rattle.chain.specs.declared.FreeList.{FreeList}
+use Rattle.chain_nodes.specs.declared.FreeList.{FreeList}
 use Rattle.chain.specs.Moves.{Stored}
 use Rattle.chain.proofs.MoveLaws.{slides, slid-stored}
 use Rattle.chain_search.proofs.visit.slide.Statement.{statement}

@@ -3,7 +3,7 @@
 use mathlib.Core.Path.{_≡_, refl, _∙_}
 use native.Mathlib.Omega.{arith}
 use lib.ListN.{length}
-use Rattle.program.specs.Admitted.{Filtered}
+use Rattle.program.specs.Answer.{Filtered}
 use Rattle.program.proofs.Serving.{Lent, filter-passes}
 use Rattle.ice.specs.Contract.{Filters, Ended}
 use borrow.Author.Needs.{needs}

@@ -13,8 +13,9 @@ use Rattle.spec.specs.Program.{jointWord, rows}
 use Rattle.spec.proofs.Plans.{facts}
 use Rattle.text.specs.Text.{Room, Puts, sizeText, wayText}
 use Rattle.text.proofs.Putting.{joined, called, room-first, room-next}
-use Rattle.program.specs.Admitted.{Admitted, guidedText, Filtered}
-use Rattle.program.proofs.Admission.{pixels-few}
+use Rattle.program_checks.specs.Admitted.{Admitted}
+use Rattle.program.specs.Answer.{guidedText, Filtered}
+use Rattle.program_checks.proofs.Admission.{pixels-few}
 use Rattle.program.proofs.Answering.{shiftCount, parts, whole, plane-text, text-short}
 use borrow.Author.Needs.{needs}
 use Rattle.program.proofs.answer.put_answer.Statement.{statement}

@@ -7,7 +7,7 @@ use Prim.Native.Nat.{ℕ}
 use Rattle.spec.specs.Program.{columnsWord, chainWord}
 use Rattle.text.specs.Text.{Room, Puts, wayText}
 use Rattle.text.proofs.Putting.{none, joined, called, room-first, room-next}
-use Rattle.program.specs.Admitted.{Filtered}
+use Rattle.program.specs.Answer.{Filtered}
 use Rattle.program.proofs.Answering.{shiftCount, guided-none, guided-both}
 use borrow.Author.Needs.{needs}
 use Rattle.program.proofs.answer.put_guided.Statement.{statement}
