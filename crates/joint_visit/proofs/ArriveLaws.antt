@@ -17,7 +17,7 @@ use Rattle.spec.specs.Checks.{Planned}
 use Rattle.spec.specs.Weight.{monotone}
 use Rattle.spec.specs.Median.{weightless, median}
 use Rattle.spec.specs.Joint.{balanceBox}
-use Rattle.spec.specs.Walk.{State, arrive}
+use Rattle.spec.specs.Walk.{State}
 use Rattle.spec.proofs.Plans.{facts}
 use Rattle.spec.proofs.Totals.{median-low}
 use Rattle.spec.proofs.Walks.{arrive-weightless, arrive-full}
