@@ -5,17 +5,16 @@ use mathlib.Core.Path.{_≡_, refl, sym, ap, ap₂, _∙_, subst}
 use mathlib.Core.Bool.{Bool, true, false, true≢false}
 use mathlib.Core.Logic.{⊎-elim}
 use Prim.Native.Nat.{ℕ, zero, suc, _+_, _-_, _*_, _≤_, _<_}
-use native.Mathlib.Nat.{zero-add, le-trans, le-of-eq}
-use native.Mathlib.Numerals.{add-one}
+use native.Mathlib.Nat.{zero-add}
 use native.Mathlib.Omega.{arith}
 use lib.IntN.{ℤ, pos, negsuc, natAbs, _+ℤ_, _-ℤ_, _*ℤ_, +ℤ-idl}
 use lib.Signed.{_≤ℤ_, _<ℤ_, leZ, ≤ℤ-refl, clashℤ}
 use borrow.Author.Tests.{eqb-true}
 use Rattle.ints.specs.Polynomial.{_⊕_, _⊖_, _⊗_, #_, _≐_, solve2, solve3, solve4}
-use Rattle.ints.specs.Order.{diff-parts, mul-parts, ≤-of-eq, ≤-trans, ≤-antisymm, ≤-<-trans, <-≤-trans, sub-mono, mul-mono-l, litℤ≤}
+use Rattle.ints.specs.Order.{add-parts, diff-parts, ≤-of-eq, ≤-antisymm, ≤-<-trans, <-≤-trans, sub-mono, mul-mono-l, litℤ≤}
 use Rattle.ints.specs.Linear.{ints}
 use Rattle.ints.specs.Bound.{abs-sub-le}
-use Rattle.spec.specs.Base.{fold, sum, sumℤ, distance, first}
+use Rattle.spec.specs.Base.{fold, sum, sumℤ, distance}
 use Rattle.spec.specs.Median.{isZero}
 use Rattle.spec.proofs.First.{first-unique}
 use Rattle.spec.proofs.Ranges.{fold-parts, fold-both, fold-same, intSums, natSums}
@@ -139,7 +138,7 @@ module _ {X : ℕ → ℤ} {l : ℕ} (low : (i : ℕ) → i < l → pos 0 ≤ℤ
       let R = sumℤ X (0 + suc i) (j - i) in
       let e : sumℤ X 0 (suc j) ≡ A +ℤ R = ap (sumℤ X 0) (sym d) ∙ fold-parts _+ℤ_ (pos 0) intSums X 0 (suc i) (j - i) in
       let r : pos 0 ≤ℤ R = sum-nonneg X (0 + suc i) (j - i) (λ q x y. low q (omega arith)) in
-      rw e (omega (arith, ints, Rattle.ints.specs.Order.add-parts A R))
+      rw e (omega (arith, ints, add-parts A R))
 
   pub balance-mono : (i j : ℕ) → i ≤ j → j < l → balanceOf X l i ≤ℤ balanceOf X l j
   unfolding balanceOf

@@ -232,9 +232,6 @@ module _ {m i : ℕ} {cs ws : List ℕ} (ok : Marked m i cs ws) where
       let one : bit (getD ws (i * wordsPer m + placeOf c / 64) 0) (placeOf c % 64) ≡ 1 = rw (q, r) (sym (sc .agrees (trailingZeros 64 (c .rest)) (t .1) (omega arith) n) ∙ t .0) in
       ⊎-elim (λ l. l) (λ l. absurd (omega (arith, one, ok .marks (placeOf c) (omega (arith, e, t .1, w)), count-out m i (placeOf c) cs l))) (lt-or-le (placeOf c) m)
 
-  pub place-below : {c : Scan} → Scans ws (i * wordsPer m) (wordsPer m) c → (c .rest ≡ 0 → ⊥) → placeOf c < 256
-  place-below sc n = omega (arith, place-low sc n, ok .guides)
-
   pub place-ended : (c : Scan) → c .rest ≡ 0 → m ≤ placeOf c
   place-ended c e = omega (arith, place-none c e, ok .guides)
 

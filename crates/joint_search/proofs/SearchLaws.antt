@@ -27,11 +27,11 @@ use Rattle.spec.proofs.Sums.{sum-pos, sum-le, sum-term, sum-nonneg}
 use Rattle.joint.specs.Store.{cellAt, countIn}
 use Rattle.joint.proofs.BitLaws.{lt-or-le}
 use Rattle.joint.proofs.RepLaws.{count-in, count-out}
-use Rattle.joint_search.specs.Scan.{Marked, RowFits, cellSum, cellDot}
+use Rattle.joint_search.specs.Scan.{Marked, cellSum, cellDot}
 use Rattle.joint_search.specs.Box.{BoxInBounds, CountsAdded, boxAll, boxDot, boxSize}
 use Rattle.joint_search.specs.declared.formula.Formula.{Formula}
-use Rattle.joint_search.specs.Formula.{FormulaInBounds, weightBy}
-use Rattle.joint_search.specs.Levels.{balanceOf, totalOf}
+use Rattle.joint_search.specs.Formula.{weightBy}
+use Rattle.joint_search.specs.Levels.{balanceOf}
 use Rattle.joint_search.specs.Search.{levelWeightIn, balanceIn, totalIn, boxIn, pixelsIn, Searchable, FormulaFits, NoneNegative}
 use Rattle.joint_search.proofs.ScanLaws.{sum-upto, sum-skip, dot-low}
 use Rattle.joint_search.proofs.LevelsLaws.{balance-next, balance-last, balance-size, balance-same, balance-add, balance-scale, balance-sum}

@@ -1,37 +1,36 @@
 -- The stores of a window can be searched, and what they say of its levels is the frame's own: weights, balance, answer, hollow test and box.
 -- Assumes nothing.
-use mathlib.Core.Path.{_≡_, refl, sym, ap, ap₂, _∙_, subst, fun-ext}
+use mathlib.Core.Path.{_≡_, refl, sym, ap, ap₂, _∙_, subst}
 use mathlib.Core.Bool.{Bool, true, false, _&&_}
 use mathlib.Core.List.{List}
 use Prim.Native.Nat.{ℕ, zero, suc, _+_, _-_, _*_, _≤_, _<_, min}
-use native.Mathlib.Nat.{zero-add, add-zero, le-trans, le-refl, le-of-eq, mul-le-mul, suc-mul}
+use native.Mathlib.Nat.{zero-add, le-trans, le-refl, le-of-eq, mul-le-mul, suc-mul}
 use native.Mathlib.Omega.{arith}
-use lib.Dec.{eqb, leb}
-use lib.ListN.{length, getD}
-use lib.IntN.{ℤ, pos, negsuc, _+ℤ_, _-ℤ_, _*ℤ_}
-use lib.Signed.{_≤ℤ_, leZ}
+use lib.Dec.{eqb}
+use lib.IntN.{ℤ, pos, _+ℤ_, _-ℤ_, _*ℤ_}
+use lib.Signed.{leZ}
 use borrow.Author.Tests.{le-leb}
 use Rattle.ints.specs.Polynomial.{_⊕_, _⊖_, _⊗_, #_, _≐_, solve2}
 use Rattle.spec.specs.declared.Plan.{Plan}
-use Rattle.spec.specs.Base.{if_then_else_, indicator, fold, sum, sumℤ}
+use Rattle.spec.specs.Base.{if_then_else_, indicator, sum, sumℤ}
 use Rattle.spec.specs.Frame.{Frame, level, guide, frameOf}
-use Rattle.spec.specs.Window.{Σℤ, inCell, count, pixelCount, InWindow}
+use Rattle.spec.specs.Window.{inCell, count, pixelCount}
 use Rattle.spec.specs.Median.{totalWeight, cumulative, balance, weightless, median, isZero}
 use Rattle.spec.specs.Joint.{jointCounts, occupancyWords, balanceBox}
 use Rattle.spec.proofs.Ranges.{fold-none, fold-same, intSums, natSums}
 use Rattle.spec.proofs.Histogram.{times, fold-pick, over-fold, over-joint}
-use Rattle.spec.proofs.First.{First, first-unique}
-use Rattle.spec.proofs.Sums.{over-inWindow, over-pos}
+use Rattle.spec.proofs.First.{first-unique}
+use Rattle.spec.proofs.Sums.{sum-term, over-inWindow, over-pos}
 use Rattle.spec.proofs.Limits.{Pixel}
 use Rattle.spec.proofs.Plans.{facts, pixel-of}
 use Rattle.spec.proofs.Levels.{levelWeight, cumulative-zero, cumulative-next, cumulative-last, level-joint, cell, box-cell}
 use Rattle.spec.proofs.Totals.{median-first}
 use Rattle.spec.proofs.Monotone.{cell-next}
 use Rattle.spec.proofs.Bounds.{pixelCount-high}
-use Rattle.joint.specs.Store.{cellAt, countIn, Rep}
+use Rattle.joint.specs.Store.{countIn, Rep}
 use Rattle.joint.proofs.ListLaws.{begun-long, rep-own, lists-rep, counts-long, bits-long}
 use Rattle.joint.proofs.WindowLaws as joint
-use Rattle.joint_search.specs.Scan.{Marked, RowFits, cellSum}
+use Rattle.joint_search.specs.Scan.{Marked, cellSum}
 use Rattle.joint_search.specs.declared.formula.Formula.{Formula}
 use Rattle.joint_search.specs.Formula.{Weighs}
 use Rattle.joint_search.specs.Levels.{cumulativeOf, totalOf, balanceOf, weightlessOf, medianOf}
@@ -118,7 +117,7 @@ module _ {b : List ℕ} {plan : Plan} {s t : ℕ} {cs ws : List ℕ} (st : Count
 
   level-few : (i : ℕ) → i < frameOf b .set .levels → cellSum (frameOf b .set .guides) i cs (frameOf b .set .guides) ≤ 961
   level-few i h =
-      le-trans (Rattle.spec.proofs.Sums.sum-term (λ i. cellSum (frameOf b .set .guides) i cs (frameOf b .set .guides)) 0 (frameOf b .set .levels) i (omega arith) (omega arith)) all-cells
+      le-trans (sum-term (λ i. cellSum (frameOf b .set .guides) i cs (frameOf b .set .guides)) 0 (frameOf b .set .levels) i (omega arith) (omega arith)) all-cells
 
   marked : (i : ℕ) → i < frameOf b .set .levels → Marked (frameOf b .set .guides) i cs ws
   marked i h = record {

@@ -10,9 +10,14 @@ use Rattle.spec.specs.Weight.{weight}
 use Rattle.joint_search.specs.Scan.{RowFits}
 use Rattle.joint_search.specs.declared.formula.Formula.{Formula}
 
+-- the coefficients are small enough for every sum of a window
 pub record FormulaInBounds (w : Formula) : Type 0 where
   pub slope : natAbs (w .slope) ≤ 235497855
   pub offset : natAbs (w .offset) ≤ 180155859075
+
+-- the name under which crate balance still cites it
+abbrev pub Small : Formula → Type 0
+Small w = FormulaInBounds w
 
 -- what guide f weighs
 abbrev pub weightBy : List ℕ → Formula → ℕ → ℤ

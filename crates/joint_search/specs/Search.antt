@@ -1,5 +1,5 @@
--- What a search reads, counts and words of the plan's levels and guides and a row of weights; what these say of each level; and what the search finds.
--- No frame is named here: proofs/WindowLaws.antt says that the stores of a window give the frame's own weights, balances and box.
+-- What a search reads, counts and words of the plan's levels and guides and a row of weights; what these say of each level; what it finds. No frame
+-- is named here: proofs/WindowLaws.antt says that the stores of a window give the frame's own weights, balances and box.
 -- Assumes nothing.
 use mathlib.Core.Path.{_≡_}
 use mathlib.Core.Bool.{Bool}

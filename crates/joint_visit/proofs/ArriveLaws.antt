@@ -17,7 +17,7 @@ use Rattle.spec.specs.Checks.{Planned}
 use Rattle.spec.specs.Weight.{monotone}
 use Rattle.spec.specs.Median.{weightless, median}
 use Rattle.spec.specs.Joint.{balanceBox}
-use Rattle.spec.specs.Walk.{State, arrive}
+use Rattle.spec.specs.Walk.{State}
 use Rattle.spec.proofs.Plans.{facts}
 use Rattle.spec.proofs.Totals.{median-low}
 use Rattle.spec.proofs.Walks.{arrive-weightless, arrive-full}
@@ -38,9 +38,11 @@ table-weights {m} {row} {w} es eo = record {
 
 -- ---- the cases
 module _ (plan : Plan) (cs row : List ℕ) (w : Formula) (own c n : ℕ) where
-  pub arrival-weightless : true ≡ weightlessIn plan cs row w → arrivalAt own c n ≡ arrivalIn plan cs row w own c n
+  pub arrival-weightless : {a k j : ℕ} → true ≡ weightlessIn plan cs row w → a ≡ own → k ≡ c → j ≡ n → arrivalAt a k j ≡ arrivalIn plan cs row w own c n
   unfolding arrivalIn
-  arrival-weightless e = ap (λ (b : Bool). if b then arrivalAt own c n else arrivalAt (medianIn plan cs row w) (medianIn plan cs row w) (n + distance (medianIn plan cs row w) c)) e
+  arrival-weightless {a} {k} {j} e ea ek ej =
+      ap₂ (λ (x y : ℕ). arrivalAt x y j) ea ek ∙ ap (λ (x : ℕ). arrivalAt own c x) ej
+      ∙ ap (λ (b : Bool). if b then arrivalAt own c n else arrivalAt (medianIn plan cs row w) (medianIn plan cs row w) (n + distance (medianIn plan cs row w) c)) e
 
   pub arrival-full : {a k : ℕ} → false ≡ weightlessIn plan cs row w → a ≡ medianIn plan cs row w → k ≡ n + distance a c → arrivalAt a a k ≡ arrivalIn plan cs row w own c n
   unfolding arrivalIn
@@ -60,7 +62,7 @@ module _ {b : List ℕ} {plan : Plan} {s t : ℕ} {cs ws row : List ℕ} {w : Fo
   module _ {own c n : ℕ} {r : TableArrival} {bx : List ℤ} (eo : own ≡ level (frameOf b) s t) (h : c < plan .levels) (er : r ≡ arrivalIn plan cs row w own c n) (eb : bx ≡ boxIn plan cs (r .cut .0)) where
     weightless-case : weightless (frameOf b) s t ≡ true → Arrives (frameOf b) s t c n r bx
     weightless-case z =
-        let e : r ≡ arrivalAt own c n = er ∙ sym (arrival-weightless plan cs row w own c n (sym (weightless-is st weighs ∙ z))) in
+        let e : r ≡ arrivalAt own c n = er ∙ sym (arrival-weightless plan cs row w own c n (sym (weightless-is st weighs ∙ z)) refl refl refl) in
         let q = sym (arrive-weightless (frameOf b) s t c n z) in
         let k : r .cut .0 ≡ c = ap (λ (x : TableArrival). x .cut .0) e in
         record {

@@ -17,7 +17,6 @@ use Rattle.histogram.specs.Histogram.{Histogram}
 use Rattle.levels.specs.declared.tally.Tally.{Tally}
 use Rattle.levels.specs.Tally.{BelowAt}
 use Rattle.joint_search.specs.declared.formula.Formula.{Formula}
-use Rattle.joint_search.specs.Levels.{medianOf, weightlessOf}
 use Rattle.joint_search.specs.Search.{medianIn, weightlessIn}
 use Rattle.joint_visit.specs.declared.visit.Visit.{Visit}
 use Rattle.joint_visit.specs.declared.arrive.TableArrival.{TableArrival}

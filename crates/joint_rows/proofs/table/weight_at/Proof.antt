@@ -1,4 +1,4 @@
--- `joint_search::table::weight_at` meets its contract. Assumes nothing.
+-- `joint_rows::table::weight_at` meets its contract. Assumes nothing.
 use native.Mathlib.Omega.{arith}
 use mathlib.Core.Path.{_∙_, sym}
 use Rattle.spec.proofs.Plans.{table-own, table-built}

@@ -1,7 +1,7 @@
 -- `raise_to` meets its contract: the box is that of the cut point i. Assumes nothing.
 use mathlib.Core.Path.{_≡_, refl, ap, _∙_}
 use native.Mathlib.Omega.{arith}
-use Prim.Native.Nat.{_+_, _-_, _≤_}
+use Prim.Native.Nat.{_-_, _≤_}
 use Rattle.joint_search.specs.Search.{boxIn}
 use Rattle.joint_search.proofs.SearchLaws.{box-bounds, raised}
 use Rattle.joint_search.proofs.find.raise_to.Statement.{statement}

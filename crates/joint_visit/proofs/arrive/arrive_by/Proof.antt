@@ -1,5 +1,5 @@
 -- `arrive_by` meets its contract: no weight, or from the cut point. Assumes nothing.
-use mathlib.Core.Path.{_≡_, refl, sym, ap, _∙_}
+use mathlib.Core.Path.{_≡_, sym, ap, _∙_}
 use mathlib.Core.Bool.{false}
 use mathlib.Core.Logic.{⊎-elim}
 use native.Mathlib.Omega.{arith}
@@ -48,7 +48,7 @@ returns : tie.Need-returns
 returns c =
     let i = c .before in
     let at = start (i .before .before) in
-    (arrival-weightless _ _ _ _ _ _ _ (sym (c .if2 .taken) ∙ i .none-weighs .ensures), at .pre .1 .2)
+    (arrival-weightless _ _ _ _ (at .args .own .0) (at .args .cut .0) (at .args .shifts) (sym (c .if2 .taken) ∙ i .none-weighs .ensures) (omega arith) (omega arith) (omega arith), at .pre .1 .2)
 
 from-cut-requires : tie.Need-from-cut-requires
 from-cut-requires c κs =
