@@ -58,19 +58,19 @@ pub fn exchange(entering: &[u16], leaving: &[u16], l: usize, numbers: &mut [u32]
 }
 
 // Of the window at (s, t), in numbers that are all 0.
-pub fn start(file: &[u8], z: Plan, s: usize, t: usize, numbers: &mut [u32])
-    requires { ⌜ (Planned (now file) z) × (s < z .width) × (t < z .height) ⌝ }
-    requires { ⌜ Blank (z .levels) (now numbers) ⌝ }
+pub fn start(file: &[u8], plan: Plan, s: usize, t: usize, numbers: &mut [u32])
+    requires { ⌜ (Planned (now file) plan) × (s < plan .width) × (t < plan .height) ⌝ }
+    requires { ⌜ Blank (plan .levels) (now numbers) ⌝ }
     ensures { λ _. ⌜ Histogram (frameOf (now (file .entry))) s t (now (numbers .exit)) ⌝ }
 {
-    let x = low(s, z.radius);
-    let n = span_of(s, z.radius, z.width);
+    let x = low(s, plan.radius);
+    let n = span_of(s, plan.radius, plan.width);
     let mut k = 0;
     while k < n {
         let mut places = [0u16; 62];
-        let d = column_line(z, x + k, t);
-        let p = pixels::read(file, z, d, &mut places);
-        change_pixels(&places[0..p], z.levels, true, numbers);
+        let line = column_line(plan, x + k, t);
+        let p = pixels::read(file, plan, line, &mut places);
+        change_pixels(&places[0..p], plan.levels, true, numbers);
         k += 1;
     }
 }

@@ -13,18 +13,18 @@ ghost use Rattle.window.specs.Line.{InPlanes};
 ghost use Rattle.pixels.specs.Pixels.{LinePixels};
 
 // The line's pixels into the first places; how many places they take.
-pub fn read(file: &[u8], z: Plan, d: Line, places: &mut [u16]) -> usize
-    requires { ⌜ (Planned (now file) z) × (InPlanes z d) × (62 ≤ length (now places)) ⌝ }
-    ensures { λ r. ⌜ (r ≤ 62) × (LinePixels (now (file .entry)) z d (take r (now (places .exit)))) ⌝ }
+pub fn read(file: &[u8], plan: Plan, line: Line, places: &mut [u16]) -> usize
+    requires { ⌜ (Planned (now file) plan) × (InPlanes plan line) × (62 ≤ length (now places)) ⌝ }
+    ensures { λ r. ⌜ (r ≤ 62) × (LinePixels (now (file .entry)) plan line (take r (now (places .exit)))) ⌝ }
 {
-    let first = d.first;
-    let stride = d.stride;
-    let n = d.count;
+    let first = line.first;
+    let stride = line.stride;
+    let n = line.count;
     let mut k = 0;
     while k < n {
         let q = first + k * stride;
-        let level = pixel::level_at(file, z, q);
-        let guide = pixel::guide_at(file, z, q);
+        let level = pixel::level_at(file, plan, q);
+        let guide = pixel::guide_at(file, plan, q);
         let at = 2 * k;
         let next = at + 1;
         places[at] = level.0;

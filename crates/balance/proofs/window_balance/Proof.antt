@@ -19,27 +19,27 @@ use Rattle.balance.proofs.window_balance.Statement.{statement}
 use Rattle.balance.proofs.window_balance.Tie as tie
 
 abbrev Inv-loop : tie.InvT-loop
-Inv-loop file z weights w s t top x n sum₀ k₀ sum k =
-    (k ≤ n) × (toZ w64 sum ≡ columnsFold _+ℤ_ (pos 0) file z x t (signedWeight (frameOf file) s t (top .0)) k) × (natAbs (toZ w64 sum) ≤ k * 5584831631325)
+Inv-loop file plan weights w s t top x n sum₀ k₀ sum k =
+    (k ≤ n) × (toZ w64 sum ≡ columnsFold _+ℤ_ (pos 0) file plan x t (signedWeight (frameOf file) s t (top .0)) k) × (natAbs (toZ w64 sum) ≤ k * 5584831631325)
 
 abbrev μ-loop : tie.MeasureT-loop
-μ-loop file z weights w s t top x n sum₀ k₀ sum k = n - k
+μ-loop file plan weights w s t top x n sum₀ k₀ sum k = n - k
 
 abbrev start : tie.At-loop Inv-loop μ-loop → tie.Start Inv-loop μ-loop
 start h = h .before .before .before .before .before
 
 -- the column that a turn adds is in the picture, and the columns are few
-wide : (c : tie.In-loop Inv-loop μ-loop) → c .before .before .before .low .result + c .before .loop .k < (start (c .before)) .args .z .width
+wide : (c : tie.In-loop Inv-loop μ-loop) → c .before .before .before .low .result + c .before .loop .k < (start (c .before)) .args .plan .width
 wide c =
     let h = c .before in
     let at = start h in
-    omega (arith, h .before .before .low .ensures, span-in (at .args .z .radius) (at .args .s) (at .args .z .width) (h .loop .k) (subst (λ (n : ℕ). h .loop .k < n) (h .before .span-of .ensures) (c .loop-test .taken)))
+    omega (arith, h .before .before .low .ensures, span-in (at .args .plan .radius) (at .args .s) (at .args .plan .width) (h .loop .k) (subst (λ (n : ℕ). h .loop .k < n) (h .before .span-of .ensures) (c .loop-test .taken)))
 
 few : (c : tie.In-loop Inv-loop μ-loop) → c .before .loop .k < 31
 few c =
     let h = c .before in
     let at = start h in
-    omega (arith, c .loop-test .taken, span-high (at .args .z .radius) (at .args .s) (at .args .z .width) (plan-limits (at .pre .planned) .radius), h .before .span-of .ensures)
+    omega (arith, c .loop-test .taken, span-high (at .args .plan .radius) (at .args .s) (at .args .plan .width) (plan-limits (at .pre .planned) .radius), h .before .span-of .ensures)
 
 -- the places passed: the turn, its column, and the list that the column was read into
 abbrev line : tie.After-read Inv-loop μ-loop → tie.After-column-line Inv-loop μ-loop
@@ -51,7 +51,7 @@ turn r = r .before .before .before
 abbrev list : tie.After-line-balance Inv-loop μ-loop → tie.After-read Inv-loop μ-loop
 list e = e .before .before .before .before
 
-listed : (r : tie.After-read Inv-loop μ-loop) → let at = start (turn r .before) in LinePixels (at .args .file .now) (at .args .z) (line r .column-line .result)
+listed : (r : tie.After-read Inv-loop μ-loop) → let at = start (turn r .before) in LinePixels (at .args .file .now) (at .args .plan) (line r .column-line .result)
     (take (r .read .result - 0) (drop 0 (r .read .last .1 .1 .1 .0)))
 listed r = line-part (r .read .result) (r .read .last .1 .1 .1 .0) (r .read .ensures .1)
 
@@ -64,7 +64,7 @@ span-of-requires c κs = let at = c .before .before .before in (at .pre .column,
 loop-holds : tie.Need-loop-holds Inv-loop μ-loop
 loop-holds c =
     let at = c .before .before .before .before in
-    (omega arith, sym (columns-none _+ℤ_ (pos 0) (at .args .file .now) (at .args .z) (c .before .low .result) (at .args .t) (signedWeight (frameOf (at .args .file .now)) (at .args .s) (at .args .t) (at .args .top .0))), omega arith)
+    (omega arith, sym (columns-none _+ℤ_ (pos 0) (at .args .file .now) (at .args .plan) (c .before .low .result) (at .args .t) (signedWeight (frameOf (at .args .file .now)) (at .args .s) (at .args .t) (at .args .top .0))), omega arith)
 
 add-column-line : tie.Need-add-column-line Inv-loop μ-loop
 add-column-line c = let at = start (c .before) in omega (arith, wide c, plan-limits (at .pre .planned) .width)
