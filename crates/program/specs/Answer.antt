@@ -13,6 +13,7 @@ use Rattle.spec.specs.Walk.{State}
 use Rattle.spec.specs.Filter.{filtered, filterEnd}
 use Rattle.spec.specs.Program.{columnsWord, chainWord}
 use Rattle.text.specs.Text.{wayText}
+use Rattle.program_checks.specs.Admitted.{Admitted}
 
 -- the longest text: the pixels of 16,384 bytes at three bytes each, and the lines of size and ways
 abbrev pub longest : ℕ
@@ -20,7 +21,13 @@ longest = 24704
 
 -- a way that serves a kind
 abbrev pub Serving : ℕ → Plan → Type 0
-Serving way z = (way ≡ 1) ⊎ ((way ≡ 2) ⊎ (way ≡ 3)) × (z .kind ≡ 2)
+Serving way plan = (way ≡ 1) ⊎ ((way ≡ 2) ⊎ (way ≡ 3)) × (plan .kind ≡ 2)
+
+-- a file that passes the program's checks, and a way that serves its kind
+pub record Filterable (b : List ℕ) (way : ℕ) : Type 0 where
+  pub plan : Plan
+  pub admitted : Admitted b plan
+  pub serving : Serving way plan
 
 -- a frame filtered by a way: the plane, and the shift count
 pub record Filtered (b before after : List ℕ) (n : ℕ) : Type 0 where

@@ -50,6 +50,6 @@ pub fn respond(input: &[u8], out: &mut [u8; ROOM]) -> usize
     if stops(v) {
         return put_verdict(out, v);
     }
-    let z = open_plan(input).plan;
-    answer::put_answer(out, input, z)
+    let plan = open_plan(input).plan;
+    answer::put_answer(out, input, plan)
 }
