@@ -12,6 +12,7 @@ use Rattle.spec.specs.declared.Plan.{Plan}
 use Rattle.spec.specs.Frame.{frameOf}
 use Rattle.spec.specs.Checks.{Planned}
 use Rattle.spec.specs.Median.{median}
+use Rattle.spec.specs.Joint.{balanceBox}
 use Rattle.spec.specs.Walk.{arrive}
 use Rattle.spec.proofs.Plans.{facts, pixel-of}
 use Rattle.spec.proofs.Totals.{median-low}
@@ -24,7 +25,9 @@ use Rattle.histogram.specs.Histogram.{Histogram}
 use Rattle.histogram.proofs.Laws.{count-at, sum-at}
 use Rattle.joint.specs.Window.{JointAt}
 use Rattle.joint.proofs.WindowLaws.{settled}
+use Rattle.joint_search.specs.Search.{boxIn}
 use Rattle.joint_search.specs.Window.{Counted}
+use Rattle.joint_search.proofs.WindowLaws.{box-of}
 use Rattle.joint_visit.specs.Arrive.{countsIn, guideSumsIn, Carried}
 
 -- ---- a part of a list
@@ -33,6 +36,10 @@ part-long xs i n h = length-take-le n (drop i xs) (rw length-drop (omega arith))
 
 part-cell : (xs : List ℕ) (i n k : ℕ) → k < n → getD (take n (drop i xs)) k 0 ≡ getD xs (i + k) 0
 part-cell xs i n k h = getD-take n (drop i xs) k 0 h ∙ getD-drop i xs k 0
+
+-- the box moved to a level is the window's there
+pub box-moved : {b : List ℕ} {plan : Plan} {s t : ℕ} {cs ws : List ℕ} → Counted b plan s t cs ws → (to k : ℕ) {bx : List ℤ} → bx ≡ boxIn plan cs to → to ≡ k → k < plan .levels → bx ≡ balanceBox (frameOf b) s t k
+box-moved {plan = plan} {cs = cs} st to k e d h = e ∙ ap (boxIn plan cs) d ∙ sym (box-of st k h)
 
 -- a histogram's two lists, as they are lent
 pub first-part : (l : ℕ) (ns : List ℕ) → take (l - 0) (drop 0 ns) ≡ countsIn l ns

@@ -1,6 +1,6 @@
 -- `arrive` meets its contract: the coefficients, the tally where it is needed, the answer from the histogram, then the box moved. Assumes nothing.
 use Prim.Native.Nat.{_+_, _≤_}
-use mathlib.Core.Path.{refl, sym, _∙_}
+use mathlib.Core.Path.{refl, _∙_}
 use native.Mathlib.Omega.{arith}
 use lib.ListN.{length}
 use Rattle.window.proofs.PixelLaws.{levels-high}
@@ -9,7 +9,7 @@ use Rattle.spec.specs.Frame.{frameOf}
 use Rattle.levels.specs.Answer.{Answered}
 use Rattle.levels.proofs.AnswerLaws.{guides-range, answerable, answered-at}
 use Rattle.joint_search.proofs.WindowLaws.{searchable, box-of}
-use Rattle.joint_visit.proofs.VisitLaws.{numbers-long, profiled-parts, answer-low}
+use Rattle.joint_visit.proofs.VisitLaws.{numbers-long, profiled-parts, answer-low, box-moved}
 use Rattle.joint_visit.proofs.guided.arrive.Statement.{statement}
 use Rattle.joint_visit.proofs.guided.arrive.Tie as tie
 
@@ -91,15 +91,16 @@ move-to-requires c κs =
     let at = start (r .before .before .before) in
     let k = at .pre .0 .0 in
     let g = at .pre .1 .1 in
-    (searchable k, (g .0, answer-low (k .planned) (k .column) (k .row) (at .pre .0 .1) (says r), g .2 ∙ box-of k (at .args .cut .0) (g .0)))
+    (searchable k, (g .0, omega (arith, g .0, answer-low (k .planned) (k .column) (k .row) (at .pre .0 .1) (says r)), g .2 ∙ box-of k (at .args .cut .0) (g .0)))
 
 returns : tie.Need-returns
 returns c =
     let r = c .before .before .before .before in
     let at = start (r .before .before .before) in
+    let k = at .pre .0 .0 in
     let h = says r in
     record {
-      same = record { answer = h .said; cut = h .cut; shifts = h .shifts; box = c .move-to .ensures ∙ sym (box-of (at .pre .0 .0) (r .answer .result .level .0) (answer-low (at .pre .0 .0 .planned) (at .pre .0 .0 .column) (at .pre .0 .0 .row) (at .pre .0 .1) h)) };
+      same = record { answer = h .said; cut = h .cut; shifts = h .shifts; box = box-moved k _ (r .answer .result .level .0) (c .move-to .ensures) (omega arith) (answer-low (k .planned) (k .column) (k .row) (at .pre .0 .1) h) };
       guided = record { sums = at .pre .1 .0 .0; below = h .below; histogram = at .pre .0 .2 };
     }
 
