@@ -62,6 +62,11 @@ module _ {A : Type 0} (_⊕_ : A → A → A) (z : A) (laws : Sums _⊕_ z) wher
   pick-inner F true g m h = fold-pick F g m h
   pick-inner F false g m h = fold-none _⊕_ z laws 0 m
 
+  pub pick-both : (F : ℕ → ℕ → A) (v g l m : ℕ) → v < l → g < m
+      → fold _⊕_ z (λ i. fold _⊕_ z (λ f. if eqb v i && eqb g f then F i f else z) 0 m) 0 l ≡ F v g
+  pick-both F v g l m hv hg =
+      ap (λ (q : ℕ → A). fold _⊕_ z q 0 l) (fun-ext (λ i. pick-inner (F i) (eqb v i) g m hg)) ∙ fold-pick (λ i. F i g) v l hv
+
   -- two sums, either way round
   pub turn : (f : ℕ → ℕ → A) (x nx y ny : ℕ) → fold _⊕_ z (λ a. fold _⊕_ z (f a) y ny) x nx ≡ fold _⊕_ z (λ b. fold _⊕_ z (λ a. f a b) x nx) y ny
   unfolding foldRect
@@ -90,3 +95,16 @@ module _ {A : Type 0} (_⊕_ : A → A → A) (z : A) (laws : Sums _⊕_ z) wher
   unfolding over foldRect span
   over-same p s t f g h =
       fold-same _⊕_ z laws _ _ _ _ (λ x a b. fold-same _⊕_ z laws _ _ _ _ (λ y c d. h x y (omega arith) (omega arith)))
+
+  -- the window's sum of F, by its joint counts
+  pub over-joint : (p : Frame) (s t : ℕ) (F : ℕ → ℕ → A)
+      → ((x y : ℕ) → x < p .set .width → y < p .set .height → level p x y < p .set .levels)
+      → ((x y : ℕ) → x < p .set .width → y < p .set .height → guide p x y < p .set .guides)
+      → over _⊕_ z p s t (λ x y. F (level p x y) (guide p x y))
+      ≡ fold _⊕_ z (λ i. fold _⊕_ z (λ f. times _⊕_ z (count p s t i f) (F i f)) 0 (p .set .guides)) 0 (p .set .levels)
+  over-joint p s t F hl hg =
+      over-same p s t _ _ (λ x y a b. sym (pick-both F (level p x y) (guide p x y) (p .set .levels) (p .set .guides) (hl x y a b) (hg x y a b)))
+      ∙ over-fold p s t (λ i x y. fold _⊕_ z (λ f. if eqb (level p x y) i && eqb (guide p x y) f then F i f else z) 0 (p .set .guides)) (p .set .levels)
+      ∙ ap (λ (q : ℕ → A). fold _⊕_ z q 0 (p .set .levels))
+      (fun-ext (λ i. over-fold p s t (λ f x y. if eqb (level p x y) i && eqb (guide p x y) f then F i f else z) (p .set .guides)
+      ∙ ap (λ (q : ℕ → A). fold _⊕_ z q 0 (p .set .guides)) (fun-ext (λ f. over-count p s t i f (F i f)))))
