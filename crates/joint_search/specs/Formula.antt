@@ -15,10 +15,6 @@ pub record FormulaInBounds (w : Formula) : Type 0 where
   pub slope : natAbs (w .slope) ≤ 235497855
   pub offset : natAbs (w .offset) ≤ 180155859075
 
--- the name under which crate balance still cites it
-abbrev pub Small : Formula → Type 0
-Small w = FormulaInBounds w
-
 -- what guide f weighs
 abbrev pub weightBy : List ℕ → Formula → ℕ → ℤ
 weightBy row w f = w .slope *ℤ pos (getD row (w .row + f) 0) +ℤ w .offset
