@@ -7,31 +7,30 @@ use mathlib.Core.Logic.{_⊎_, inl, inr}
 use mathlib.Core.List.{List, _++_}
 use native.Mathlib.Omega.{arith}
 use lib.IntN.{pos}
-use lib.ListN.{length, take, drop, replicate, length-replicate, getD-replicate, take-append-drop}
+use lib.ListN.{length, take, drop, take-append-drop}
 use Rattle.spec.specs.declared.Settings.{Settings}
 use Rattle.spec.specs.declared.Plan.{Plan}
 use Rattle.spec.specs.declared.Verdict.{Verdict}
 use Rattle.spec.specs.declared.Way.{Way}
-use Rattle.spec.specs.declared.Way.the-variants.{Joint, Columns, Chain}
+use Rattle.spec.specs.declared.Way.the-variants.{Joint}
 use Rattle.spec.specs.Refusal.{Outcome, accepted, fires, numbered, _▷_}
 use Rattle.spec.specs.Frame.{Frame, settingsOf, pixels, frameOf, settingsIn}
 use Rattle.spec.specs.Checks.{verdict, Planned}
 use Rattle.spec.specs.Walk.{State, walkEnd, walkAnswers}
 use Rattle.spec.specs.Filter.{filtered, filterEnd}
 use Rattle.spec.specs.Median.{balance}
-use Rattle.spec.specs.Calls.{wayOf, roomOf, countsOf, wordsOf, NumbersOf, walkOutcome, filterOutcome, balanceOutcome}
+use Rattle.spec.specs.Calls.{wayOf, roomOf, countsOf, wordsOf, walkOutcome, filterOutcome, balanceOutcome}
 use Rattle.spec.proofs.Plans.{facts}
 use Rattle.spec.proofs.Calls.{way-serves, Fits, walk-accepted, filter-accepted, balance-accepted}
 use Rattle.frame.specs.declared.plan.Opened.{Opened}
 use Rattle.frame.specs.Parts.{openedPlan}
 use Rattle.ice_walk.specs.declared.Walked.{Walked}
 use Rattle.ice.specs.declared.Balanced.{Balanced}
-use Rattle.ways.specs.Visit.{Stores, stores, lent, Fit, Left, usedOf, Serves}
+use Rattle.ways.specs.Visit.{Stores, lent, Fit, Serves}
 use Rattle.ice_walk.specs.Finished.{Finished}
-use Rattle.ice.specs.Result.{Zeroed, isJoint}
+use Rattle.ice.specs.Result.{Zeroed}
 use Rattle.ice.specs.Contract.{Untouched, Ended, Walks, Filters, Balances}
-use Rattle.histogram.specs.Histogram.{Blank}
-use Rattle.ways.proofs.EachLaws.{settings-same, left-same}
+use Rattle.ways.proofs.EachLaws.{settings-same}
 use Rattle.ice.proofs.OutcomeLaws.{set-of, stopped, fires-not, quiet}
 
 -- an opened file that no check refuses has its plan
@@ -67,16 +66,8 @@ module _ (v : Verdict) (r : Walked) (h : Zeroed v r) (f : fires (numbered v) ≡
 whole : (n : ℕ) (front z a : List ℕ) → take n z ≡ front → drop n z ≡ drop n a → z ≡ front ++ drop n a
 whole n front z a e q = sym (take-append-drop n z) ∙ ap₂ (λ (x y : List ℕ). x ++ y) e q
 
--- the caller's numbers beyond what document 01 gives the way: joint is given none, and leaves all as they were
-rest-of : (way : Way) (k : Settings) (a z : List ℕ) → Left (usedOf way k (length a)) a z → (way ≡ Joint → z ≡ a) → drop (roomOf way k .numbers) z ≡ drop (roomOf way k .numbers) a
-unfolding usedOf
-rest-of Joint k a z h same = ap (drop (roomOf Joint k .numbers)) (same refl)
-rest-of Columns k a z h same = h .beyond
-rest-of Chain k a z h same = h .beyond
-
-ended : {way : Way} {p : Frame} {x : State} {a z : Stores} {r : Walked} (due after : List ℕ) → Finished way p x a z r → (way ≡ Joint → z .numbers ≡ a .numbers) → after ≡ due
-    → Ended way p x a z due after r
-ended {way} {p} {x} {a} {z} due after h same e =
+ended : {way : Way} {p : Frame} {x : State} {a z : Stores} {r : Walked} (due after : List ℕ) → Finished way p x a z r → after ≡ due → Ended way p x a z due after r
+ended {way} {p} {x} {a} {z} due after h e =
     record {
       shifts = h .shifts;
       cut = h .cut;
@@ -85,66 +76,29 @@ ended {way} {p} {x} {a} {z} due after h same e =
       words = whole (roomOf way (p .set) .words) (wordsOf way p (x .column) (x .row)) (z .words) (a .words) (h .holds .words) (h .kept .words .beyond);
       numbers = h .holds .numbers;
       numbers-long = h .kept .numbers .long;
-      numbers-rest = rest-of way (p .set) (a .numbers) (z .numbers) (h .kept .numbers) same;
+      numbers-rest = h .kept .numbers .beyond;
       answers = e;
     }
 
 module _ (b : List ℕ) (way : ℕ) (y : Way) (ey : y ≡ wayOf way) (a z : Stores) (before after : List ℕ) (r : Walked) where
   pub walks-done : (s t : ℕ) (ms : List ℕ) → walkOutcome b way s t (length ms) (lent a) (length before) ≡ accepted
-      → Finished y (frameOf b) (walkEnd (frameOf b) s t ms) a z r → after ≡ walkAnswers (frameOf b) s t ms ++ drop (length ms + 1) before → (y ≡ Joint → z .numbers ≡ a .numbers)
+      → Finished y (frameOf b) (walkEnd (frameOf b) s t ms) a z r → after ≡ walkAnswers (frameOf b) s t ms ++ drop (length ms + 1) before
       → Walks b way s t ms a z before after r
-  walks-done s t ms o h e same =
+  walks-done s t ms o h e =
       record {
         verdict = ap numbered (h .verdict) ∙ sym o;
         refused = λ n. absurd (n o);
-        walked = λ _. subst (λ (q : Way). Ended q (frameOf b) (walkEnd (frameOf b) s t ms) a z (walkAnswers (frameOf b) s t ms ++ drop (length ms + 1) before) after r) ey (ended _ _ h same e);
+        walked = λ _. subst (λ (q : Way). Ended q (frameOf b) (walkEnd (frameOf b) s t ms) a z (walkAnswers (frameOf b) s t ms ++ drop (length ms + 1) before) after r) ey (ended _ _ h e);
       }
 
   pub filters-done : filterOutcome b way (lent a) (length before) ≡ accepted → Finished y (frameOf b) (filterEnd (frameOf b)) a z r
-      → after ≡ filtered (frameOf b) ++ drop (pixels (frameOf b .set)) before → (y ≡ Joint → z .numbers ≡ a .numbers) → Filters b way a z before after r
-  filters-done o h e same =
+      → after ≡ filtered (frameOf b) ++ drop (pixels (frameOf b .set)) before → Filters b way a z before after r
+  filters-done o h e =
       record {
         verdict = ap numbered (h .verdict) ∙ sym o;
         refused = λ n. absurd (n o);
-        filtered = λ _. subst (λ (q : Way). Ended q (frameOf b) (filterEnd (frameOf b)) a z (filtered (frameOf b) ++ drop (pixels (frameOf b .set)) before) after r) ey (ended _ _ h same e);
+        filtered = λ _. subst (λ (q : Way). Ended q (frameOf b) (filterEnd (frameOf b)) a z (filtered (frameOf b) ++ drop (pixels (frameOf b .set)) before) after r) ey (ended _ _ h e);
       }
-
--- ---- the joint way's histogram of levels is its own: the caller's numbers stand in its place again
-pub joint-is : (way : Way) → true ≡ isJoint way → way ≡ Joint
-unfolding isJoint
-joint-is Joint e = refl
-joint-is Columns e = cc
-joint-is Chain e = cc
-
-pub joint-not : (way : Way) → false ≡ isJoint way → way ≡ Joint → ⊥
-unfolding isJoint
-joint-not Joint e q = let n : _≡_ {A = ℕ} 0 1 = cc in absurd (omega arith)
-joint-not Columns e q = let n : _≡_ {A = ℕ} 0 1 = cc in absurd (omega arith)
-joint-not Chain e q = let n : _≡_ {A = ℕ} 0 1 = cc in absurd (omega arith)
-
-pub histogram-fit : (way : Way) (k : Settings) (cs ws ns hs : List ℕ) → way ≡ Joint → Fit way k (stores cs ws ns) → Fit way k (stores cs ws hs)
-unfolding roomOf
-histogram-fit way k cs ws ns hs e f = let g : Fit Joint k (stores cs ws ns) = rw e at f in rw e (record { counts = g .counts; words = g .words; numbers = omega arith })
-
-pub histogram-blank : {b : List ℕ} {z : Plan} → Planned b z → Blank (z .levels) (replicate 2048 0)
-histogram-blank {b} {z} k =
-    let f = facts k in
-    let l : z .levels ≤ 1024 = omega (arith, f .levels, f .limits .sound .levels-high) in
-    record { long = omega (arith, l, length-replicate {A = ℕ} 2048 0); zeros = λ i h. getD-replicate 2048 i 0 0 (omega arith) }
-
-pub numbers-back : {way : Way} {p : Frame} {x : State} {cs ws hs cs′ ws′ hs′ : List ℕ} {r : Walked} (ns : List ℕ) → way ≡ Joint
-    → Finished way p x (stores cs ws hs) (stores cs′ ws′ hs′) r → Finished way p x (stores cs ws ns) (stores cs′ ws′ ns) r
-unfolding NumbersOf
-numbers-back {way} {p} {x} {cs} {ws} {hs} {cs′} {ws′} {hs′} {r} ns e h =
-    let g : Finished Joint p x (stores cs ws hs) (stores cs′ ws′ hs′) r = rw e at h in
-    rw e
-    (record {
-      verdict = g .verdict;
-      shifts = g .shifts;
-      cut = g .cut;
-      holds = record { counts = g .holds .counts; words = g .holds .words; numbers = tt; cells = g .holds .cells };
-      kept = record { counts = g .kept .counts; words = g .kept .words; numbers = left-same _ _ };
-    })
 
 -- ---- what an accepted call hands on
 module _ {b : List ℕ} {z : Plan} (k : Planned b z) (way : ℕ) (y : Way) (ey : y ≡ wayOf way) where

@@ -26,10 +26,10 @@ use Rattle.spec.proofs.Plans.{Facts, facts}
 use Rattle.spec.proofs.Walks.{Held}
 use Rattle.spec.proofs.Serpentine.{At, at-arrive, at-turn, columnAfter, visited, visited-is, visited-div, visited-mod, visited-twice, visited-low, serpentine-length, serpentine-byte, serpentine-begins}
 use Rattle.ways.specs.declared.Visit.{Visit}
-use Rattle.ways.specs.Visit.{Stores, Left, Kept, stateOf, AtWindow, Visited}
+use Rattle.ways.specs.Visit.{Stores, KeptBeyond, Kept, stateOf, AtWindow, Visited}
 use Rattle.ice_walk.proofs.WalkLoop.{held-first}
-use Rattle.ways.proofs.EachLaws.{left-same}
-use Rattle.ice_walk.proofs.Laws.{left-trans, left-set, Going, going-start, going-more, going-end}
+use Rattle.ways.proofs.EachLaws.{beyond-same}
+use Rattle.ice_walk.proofs.Laws.{beyond-trans, beyond-set, Going, going-start, going-more, going-end}
 
 -- ---- the plane, pixel by pixel, when i moves are done
 unfoldable pub Plane : Frame → List ℕ → ℕ → Type 0
@@ -77,11 +77,11 @@ module _ (p : Frame) (g : FrameLimits p) (O : List ℕ) (long : pixels (p .set) 
       sym (take-append-drop n O) ∙ cc
 
 -- ---- the invariant: i moves are done; O₀ is the output where the loop begins
-pub record Sweeping (way : Way) (b : List ℕ) (x : State) (a : Stores) (O₀ : List ℕ) (z : Stores) (O : List ℕ) (d : List ℤ) (v : Visit) (i : ℕ) : Type 0 where
-  pub going : Going way b (serpentine (frameOf b .set)) x a z d v i
+pub record Sweeping (way : Way) (b : List ℕ) (x : State) (a : Stores) (O₀ : List ℕ) (z : Stores) (O hs : List ℕ) (d : List ℤ) (v : Visit) (i : ℕ) : Type 0 where
+  pub going : Going way b (serpentine (frameOf b .set)) x a z hs d v i
   pub at : At (frameOf b) (stateOf v) (columnAfter (frameOf b .set .width) i) (i / frameOf b .set .width)
   pub plane : Plane (frameOf b) O i
-  pub rest : Left (pixels (frameOf b .set)) O₀ O
+  pub rest : KeptBeyond (pixels (frameOf b .set)) O₀ O
   pub inside : i < pixels (frameOf b .set)
 
 module _ (way : Way) (b : List ℕ) (g : FrameLimits (frameOf b)) where
@@ -92,10 +92,10 @@ module _ (way : Way) (b : List ℕ) (g : FrameLimits (frameOf b)) where
   pixels-some = mul-pos (g .sound .width-low) (g .sound .height-low)
 
   -- where a turn's step goes, and the place of its answer
-  pub sweep-goes : (x : State) (a : Stores) (O₀ : List ℕ) (z : Stores) (O : List ℕ) (d : List ℤ) (v : Visit) (i : ℕ) → Sweeping way b x a O₀ z O d v i
-      → i + 1 < pixels (p .set) → (byte : ℕ) → byte ≡ turn (p .set .width) i → (z′ : Stores) (d′ : List ℤ) (v′ : Visit)
-      → Visited way b (step p (stateOf v) byte) z z′ d′ v′ → At p (stateOf v′) (columnAfter (p .set .width) (i + 1)) ((i + 1) / p .set .width)
-  sweep-goes x a O₀ z O d v i w l byte eb z′ d′ v′ h =
+  pub sweep-goes : (x : State) (a : Stores) (O₀ : List ℕ) (z : Stores) (O hs : List ℕ) (d : List ℤ) (v : Visit) (i : ℕ) → Sweeping way b x a O₀ z O hs d v i
+      → i + 1 < pixels (p .set) → (byte : ℕ) → byte ≡ turn (p .set .width) i → (z′ : Stores) (hs′ : List ℕ) (d′ : List ℤ) (v′ : Visit)
+      → Visited way b (step p (stateOf v) byte) z z′ hs′ d′ v′ → At p (stateOf v′) (columnAfter (p .set .width) (i + 1)) ((i + 1) / p .set .width)
+  sweep-goes x a O₀ z O hs d v i w l byte eb z′ hs′ d′ v′ h =
       subst (λ (q : State). At p q (columnAfter (p .set .width) (i + 1)) ((i + 1) / p .set .width)) (sym (h .state))
       (subst (λ (n : ℕ). At p (step p (stateOf v) n) (columnAfter (p .set .width) (i + 1)) ((i + 1) / p .set .width)) (sym eb)
       (at-turn p (stateOf v) i (g .sound .width-low) l (w .at)))
@@ -107,17 +107,17 @@ module _ (way : Way) (b : List ℕ) (g : FrameLimits (frameOf b)) where
       → v .row * p .set .width + v .column < pixels (p .set)
   sweep-place v i l a = subst (λ (n : ℕ). n < pixels (p .set)) (sym (place v i a)) (visited-low (p .set) (g .sound .width-low) i l)
 
-  pub sweep-start : (z : Stores) (O : List ℕ) (d : List ℤ) (v : Visit) → pixels (p .set) ≤ length O → stateOf v ≡ start p 0 0 → AtWindow way b z d v
-      → Held p (stateOf v) 1 → (m : ℕ) → m ≡ answerNumber (v .answer) → Sweeping way b (stateOf v) z (set O 0 m) z (set O 0 m) d v 0
-  sweep-start z O d v long e h on m em =
+  pub sweep-start : (z : Stores) (O hs : List ℕ) (d : List ℤ) (v : Visit) → pixels (p .set) ≤ length O → stateOf v ≡ start p 0 0 → AtWindow way b z hs d v
+      → Held p (stateOf v) 1 → (m : ℕ) → m ≡ answerNumber (v .answer) → Sweeping way b (stateOf v) z (set O 0 m) z (set O 0 m) hs d v 0
+  sweep-start z O hs d v long e h on m em =
       let k : At p (stateOf v) (columnAfter (p .set .width) 0) (0 / p .set .width) =
       subst (λ (q : State). At p q (columnAfter (p .set .width) 0) (0 / p .set .width)) (sym e) (serpentine-begins g) in
       let o : visited (p .set .width) 0 ≡ 0 = sym (place v 0 k) ∙ zero-place in
       record {
-        going = going-start way b (serpentine (p .set)) z d v h on;
+        going = going-start way b (serpentine (p .set)) z hs d v h on;
         at = k;
         plane = rw o at (plane-first p g O long m pixels-some (em ∙ k .said));
-        rest = left-same _ _;
+        rest = beyond-same _ _;
         inside = pixels-some;
       }
     where
@@ -128,31 +128,31 @@ module _ (way : Way) (b : List ℕ) (g : FrameLimits (frameOf b)) where
           let c : v .column ≡ 0 = ap (λ (y : State). y .column) e ∙ q .column in
           rw (r, c) (omega arith)
 
-  pub sweep-more : (x : State) (a : Stores) (O₀ : List ℕ) (z : Stores) (O : List ℕ) (d : List ℤ) (v : Visit) (i : ℕ) → Sweeping way b x a O₀ z O d v i
-      → i + 1 < pixels (p .set) → pixels (p .set) ≤ length O₀ → (byte : ℕ) → byte ≡ turn (p .set .width) i → (z′ : Stores) (d′ : List ℤ) (v′ : Visit)
-      → Visited way b (step p (stateOf v) byte) z z′ d′ v′ → (m : ℕ) → m ≡ answerNumber (v′ .answer)
-      → Sweeping way b x a O₀ z′ (set O (v′ .row * p .set .width + v′ .column) m) d′ v′ (i + 1)
-  sweep-more x a O₀ z O d v i w l long byte eb z′ d′ v′ h m em =
-      let k = sweep-goes x a O₀ z O d v i w l byte eb z′ d′ v′ h in
+  pub sweep-more : (x : State) (a : Stores) (O₀ : List ℕ) (z : Stores) (O hs : List ℕ) (d : List ℤ) (v : Visit) (i : ℕ) → Sweeping way b x a O₀ z O hs d v i
+      → i + 1 < pixels (p .set) → pixels (p .set) ≤ length O₀ → (byte : ℕ) → byte ≡ turn (p .set .width) i → (z′ : Stores) (hs′ : List ℕ) (d′ : List ℤ) (v′ : Visit)
+      → Visited way b (step p (stateOf v) byte) z z′ hs′ d′ v′ → (m : ℕ) → m ≡ answerNumber (v′ .answer)
+      → Sweeping way b x a O₀ z′ (set O (v′ .row * p .set .width + v′ .column) m) hs′ d′ v′ (i + 1)
+  sweep-more x a O₀ z O hs d v i w l long byte eb z′ hs′ d′ v′ h m em =
+      let k = sweep-goes x a O₀ z O hs d v i w l byte eb z′ hs′ d′ v′ h in
       let e : v′ .row * p .set .width + v′ .column ≡ visited (p .set .width) (i + 1) = place v′ (i + 1) k in
       let lo : length O ≡ length O₀ = w .rest .long in
       record {
-        going = going-more way b (serpentine (p .set)) x a z d v i (w .going) (omega (arith, serpentine-length (p .set))) byte (eb ∙ sym (serpentine-byte (p .set) i l)) z′ d′ v′ h;
+        going = going-more way b (serpentine (p .set)) x a z hs d v i (w .going) (omega (arith, serpentine-length (p .set))) byte (eb ∙ sym (serpentine-byte (p .set) i l)) z′ hs′ d′ v′ h;
         at = k;
         plane = rw e (plane-more p g O (omega arith) i m l (em ∙ k .said) (w .plane));
-        rest = rw e (left-trans _ O₀ O _ (w .rest) (left-set O (visited (p .set .width) (i + 1)) _ _ (visited-low (p .set) (g .sound .width-low) (i + 1) l)));
+        rest = rw e (beyond-trans _ O₀ O _ (w .rest) (beyond-set O (visited (p .set .width) (i + 1)) _ _ (visited-low (p .set) (g .sound .width-low) (i + 1) l)));
         inside = l;
       }
 
-  pub sweep-end : (y : State) (a₀ a : Stores) (O₁ O₀ : List ℕ) (z : Stores) (O : List ℕ) (d : List ℤ) (v : Visit) (i : ℕ) → Sweeping way b y a O₀ z O d v i
+  pub sweep-end : (y : State) (a₀ a : Stores) (O₁ O₀ : List ℕ) (z : Stores) (O hs : List ℕ) (d : List ℤ) (v : Visit) (i : ℕ) → Sweeping way b y a O₀ z O hs d v i
       → pixels (p .set) ≤ i + 1 → pixels (p .set) ≤ length O₀ → y ≡ start p 0 0 → Kept way (p .set) a₀ a → (q : ℕ) → O₀ ≡ set O₁ 0 q
-      → Visited way b (filterEnd p) a₀ z d v × (O ≡ filtered p ++ drop (pixels (p .set)) O₁)
+      → Visited way b (filterEnd p) a₀ z hs d v × (O ≡ filtered p ++ drop (pixels (p .set)) O₁)
   unfolding filterEnd walkEnd
-  sweep-end y a₀ a O₁ O₀ z O d v i w l long e kept q e₀ =
+  sweep-end y a₀ a O₁ O₀ z O hs d v i w l long e kept q e₀ =
       let lo : length O ≡ length O₀ = w .rest .long in
       let dd : drop (pixels (p .set)) O ≡ drop (pixels (p .set)) O₁ =
       w .rest .beyond ∙ ap (drop (pixels (p .set))) e₀ ∙ drop-set-lt (pixels (p .set)) O₁ 0 q pixels-some in
-      (going-end way b (serpentine (p .set)) (start p 0 0) y a₀ a z d v i (w .going) (omega (arith, serpentine-length (p .set))) e kept, plane-all p g O (omega arith) i l (w .plane) O₁ dd)
+      (going-end way b (serpentine (p .set)) (start p 0 0) y a₀ a z hs d v i (w .going) (omega (arith, serpentine-length (p .set))) e kept, plane-all p g O (omega arith) i l (w .plane) O₁ dd)
 
 -- ---- the same with the plan's own numbers, as the code has them
 module _ (way : Way) {b : List ℕ} {z : Plan} (k : Planned b z) where
@@ -168,17 +168,17 @@ module _ (way : Way) {b : List ℕ} {z : Plan} (k : Planned b z) where
   pub first-in : (0 < z .width) × (0 < z .height)
   first-in = let f = facts k in (rw (f .width) (f .limits .sound .width-low), rw (f .height) (f .limits .sound .height-low))
 
-  pub sweeping-start : (s : Stores) (O : List ℕ) (d : List ℤ) (v : Visit) → n ≤ length O → stateOf v ≡ start (frameOf b) 0 0 → AtWindow way b s d v
-      → (m : ℕ) → m ≡ answerNumber (v .answer) → Sweeping way b (stateOf v) s (set O 0 m) s (set O 0 m) d v 0
-  sweeping-start s O d v long e h m em =
-      sweep-start way b (facts k .limits) s O d v (rw count-is at long) e h (held-first k 0 0 v (first-in .0) (first-in .1) e) m em
+  pub sweeping-start : (s : Stores) (O hs : List ℕ) (d : List ℤ) (v : Visit) → n ≤ length O → stateOf v ≡ start (frameOf b) 0 0 → AtWindow way b s hs d v
+      → (m : ℕ) → m ≡ answerNumber (v .answer) → Sweeping way b (stateOf v) s (set O 0 m) s (set O 0 m) hs d v 0
+  sweeping-start s O hs d v long e h m em =
+      sweep-start way b (facts k .limits) s O hs d v (rw count-is at long) e h (held-first k 0 0 v (first-in .0) (first-in .1) e) m em
 
-  module _ (x : State) (a : Stores) (O₀ : List ℕ) (s : Stores) (O : List ℕ) (d : List ℤ) (v : Visit) (i : ℕ) (w : Sweeping way b x a O₀ s O d v i) where
+  module _ (x : State) (a : Stores) (O₀ : List ℕ) (s : Stores) (O hs : List ℕ) (d : List ℤ) (v : Visit) (i : ℕ) (w : Sweeping way b x a O₀ s O hs d v i) where
     pub sweeping-low : i < 262144
     sweeping-low = omega (arith, w .inside, facts k .limits .sound .pixels-high)
 
-    module _ (l : i + 1 < n) (byte : ℕ) (eb : byte ≡ turn (z .width) i) (s′ : Stores) (d′ : List ℤ) (v′ : Visit)
-        (h : Visited way b (step (frameOf b) (stateOf v) byte) s s′ d′ v′) where
+    module _ (l : i + 1 < n) (byte : ℕ) (eb : byte ≡ turn (z .width) i) (s′ : Stores) (hs′ : List ℕ) (d′ : List ℤ) (v′ : Visit)
+        (h : Visited way b (step (frameOf b) (stateOf v) byte) s s′ hs′ d′ v′) where
       inside : i + 1 < pixels (frameOf b .set)
       inside = rw count-is at l
 
@@ -188,13 +188,13 @@ module _ (way : Way) {b : List ℕ} {z : Plan} (k : Planned b z) where
       pub sweeping-place : v′ .row * z .width + v′ .column < n
       sweeping-place =
           rw (count-is, facts k .width)
-          (sweep-place way b (facts k .limits) v′ (i + 1) inside (sweep-goes way b (facts k .limits) x a O₀ s O d v i w inside byte byte-is s′ d′ v′ h))
+          (sweep-place way b (facts k .limits) v′ (i + 1) inside (sweep-goes way b (facts k .limits) x a O₀ s O hs d v i w inside byte byte-is s′ hs′ d′ v′ h))
 
       pub sweeping-more : n ≤ length O₀ → (m : ℕ) → m ≡ answerNumber (v′ .answer)
-          → Sweeping way b x a O₀ s′ (set O (v′ .row * z .width + v′ .column) m) d′ v′ (i + 1)
+          → Sweeping way b x a O₀ s′ (set O (v′ .row * z .width + v′ .column) m) hs′ d′ v′ (i + 1)
       sweeping-more long m em =
-          rw (facts k .width) (sweep-more way b (facts k .limits) x a O₀ s O d v i w inside (rw count-is at long) byte byte-is s′ d′ v′ h m em)
+          rw (facts k .width) (sweep-more way b (facts k .limits) x a O₀ s O hs d v i w inside (rw count-is at long) byte byte-is s′ hs′ d′ v′ h m em)
 
     pub sweeping-end : (a₀ : Stores) (O₁ : List ℕ) → n ≤ i + 1 → n ≤ length O₀ → x ≡ start (frameOf b) 0 0 → Kept way (frameOf b .set) a₀ a → (q : ℕ) → O₀ ≡ set O₁ 0 q
-        → Visited way b (filterEnd (frameOf b)) a₀ s d v × (O ≡ filtered (frameOf b) ++ drop (pixels (frameOf b .set)) O₁)
-    sweeping-end a₀ O₁ l long e kept q e₀ = sweep-end way b (facts k .limits) x a₀ a O₁ O₀ s O d v i w (rw count-is at l) (rw count-is at long) e kept q e₀
+        → Visited way b (filterEnd (frameOf b)) a₀ s hs d v × (O ≡ filtered (frameOf b) ++ drop (pixels (frameOf b .set)) O₁)
+    sweeping-end a₀ O₁ l long e kept q e₀ = sweep-end way b (facts k .limits) x a₀ a O₁ O₀ s O hs d v i w (rw count-is at l) (rw count-is at long) e kept q e₀

@@ -6,7 +6,7 @@ use mathlib.Core.Bool.{Bool, true, false}
 use mathlib.Core.List.{List, [], _∷_, _++_, append-assoc}
 use native.Mathlib.Omega.{arith}
 use native.Mathlib.Numerals.{add-one}
-use lib.ListN.{length, getD, take, drop, set, length-set}
+use lib.ListN.{length, getD, take, drop, set, length-set, replicate, length-replicate, getD-replicate}
 use lib.Seq.{take-suc, take-length, drop-cons, set-at, drop-set-lt}
 use lib.IntN.{ℤ}
 use lib.Dec.{ltb, eqb}
@@ -22,31 +22,39 @@ use Rattle.spec.specs.Walk.{State, arrive, toIf, move, step, after, answers}
 use Rattle.spec.proofs.Plans.{facts}
 use Rattle.spec.proofs.Steps.{after-one}
 use Rattle.spec.proofs.Walks.{Held, held-step, step-to, step-nowhere}
+use Rattle.histogram.specs.Histogram.{Blank}
 use Rattle.window.specs.Line.{Adjacent, right, left, down, up}
 use Rattle.ways.specs.declared.Visit.{Visit}
-use Rattle.ways.specs.Visit.{Stores, Fit, Left, usedOf, Kept, stateOf, Within, AtWindow, Visited}
-use Rattle.ways.proofs.EachLaws.{settings-same, left-same}
+use Rattle.ways.specs.Visit.{Stores, Fit, KeptBeyond, Kept, stateOf, Within, AtWindow, Visited}
+use Rattle.ways.proofs.EachLaws.{settings-same, beyond-same}
 
 -- ---- the plan's settings are within document 01's limits
 pub settings-limits-in : {b : List ℕ} {z : Plan} → Planned b z → SettingsLimits (settingsIn z)
 settings-limits-in k = subst SettingsLimits (sym (settings-same k)) (facts k .limits .sound)
 
--- ---- stores over several calls
-pub left-trans : (n : ℕ) (a b c : List ℕ) → Left n a b → Left n b c → Left n a c
-left-trans n a b c x y = record { long = y .long ∙ x .long; beyond = y .beyond ∙ x .beyond }
+-- ---- a new histogram has two numbers for each level of any plan, all 0
+pub histogram-blank : {b : List ℕ} {z : Plan} → Planned b z → Blank (z .levels) (replicate 2048 0)
+histogram-blank {b} {z} k =
+    let f = facts k in
+    let l : z .levels ≤ 1024 = omega (arith, f .levels, f .limits .sound .levels-high) in
+    record { long = omega (arith, l, length-replicate {A = ℕ} 2048 0); zeros = λ i h. getD-replicate 2048 i 0 0 (omega arith) }
 
-pub left-set : (a : List ℕ) (i n x : ℕ) → i < n → Left n a (set a i x)
-left-set a i n x h = record { long = length-set a i x; beyond = drop-set-lt n a i x h }
+-- ---- stores over several calls
+pub beyond-trans : (n : ℕ) (a b c : List ℕ) → KeptBeyond n a b → KeptBeyond n b c → KeptBeyond n a c
+beyond-trans n a b c x y = record { long = y .long ∙ x .long; beyond = y .beyond ∙ x .beyond }
+
+pub beyond-set : (a : List ℕ) (i n x : ℕ) → i < n → KeptBeyond n a (set a i x)
+beyond-set a i n x h = record { long = length-set a i x; beyond = drop-set-lt n a i x h }
 
 pub kept-same : (way : Way) (k : Settings) (z : Stores) → Kept way k z z
-kept-same way k z = record { counts = left-same _ _; words = left-same _ _; numbers = left-same _ _ }
+kept-same way k z = record { counts = beyond-same _ _; words = beyond-same _ _; numbers = beyond-same _ _ }
 
 pub kept-trans : (way : Way) (k : Settings) (a b c : Stores) → Kept way k a b → Kept way k b c → Kept way k a c
 kept-trans way k a b c x y =
     record {
-      counts = left-trans _ _ _ _ (x .counts) (y .counts);
-      words = left-trans _ _ _ _ (x .words) (y .words);
-      numbers = left-trans _ _ _ _ (x .numbers) (subst (λ (n : ℕ). Left (usedOf way k n) (b .numbers) (c .numbers)) (x .numbers .long) (y .numbers));
+      counts = beyond-trans _ _ _ _ (x .counts) (y .counts);
+      words = beyond-trans _ _ _ _ (x .words) (y .words);
+      numbers = beyond-trans _ _ _ _ (x .numbers) (y .numbers);
     }
 
 pub fit-kept : (way : Way) (k : Settings) (a z : Stores) → Fit way k a → Kept way k a z → Fit way k z
@@ -77,17 +85,17 @@ move-adjacent z s t b s′ t′ hs ht = by (eqb b 0) (eqb b 1) (eqb b 2) (eqb b 
     by false false false false e = let q : _≡_ {A = ℕ} 0 1 = cc in absurd (omega arith)
 
 -- ---- one byte, from a visit x: it moves, or it stays
-module _ (way : Way) {b : List ℕ} {z : Plan} (k : Planned b z) (x : Visit) (byte : ℕ) (d : List ℤ) (v : Visit) where
+module _ (way : Way) {b : List ℕ} {z : Plan} (k : Planned b z) (x : Visit) (byte : ℕ) (hs : List ℕ) (d : List ℤ) (v : Visit) where
   pub visited-moves : (a s : Stores) (column row : ℕ) → move (settingsIn z) (x .column) (x .row) byte ≡ To column row
-      → Visited way b (arrive (frameOf b) column row (x .cut .0) (x .shifts)) a s d v
-      → Visited way b (step (frameOf b) (stateOf x) byte) a s d v
+      → Visited way b (arrive (frameOf b) column row (x .cut .0) (x .shifts)) a s hs d v
+      → Visited way b (step (frameOf b) (stateOf x) byte) a s hs d v
   visited-moves a s column row e h =
       let m : move (frameOf b .set) (x .column) (x .row) byte ≡ To column row = rw (settings-same k) at e in
-      subst (λ (y : State). Visited way b y a s d v) (sym (step-to (frameOf b) (stateOf x) byte column row m)) h
+      subst (λ (y : State). Visited way b y a s hs d v) (sym (step-to (frameOf b) (stateOf x) byte column row m)) h
 
-  pub visited-stays : (s : Stores) (mark : ℕ) → move (settingsIn z) (x .column) (x .row) byte ≡ Nowhere mark → AtWindow way b s d v
+  pub visited-stays : (s : Stores) (mark : ℕ) → move (settingsIn z) (x .column) (x .row) byte ≡ Nowhere mark → AtWindow way b s hs d v
       → stateOf v ≡ record { column = x .column; row = x .row; cut = x .cut .0; shifts = x .shifts; said = mark }
-      → Visited way b (step (frameOf b) (stateOf x) byte) s s d v
+      → Visited way b (step (frameOf b) (stateOf x) byte) s s hs d v
   visited-stays s mark e h q =
       let m : move (frameOf b .set) (x .column) (x .row) byte ≡ Nowhere mark = rw (settings-same k) at e in
       record { state = q ∙ sym (step-nowhere (frameOf b) (stateOf x) byte mark m); here = h; kept = kept-same way (frameOf b .set) s }
@@ -120,19 +128,19 @@ told-more front A A₀ i a n l e =
     ∙ ap (λ (q : ℕ). front ++ (a ∷ drop q A₀)) m ∙ sym (append-assoc front (a ∷ []) (drop (i + 1 + 1) A₀))
 
 -- ---- what holds in any loop of steps: i bytes of the list ms are done, from the state x; a are the stores where the loop begins
-pub record Going (way : Way) (b : List ℕ) (ms : List ℕ) (x : State) (a z : Stores) (d : List ℤ) (v : Visit) (i : ℕ) : Type 0 where
+pub record Going (way : Way) (b : List ℕ) (ms : List ℕ) (x : State) (a z : Stores) (hs : List ℕ) (d : List ℤ) (v : Visit) (i : ℕ) : Type 0 where
   pub most : i ≤ length ms
-  pub visited : Visited way b (after (frameOf b) x (take i ms)) a z d v
+  pub visited : Visited way b (after (frameOf b) x (take i ms)) a z hs d v
   pub held : Held (frameOf b) (stateOf v) (1 + i)
 
 module _ (way : Way) (b ms : List ℕ) where
-  pub going-start : (z : Stores) (d : List ℤ) (v : Visit) → AtWindow way b z d v → Held (frameOf b) (stateOf v) 1 → Going way b ms (stateOf v) z z d v 0
+  pub going-start : (z : Stores) (hs : List ℕ) (d : List ℤ) (v : Visit) → AtWindow way b z hs d v → Held (frameOf b) (stateOf v) 1 → Going way b ms (stateOf v) z z hs d v 0
   unfolding after
-  going-start z d v h on = record { most = omega arith; visited = record { state = refl; here = h; kept = kept-same way (frameOf b .set) z }; held = on }
+  going-start z hs d v h on = record { most = omega arith; visited = record { state = refl; here = h; kept = kept-same way (frameOf b .set) z }; held = on }
 
-  pub going-more : (x : State) (a z : Stores) (d : List ℤ) (v : Visit) (i : ℕ) → Going way b ms x a z d v i → i < length ms → (byte : ℕ) → byte ≡ getD ms i 0
-      → (z′ : Stores) (d′ : List ℤ) (v′ : Visit) → Visited way b (step (frameOf b) (stateOf v) byte) z z′ d′ v′ → Going way b ms x a z′ d′ v′ (i + 1)
-  going-more x a z d v i w l byte eb z′ d′ v′ h =
+  pub going-more : (x : State) (a z : Stores) (hs : List ℕ) (d : List ℤ) (v : Visit) (i : ℕ) → Going way b ms x a z hs d v i → i < length ms → (byte : ℕ) → byte ≡ getD ms i 0
+      → (z′ : Stores) (hs′ : List ℕ) (d′ : List ℤ) (v′ : Visit) → Visited way b (step (frameOf b) (stateOf v) byte) z z′ hs′ d′ v′ → Going way b ms x a z′ hs′ d′ v′ (i + 1)
+  going-more x a z hs d v i w l byte eb z′ hs′ d′ v′ h =
       let p = frameOf b in
       let e : after p x (take (i + 1) ms) ≡ step p (stateOf v) byte =
       rw (eb, add-one i, take-suc ms i 0 l) (after-one p x (take i ms) (getD ms i 0) ∙ ap (λ (q : State). step p q (getD ms i 0)) (sym (w .visited .state))) in
@@ -143,13 +151,13 @@ module _ (way : Way) (b ms : List ℕ) where
         held = subst (λ (n : ℕ). Held p (stateOf v′) n) j (subst (λ (q : State). Held p q (suc (1 + i))) (sym (h .state)) (held-step (w .held) byte));
       }
 
-  pub going-end : (x y : State) (a₀ a z : Stores) (d : List ℤ) (v : Visit) (i : ℕ) → Going way b ms y a z d v i → length ms ≤ i → y ≡ x
-      → Kept way (frameOf b .set) a₀ a → Visited way b (after (frameOf b) x ms) a₀ z d v
-  going-end x y a₀ a z d v i w l e kept =
+  pub going-end : (x y : State) (a₀ a z : Stores) (hs : List ℕ) (d : List ℤ) (v : Visit) (i : ℕ) → Going way b ms y a z hs d v i → length ms ≤ i → y ≡ x
+      → Kept way (frameOf b .set) a₀ a → Visited way b (after (frameOf b) x ms) a₀ z hs d v
+  going-end x y a₀ a z hs d v i w l e kept =
       let j : i ≡ length ms = omega (arith, w .most) in
       let all : take i ms ≡ ms = ap (λ (n : ℕ). take n ms) j ∙ take-length ms in
       let s : after (frameOf b) y (take i ms) ≡ after (frameOf b) x ms = cc in
-      let h : Visited way b (after (frameOf b) x ms) a z d v = rw s at (w .visited) in
+      let h : Visited way b (after (frameOf b) x ms) a z hs d v = rw s at (w .visited) in
       record { state = h .state; here = h .here; kept = kept-trans way _ a₀ a z kept (h .kept) }
 
 -- what a turn's call asks: room is kept

@@ -25,8 +25,8 @@ use Rattle.ice_walk.specs.Finished.{Finished}
 use Rattle.ice_walk.proofs.Laws.{Going, going-start, going-more, going-end, answers-one, told-more}
 
 -- A₀ are the answers where the loop begins
-pub record Walking (way : Way) (b ms : List ℕ) (x : State) (a : Stores) (A₀ : List ℕ) (z : Stores) (A : List ℕ) (d : List ℤ) (v : Visit) (i : ℕ) : Type 0 where
-  pub going : Going way b ms x a z d v i
+pub record Walking (way : Way) (b ms : List ℕ) (x : State) (a : Stores) (A₀ : List ℕ) (z : Stores) (A hs : List ℕ) (d : List ℤ) (v : Visit) (i : ℕ) : Type 0 where
+  pub going : Going way b ms x a z hs d v i
   pub told : A ≡ answers (frameOf b) x (take i ms) ++ drop (i + 1) A₀
 
 -- the first state of a walk that an accepted file makes
@@ -35,34 +35,34 @@ pub held-first : {b : List ℕ} {z : Plan} → Planned b z → (s t : ℕ) (v : 
 held-first {b} k s t v hs ht e = subst (λ (q : State). Held (frameOf b) q 1) (sym e) (held-start (pixel-of k hs ht))
 
 -- what a visit leaves, as a loop's result
-pub finished : {way : Way} {b : List ℕ} {x : State} {a z : Stores} {d : List ℤ} (v : Visit) (r : Walked) → Visited way b x a z d v → r .verdict ≡ Accepted
+pub finished : {way : Way} {b : List ℕ} {x : State} {a z : Stores} {hs : List ℕ} {d : List ℤ} (v : Visit) (r : Walked) → Visited way b x a z hs d v → r .verdict ≡ Accepted
     → r .shifts ≡ v .shifts → r .cut .0 ≡ v .cut .0 → r .cells ≡ d → Finished way (frameOf b) x a z r
-finished {way} {b} {x} {a} {z} {d} v r h e s c k =
+finished {way} {b} {x} {a} {z} {hs} {d} v r h e s c k =
     subst (λ (w : State). Finished way (frameOf b) w a z r) (h .state)
     (record { verdict = e; shifts = s; cut = c; holds = rw k (h .here .holds); kept = h .kept })
 
 module _ (way : Way) (b ms : List ℕ) where
-  pub walking-start : (z : Stores) (A : List ℕ) (d : List ℤ) (v : Visit) → 0 < length A → AtWindow way b z d v → Held (frameOf b) (stateOf v) 1 → (m : ℕ) → m ≡ answerNumber (v .answer)
-      → Walking way b ms (stateOf v) z (set A 0 m) z (set A 0 m) d v 0
+  pub walking-start : (z : Stores) (A hs : List ℕ) (d : List ℤ) (v : Visit) → 0 < length A → AtWindow way b z hs d v → Held (frameOf b) (stateOf v) 1 → (m : ℕ) → m ≡ answerNumber (v .answer)
+      → Walking way b ms (stateOf v) z (set A 0 m) z (set A 0 m) hs d v 0
   unfolding answers
-  walking-start z A d v l h on m em =
+  walking-start z A hs d v l h on m em =
       record {
-        going = going-start way b ms z d v h on;
+        going = going-start way b ms z hs d v h on;
         told = set-split A 0 m l ∙ ap₂ (λ (n : ℕ) (q : List ℕ). n ∷ q) em (sym (drop-set-lt 1 A 0 m (omega arith)));
       }
 
-  pub walking-long : (x : State) (a : Stores) (A₀ : List ℕ) (z : Stores) (A : List ℕ) (d : List ℤ) (v : Visit) (i : ℕ)
-      → Walking way b ms x a A₀ z A d v i → length ms + 1 ≤ length A₀ → length A ≡ length A₀
-  walking-long x a A₀ z A d v i w l =
+  pub walking-long : (x : State) (a : Stores) (A₀ : List ℕ) (z : Stores) (A hs : List ℕ) (d : List ℤ) (v : Visit) (i : ℕ)
+      → Walking way b ms x a A₀ z A hs d v i → length ms + 1 ≤ length A₀ → length A ≡ length A₀
+  walking-long x a A₀ z A hs d v i w l =
       let e : length A ≡ length (answers (frameOf b) x (take i ms)) + length (drop (i + 1) A₀) =
       ap length (w .told) ∙ length-append (answers (frameOf b) x (take i ms)) (drop (i + 1) A₀) in
       omega (arith, e, length-answers (frameOf b) x (take i ms), length-take i ms, length-drop (i + 1) A₀, w .going .most)
 
-  pub walking-more : (x : State) (a : Stores) (A₀ : List ℕ) (z : Stores) (A : List ℕ) (d : List ℤ) (v : Visit) (i : ℕ) → Walking way b ms x a A₀ z A d v i
-      → i < length ms → length ms + 1 ≤ length A₀ → (z′ : Stores) (d′ : List ℤ) (v′ : Visit)
-      → Visited way b (step (frameOf b) (stateOf v) (getD ms i 0)) z z′ d′ v′ → (m : ℕ) → m ≡ answerNumber (v′ .answer)
-      → Walking way b ms x a A₀ z′ (set A (i + 1) m) d′ v′ (i + 1)
-  walking-more x a A₀ z A d v i w l long z′ d′ v′ h m em =
+  pub walking-more : (x : State) (a : Stores) (A₀ : List ℕ) (z : Stores) (A hs : List ℕ) (d : List ℤ) (v : Visit) (i : ℕ) → Walking way b ms x a A₀ z A hs d v i
+      → i < length ms → length ms + 1 ≤ length A₀ → (z′ : Stores) (hs′ : List ℕ) (d′ : List ℤ) (v′ : Visit)
+      → Visited way b (step (frameOf b) (stateOf v) (getD ms i 0)) z z′ hs′ d′ v′ → (m : ℕ) → m ≡ answerNumber (v′ .answer)
+      → Walking way b ms x a A₀ z′ (set A (i + 1) m) hs′ d′ v′ (i + 1)
+  walking-more x a A₀ z A hs d v i w l long z′ hs′ d′ v′ h m em =
       let p = frameOf b in
       let front = answers p x (take i ms) in
       let said : m ≡ step p (stateOf v) (getD ms i 0) .said = em ∙ ap (λ (q : State). q .said) (h .state) in
@@ -72,15 +72,15 @@ module _ (way : Way) (b ms : List ℕ) where
       ∙ ap (λ (q : State). front ++ (step p q (getD ms i 0) .said ∷ [])) (sym (w .going .visited .state))
       ∙ ap (λ (q : ℕ). front ++ (q ∷ [])) (sym said)) in
       let n : length front ≡ i + 1 = omega (arith, length-answers p x (take i ms), length-take i ms) in
-      record { going = going-more way b ms x a z d v i (w .going) l _ refl z′ d′ v′ h; told = rw g (told-more front A A₀ i _ n (omega arith) (w .told)) }
+      record { going = going-more way b ms x a z hs d v i (w .going) l _ refl z′ hs′ d′ v′ h; told = rw g (told-more front A A₀ i _ n (omega arith) (w .told)) }
 
-  pub walking-end : (s t : ℕ) (y : State) (a₀ a : Stores) (A₁ A₀ : List ℕ) (z : Stores) (A : List ℕ) (d : List ℤ) (v : Visit) (i : ℕ) → Walking way b ms y a A₀ z A d v i
+  pub walking-end : (s t : ℕ) (y : State) (a₀ a : Stores) (A₁ A₀ : List ℕ) (z : Stores) (A hs : List ℕ) (d : List ℤ) (v : Visit) (i : ℕ) → Walking way b ms y a A₀ z A hs d v i
       → length ms ≤ i → y ≡ start (frameOf b) s t → Kept way (frameOf b .set) a₀ a → (q : ℕ) → A₀ ≡ set A₁ 0 q
-      → Visited way b (walkEnd (frameOf b) s t ms) a₀ z d v × (A ≡ walkAnswers (frameOf b) s t ms ++ drop (length ms + 1) A₁)
+      → Visited way b (walkEnd (frameOf b) s t ms) a₀ z hs d v × (A ≡ walkAnswers (frameOf b) s t ms ++ drop (length ms + 1) A₁)
   unfolding walkEnd walkAnswers
-  walking-end s t y a₀ a A₁ A₀ z A d v i w l e kept q e₀ =
+  walking-end s t y a₀ a A₁ A₀ z A hs d v i w l e kept q e₀ =
       let x = start (frameOf b) s t in
       let j : i ≡ length ms = omega (arith, w .going .most) in
       let all : take i ms ≡ ms = ap (λ (n : ℕ). take n ms) j ∙ take-length ms in
       let r : drop (i + 1) A₀ ≡ drop (length ms + 1) A₁ = rw (e₀, j) (drop-set-lt (length ms + 1) A₁ 0 q (omega arith)) in
-      (going-end way b ms x y a₀ a z d v i (w .going) l e kept, w .told ∙ cc)
+      (going-end way b ms x y a₀ a z hs d v i (w .going) l e kept, w .told ∙ cc)

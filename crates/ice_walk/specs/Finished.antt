@@ -9,9 +9,9 @@ use Rattle.ways.specs.Visit.{Stores, Holds, Kept}
 use Rattle.ice_walk.specs.declared.Walked.{Walked}
 
 -- its result, and the stores of its last window
-pub record Finished (way : Way) (p : Frame) (x : State) (a z : Stores) (r : Walked) : Type 0 where
+pub record Finished (way : Way) (p : Frame) (x : State) (before after : Stores) (r : Walked) : Type 0 where
   pub verdict : r .verdict ≡ Accepted
   pub shifts : r .shifts ≡ x .shifts
   pub cut : r .cut .0 ≡ x .cut
-  pub holds : Holds way p (x .column) (x .row) (x .cut) z (r .cells)
-  pub kept : Kept way (p .set) a z
+  pub holds : Holds way p (x .column) (x .row) (x .cut) after (r .cells)
+  pub kept : Kept way (p .set) before after

@@ -2,6 +2,7 @@
 use crate::Walked;
 use crate::walk;
 use checks::moves::turn_at;
+use joint_rows::rows;
 use spec::Plan;
 use spec::Verdict;
 use spec::Way;
@@ -14,43 +15,43 @@ ghost use lib.ListN.{length, drop};
 ghost use Rattle.spec.specs.Frame.{frameOf, pixels, settingsIn};
 ghost use Rattle.spec.specs.Checks.{Planned};
 ghost use Rattle.spec.specs.Filter.{filtered, filterEnd};
-ghost use Rattle.spec.specs.Calls.{zeros};
-ghost use Rattle.joint_rows.specs.Rows.{WeightRows};
-ghost use Rattle.ways.specs.Visit.{stores, Fit, Cleared, Serves};
+ghost use Rattle.ways.specs.Visit.{stores, Fit, Serves};
 ghost use Rattle.ice_walk.specs.Finished.{Finished};
 
-// The filter's work, after the checks. The box comes and goes by value, and is lent inside.
+// The filter's work, after the checks. The built-in weights, the box and the histogram are its own, and made once.
 pub fn sweep(
     file: &[u8],
-    z: Plan,
+    plan: Plan,
     way: Way,
-    weights: &[u16],
-    cells: [i16; 256],
     counts: &mut [u16],
     words: &mut [u64],
     numbers: &mut [u32],
     output: &mut [u16],
 ) -> Walked
-    requires { ⌜ (Planned (now file) z) × (WeightRows z (now weights)) × (Serves way z) ⌝ }
-    requires { ⌜ Fit way (settingsIn z) (stores (now counts) (now words) (now numbers)) ⌝ }
-    requires { ⌜ z .width * z .height ≤ length (now output) ⌝ }
-    requires { ⌜ (cells ≡ zeros) × (Cleared way z (now numbers)) ⌝ }
-    ensures { λ r. ⌜ Finished way (frameOf (now (file .entry))) (filterEnd (frameOf (now (file .entry)))) (stores (now (counts .entry)) (now
-        (words .entry)) (now (numbers .entry))) (stores (now (counts .exit)) (now (words .exit)) (now (numbers .exit))) r ⌝ }
-    ensures { λ _. ⌜ now (output .exit) ≡ filtered (frameOf (now (file .entry))) ++ drop (pixels (frameOf (now (file .entry)) .set)) (now
-        (output .entry)) ⌝ }
+    requires { ⌜ (Planned (now file) plan) × (Serves way plan) ⌝ }
+    requires { ⌜ Fit way (settingsIn plan) (stores (now counts) (now words) (now numbers)) ⌝ }
+    requires { ⌜ plan .width * plan .height ≤ length (now output) ⌝ }
+    ensures { λ r. ⌜ Finished way (frameOf (now (file .entry))) (filterEnd (frameOf (now (file .entry))))
+        (stores (now (counts .entry)) (now (words .entry)) (now (numbers .entry)))
+        (stores (now (counts .exit)) (now (words .exit)) (now (numbers .exit))) r ⌝ }
+    ensures { λ _. ⌜ now (output .exit) ≡ filtered (frameOf (now (file .entry)))
+        ++ drop (pixels (frameOf (now (file .entry)) .set)) (now (output .entry)) ⌝ }
 {
-    let width = z.width;
-    let n = width * z.height;
-    let mut held = cells;
+    let width = plan.width;
+    let n = width * plan.height;
+    let mut weights = [0u16; 511];
+    rows::built_rows(plan, &mut weights);
+    let mut balance_box = [0i16; 256];
+    let mut histogram = [0u32; 2048];
     let mut visit = dispatch::enter(
         file,
-        z,
+        plan,
         way,
-        weights,
+        &weights,
         0,
         0,
-        &mut held,
+        &mut balance_box,
+        &mut histogram,
         counts,
         words,
         numbers,
@@ -61,12 +62,13 @@ pub fn sweep(
     while i + 1 < n {
         let then = walk::step(
             file,
-            z,
+            plan,
             way,
-            weights,
+            &weights,
             visit,
             turn_at(width, i),
-            &mut held,
+            &mut balance_box,
+            &mut histogram,
             counts,
             words,
             numbers,
@@ -83,6 +85,6 @@ pub fn sweep(
         verdict: Verdict::Accepted,
         shifts,
         cut,
-        cells: held,
+        cells: balance_box,
     }
 }

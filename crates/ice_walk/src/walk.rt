@@ -1,6 +1,7 @@
 // The walk: its loop, and one byte of its list.
 use crate::Walked;
 use checks::moves::next;
+use joint_rows::rows;
 use spec::Answer;
 use spec::Move;
 use spec::Plan;
@@ -16,43 +17,45 @@ ghost use lib.ListN.{length, drop};
 ghost use Rattle.spec.specs.Frame.{frameOf, settingsIn};
 ghost use Rattle.spec.specs.Checks.{Planned};
 ghost use Rattle.spec.specs.Walk as definitions;
-ghost use Rattle.spec.specs.Calls.{zeros};
 ghost use Rattle.joint_rows.specs.Rows.{WeightRows};
-ghost use Rattle.ways.specs.Visit.{stateOf, stores, Fit, Cleared, Serves, Within, AtWindow, Visited};
+ghost use Rattle.ways.specs.Visit.{stateOf, stores, Fit, Serves, Within, AtWindow, Visited};
 ghost use Rattle.ice_walk.specs.Finished.{Finished};
 
 // One byte of the list: the window that it leads to, or the mark.
 pub fn step(
     file: &[u8],
-    z: Plan,
+    plan: Plan,
     way: Way,
     weights: &[u16],
     visit: Visit,
     byte: u8,
-    cells: &mut [i16; 256],
+    balance_box: &mut [i16; 256],
+    histogram: &mut [u32; 2048],
     counts: &mut [u16],
     words: &mut [u64],
     numbers: &mut [u32],
 ) -> Visit
-    requires { ⌜ (Planned (now file) z) × (WeightRows z (now weights)) × (Serves way z) ⌝ }
-    requires { ⌜ Within z visit ⌝ }
-    requires { ⌜ Fit way (settingsIn z) (stores (now counts) (now words) (now numbers)) ⌝ }
-    requires { ⌜ AtWindow way (now file) (stores (now counts) (now words) (now numbers)) (now cells) visit ⌝ }
-    ensures { λ r. ⌜ Visited way (now (file .entry)) (definitions.step (frameOf (now (file .entry))) (stateOf visit) byte) (stores (now
-        (counts .entry)) (now (words .entry)) (now (numbers .entry))) (stores (now (counts .exit)) (now (words .exit)) (now (numbers .exit))) (now
-        (cells .exit)) r ⌝ }
+    requires { ⌜ (Planned (now file) plan) × (WeightRows plan (now weights)) × (Serves way plan) ⌝ }
+    requires { ⌜ Within plan visit ⌝ }
+    requires { ⌜ Fit way (settingsIn plan) (stores (now counts) (now words) (now numbers)) ⌝ }
+    requires { ⌜ AtWindow way (now file) (stores (now counts) (now words) (now numbers)) (now histogram) (now «balance_box») visit ⌝ }
+    ensures { λ r. ⌜ Visited way (now (file .entry)) (definitions.step (frameOf (now (file .entry))) (stateOf visit) byte)
+        (stores (now (counts .entry)) (now (words .entry)) (now (numbers .entry)))
+        (stores (now (counts .exit)) (now (words .exit)) (now (numbers .exit)))
+        (now (histogram .exit)) (now («balance_box» .exit)) r ⌝ }
 {
-    let m = next(z, visit.column, visit.row, byte);
+    let m = next(plan, visit.column, visit.row, byte);
     match m {
         Move::To(column, row) => dispatch::slide(
             file,
-            z,
+            plan,
             way,
             weights,
             visit,
             column,
             row,
-            cells,
+            balance_box,
+            histogram,
             counts,
             words,
             numbers,
@@ -72,42 +75,43 @@ pub fn step(
     }
 }
 
-// The walk's work, after the checks. The box comes and goes by value, and is lent inside.
+// The walk's work, after the checks. The built-in weights, the box and the histogram are its own, and made once.
 pub fn travel(
     file: &[u8],
-    z: Plan,
+    plan: Plan,
     way: Way,
-    weights: &[u16],
     column: usize,
     row: usize,
     moves: &[u8],
-    cells: [i16; 256],
     counts: &mut [u16],
     words: &mut [u64],
     numbers: &mut [u32],
     answers: &mut [u16],
 ) -> Walked
-    requires { ⌜ (Planned (now file) z) × (WeightRows z (now weights)) × (Serves way z) ⌝ }
-    requires { ⌜ (column < z .width) × (row < z .height) ⌝ }
+    requires { ⌜ (Planned (now file) plan) × (Serves way plan) ⌝ }
+    requires { ⌜ (column < plan .width) × (row < plan .height) ⌝ }
     requires { ⌜ length (now moves) ≤ 1048576 ⌝ }
-    requires { ⌜ Fit way (settingsIn z) (stores (now counts) (now words) (now numbers)) ⌝ }
+    requires { ⌜ Fit way (settingsIn plan) (stores (now counts) (now words) (now numbers)) ⌝ }
     requires { ⌜ length (now moves) + 1 ≤ length (now answers) ⌝ }
-    requires { ⌜ (cells ≡ zeros) × (Cleared way z (now numbers)) ⌝ }
-    ensures { λ r. ⌜ Finished way (frameOf (now (file .entry))) (definitions.walkEnd (frameOf (now (file .entry))) column row (now
-        (moves .entry))) (stores (now (counts .entry)) (now (words .entry)) (now (numbers .entry))) (stores (now (counts .exit)) (now
-        (words .exit)) (now (numbers .exit))) r ⌝ }
-    ensures { λ _. ⌜ now (answers .exit) ≡ definitions.walkAnswers (frameOf (now (file .entry))) column row (now (moves .entry)) ++ drop (length
-        (now (moves .entry)) + 1) (now (answers .entry)) ⌝ }
+    ensures { λ r. ⌜ Finished way (frameOf (now (file .entry))) (definitions.walkEnd (frameOf (now (file .entry))) column row (now (moves .entry)))
+        (stores (now (counts .entry)) (now (words .entry)) (now (numbers .entry)))
+        (stores (now (counts .exit)) (now (words .exit)) (now (numbers .exit))) r ⌝ }
+    ensures { λ _. ⌜ now (answers .exit) ≡ definitions.walkAnswers (frameOf (now (file .entry))) column row (now (moves .entry))
+        ++ drop (length (now (moves .entry)) + 1) (now (answers .entry)) ⌝ }
 {
-    let mut held = cells;
+    let mut weights = [0u16; 511];
+    rows::built_rows(plan, &mut weights);
+    let mut balance_box = [0i16; 256];
+    let mut histogram = [0u32; 2048];
     let mut visit = dispatch::enter(
         file,
-        z,
+        plan,
         way,
-        weights,
+        &weights,
         column,
         row,
-        &mut held,
+        &mut balance_box,
+        &mut histogram,
         counts,
         words,
         numbers,
@@ -118,12 +122,13 @@ pub fn travel(
     while i < moves.len() {
         let then = step(
             file,
-            z,
+            plan,
             way,
-            weights,
+            &weights,
             visit,
             moves[i],
-            &mut held,
+            &mut balance_box,
+            &mut histogram,
             counts,
             words,
             numbers,
@@ -139,6 +144,6 @@ pub fn travel(
         verdict: Verdict::Accepted,
         shifts,
         cut,
-        cells: held,
+        cells: balance_box,
     }
 }

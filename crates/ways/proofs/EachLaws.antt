@@ -6,7 +6,7 @@ use mathlib.Core.List.{List, [], _++_}
 use native.Mathlib.Omega.{arith}
 use lib.ListN.{length, take, drop, length-append, length-drop, take-append-drop}
 use lib.IntN.{ℤ}
-use lib.Seq.{take-at, drop-at, drop-length}
+use lib.Seq.{take-at, drop-at}
 use Rattle.spec.specs.declared.Settings.{Settings}
 use Rattle.spec.specs.declared.Plan.{Plan}
 use Rattle.spec.specs.declared.Room.{Room}
@@ -32,7 +32,7 @@ use Rattle.chain.specs.Moves.{Listed}
 use Rattle.chain_search.specs.declared.visit.Visit as chain
 use Rattle.chain_search.specs.Visit as chain-visit
 use Rattle.ways.specs.declared.Visit.{Visit}
-use Rattle.ways.specs.Visit.{stores, Left, usedOf, Carried, Within, stateOf, AtWindow, Visited}
+use Rattle.ways.specs.Visit.{stores, KeptBeyond, Carried, Within, stateOf, AtWindow, Visited}
 use Rattle.ways.specs.Each.{ofJoint, toJoint, ofColumns, toColumns, ofChain, toChain}
 
 -- the plan's settings are the file's
@@ -61,20 +61,16 @@ state-is p s t c n v col row cut sh said =
       said = said i;
     }
 
-pub left-same : (n : ℕ) (a : List ℕ) → Left n a a
-left-same n a = record { long = refl; beyond = refl }
-
--- a list of the same length: nothing lies beyond it
-left-whole : (a z : List ℕ) → length z ≡ length a → Left (length a) a z
-left-whole a z e = record { long = e; beyond = ap (λ (n : ℕ). drop n z) (sym e) ∙ drop-length z ∙ sym (drop-length a) }
+pub beyond-same : (n : ℕ) (a : List ℕ) → KeptBeyond n a a
+beyond-same n a = record { long = refl; beyond = refl }
 
 -- ---- a list whose first n numbers are known, and the rest as it was
 module _ (n : ℕ) (front xs ys : List ℕ) (long : length front ≡ n) (e : ys ≡ front ++ drop n xs) where
   front-of : take n ys ≡ front
   front-of = ap (take n) e ∙ take-at front (drop n xs) n long
 
-  left-of : n ≤ length xs → Left n xs ys
-  left-of room =
+  beyond-of : n ≤ length xs → KeptBeyond n xs ys
+  beyond-of room =
       record {
         long = ap length e ∙ omega (arith, length-append front (drop n xs), long, length-drop n xs);
         beyond = ap (drop n) e ∙ drop-at front (drop n xs) n long;
@@ -89,12 +85,12 @@ module _ {b : List ℕ} {z : Plan} (k : Planned b z) where
   room-of way f n h = subst (λ (q : Settings). f (roomOf way q) ≤ n) (settings-same k) h
 
   -- ---- joint
-  module _ (s t c n : ℕ) (xs ws ns xs′ ws′ ns′ : List ℕ) (bx : List ℤ) (v : joint.Visit) where
-    pub joint-visited : roomOf Joint (settingsIn z) .counts ≤ length xs → roomOf Joint (settingsIn z) .words ≤ length ws → length ns′ ≡ length ns
-        → joint-visit.Visited (frameOf b) s t c n v xs ws xs′ ws′ bx ns′
-        → Visited Joint b (arrive (frameOf b) s t c n) (stores xs ws ns) (stores xs′ ws′ ns′) bx (ofJoint v s t)
-    unfolding roomOf usedOf countsOf wordsOf NumbersOf boxOf Carried jointCounts occupancyWords
-    joint-visited room room′ long h =
+  module _ (s t c n : ℕ) (xs ws xs′ ws′ hs : List ℕ) (bx : List ℤ) (v : joint.Visit) where
+    pub joint-visited : roomOf Joint (settingsIn z) .counts ≤ length xs → roomOf Joint (settingsIn z) .words ≤ length ws
+        → joint-visit.Visited (frameOf b) s t c n v xs ws xs′ ws′ bx hs
+        → Visited Joint b (arrive (frameOf b) s t c n) (stores xs ws []) (stores xs′ ws′ []) hs bx (ofJoint v s t)
+    unfolding roomOf countsOf wordsOf NumbersOf boxOf Carried jointCounts occupancyWords
+    joint-visited room room′ h =
         let p = frameOf b in
         let cells = length-tabulate (p .set .levels * p .set .guides) (λ q. count p s t (q / p .set .guides) (q % p .set .guides)) in
         let words = length-tabulate (p .set .levels * wordsPerLevel (p .set)) (λ q. occupancyWord p s t (q / wordsPerLevel (p .set)) (q % wordsPerLevel (p .set))) in
@@ -110,9 +106,9 @@ module _ {b : List ℕ} {z : Plan} (k : Planned b z) where
             carried = h .carried;
           };
           kept = record {
-            counts = left-of (p .set .levels * p .set .guides) (jointCounts p s t) xs xs′ cells (h .joint .counts) (room-of Joint (λ q. q .counts) (length xs) room);
-            words = left-of (p .set .levels * wordsPerLevel (p .set)) (occupancyWords p s t) ws ws′ words (h .joint .words) (room-of Joint (λ q. q .words) (length ws) room′);
-            numbers = left-whole ns ns′ long;
+            counts = beyond-of (p .set .levels * p .set .guides) (jointCounts p s t) xs xs′ cells (h .joint .counts) (room-of Joint (λ q. q .counts) (length xs) room);
+            words = beyond-of (p .set .levels * wordsPerLevel (p .set)) (occupancyWords p s t) ws ws′ words (h .joint .words) (room-of Joint (λ q. q .words) (length ws) room′);
+            numbers = beyond-same 0 [];
           };
         }
 
@@ -128,10 +124,10 @@ module _ {b : List ℕ} {z : Plan} (k : Planned b z) where
         words = room-of Joint (λ q. q .words) (length ws) room′;
       }
 
-  pub joint-held : (xs ws ns : List ℕ) (bx : List ℤ) (v : Visit) → Within z v → AtWindow Joint b (stores xs ws ns) bx v
-      → Held b z (v .column) (v .row) (v .cut .0) xs ws bx × joint-visit.Carried (frameOf b) (v .column) (v .row) (v .cut .0) (v .carry .sums) (v .carry .below) ns
+  pub joint-held : (xs ws hs : List ℕ) (bx : List ℤ) (v : Visit) → Within z v → AtWindow Joint b (stores xs ws []) hs bx v
+      → Held b z (v .column) (v .row) (v .cut .0) xs ws bx × joint-visit.Carried (frameOf b) (v .column) (v .row) (v .cut .0) (v .carry .sums) (v .carry .below) hs
   unfolding roomOf countsOf wordsOf boxOf Carried
-  joint-held xs ws ns bx v w h = (
+  joint-held xs ws hs bx v w h = (
     record {
       planned = k;
       column = w .column;
@@ -144,8 +140,8 @@ module _ {b : List ℕ} {z : Plan} (k : Planned b z) where
   -- ---- columns
   pub columns-visited : (s t c n : ℕ) (xs : List ℕ) (v : columns.Visit) (ys : List ℕ)
       → roomOf Columns (settingsIn z) .numbers ≤ length xs → columns-visit.Arrived (frameOf b) s t c n xs v ys
-      → Visited Columns b (arrive (frameOf b) s t c n) (stores [] [] xs) (stores [] [] ys) zeros (ofColumns v s t)
-  unfolding roomOf usedOf countsOf wordsOf NumbersOf boxOf Carried
+      → Visited Columns b (arrive (frameOf b) s t c n) (stores [] [] xs) (stores [] [] ys) [] zeros (ofColumns v s t)
+  unfolding roomOf countsOf wordsOf NumbersOf boxOf Carried
   columns-visited s t c n xs v ys room h =
       let p = frameOf b in
       let front : length (columnStore p s t) ≡ roomOf Columns (p .set) .numbers = length-columns p s t in
@@ -156,13 +152,13 @@ module _ {b : List ℕ} {z : Plan} (k : Planned b z) where
           carried = (h .visited .sums, h .visited .below);
         };
         kept = record {
-          counts = left-same 0 [];
-          words = left-same 0 [];
-          numbers = left-of (roomOf Columns (p .set) .numbers) (columnStore p s t) xs ys front (h .store) (room-of Columns (λ q. q .numbers) (length xs) room);
+          counts = beyond-same 0 [];
+          words = beyond-same 0 [];
+          numbers = beyond-of (roomOf Columns (p .set) .numbers) (columnStore p s t) xs ys front (h .store) (room-of Columns (λ q. q .numbers) (length xs) room);
         };
       }
 
-  pub columns-standing : (xs : List ℕ) (v : Visit) → Within z v → AtWindow Columns b (stores [] [] xs) zeros v
+  pub columns-standing : (xs : List ℕ) (v : Visit) → Within z v → AtWindow Columns b (stores [] [] xs) [] zeros v
       → columns-visit.Standing (frameOf b) (v .column) (v .row) (toColumns v) xs
   unfolding roomOf NumbersOf Carried
   columns-standing xs v w h =
@@ -176,8 +172,8 @@ module _ {b : List ℕ} {z : Plan} (k : Planned b z) where
 
   -- ---- chain
   pub chain-visited : (s t c n : ℕ) (xs : List ℕ) (v : chain.Visit) (ys : List ℕ) → chain-visit.Visited b z s t c n xs v ys
-      → Visited Chain b (arrive (frameOf b) s t c n) (stores [] [] xs) (stores [] [] ys) zeros (ofChain v s t)
-  unfolding roomOf usedOf countsOf wordsOf NumbersOf boxOf Carried
+      → Visited Chain b (arrive (frameOf b) s t c n) (stores [] [] xs) (stores [] [] ys) [] zeros (ofChain v s t)
+  unfolding roomOf countsOf wordsOf NumbersOf boxOf Carried
   chain-visited s t c n xs v ys h =
       record {
         state = state-is (frameOf b) s t c n (ofChain v s t) refl refl (h .state .cut) (h .state .shifts) (h .state .answer);
@@ -185,10 +181,10 @@ module _ {b : List ℕ} {z : Plan} (k : Planned b z) where
           holds = record { counts = refl; words = refl; numbers = h .stored .store; cells = refl };
           carried = (h .sums, subst (λ (q : Plan). Listed b q s t (v .free) ys) (k .plan) (h .stored .listed));
         };
-        kept = record { counts = left-same 0 []; words = left-same 0 []; numbers = record { long = h .stored .long; beyond = h .stored .rest } };
+        kept = record { counts = beyond-same 0 []; words = beyond-same 0 []; numbers = record { long = h .stored .long; beyond = h .stored .rest } };
       }
 
-  pub chain-holds : (xs : List ℕ) (v : Visit) → AtWindow Chain b (stores [] [] xs) zeros v → chain-visit.Holds b z (v .column) (v .row) (toChain v) xs
+  pub chain-holds : (xs : List ℕ) (v : Visit) → AtWindow Chain b (stores [] [] xs) [] zeros v → chain-visit.Holds b z (v .column) (v .row) (toChain v) xs
   unfolding Carried
   chain-holds xs v h =
       record { sums = h .carried .0; listed = subst (λ (q : Plan). Listed b q (v .column) (v .row) (v .carry .free) xs) (sym (k .plan)) (h .carried .1) }
@@ -200,36 +196,36 @@ module _ {b : List ℕ} {z : Plan} (k : Planned b z) where
   pub numbers-room : (way : Way) (n : ℕ) → roomOf way (settingsIn z) .numbers ≤ n → roomOf way (frameOf b .set) .numbers ≤ n
   numbers-room way n h = room-of way (λ q. q .numbers) n h
 
-  pub joint-entered : (s t : ℕ) (xs ws ns xs′ ws′ ns′ : List ℕ) (bx : List ℤ) (v : joint.Visit) (w : Visit) → w ≡ ofJoint v s t
-      → (roomOf Joint (settingsIn z) .counts ≤ length xs) × (roomOf Joint (settingsIn z) .words ≤ length ws) → length ns′ ≡ length ns
-      → joint-visit.Visited (frameOf b) s t 0 0 v xs ws xs′ ws′ bx ns′ → Visited Joint b (arrive (frameOf b) s t 0 0) (stores xs ws ns) (stores xs′ ws′ ns′) bx w
-  joint-entered s t xs ws ns xs′ ws′ ns′ bx v w e room long h = rw e (joint-visited s t 0 0 xs ws ns xs′ ws′ ns′ bx v (room .0) (room .1) long h)
+  pub joint-entered : (s t : ℕ) (xs ws xs′ ws′ hs : List ℕ) (bx : List ℤ) (v : joint.Visit) (w : Visit) → w ≡ ofJoint v s t
+      → (roomOf Joint (settingsIn z) .counts ≤ length xs) × (roomOf Joint (settingsIn z) .words ≤ length ws)
+      → joint-visit.Visited (frameOf b) s t 0 0 v xs ws xs′ ws′ bx hs → Visited Joint b (arrive (frameOf b) s t 0 0) (stores xs ws []) (stores xs′ ws′ []) hs bx w
+  joint-entered s t xs ws xs′ ws′ hs bx v w e room h = rw e (joint-visited s t 0 0 xs ws xs′ ws′ hs bx v (room .0) (room .1) h)
 
   module _ (from : Visit) where
-    pub joint-ready : (known : joint.Visit) → known ≡ toJoint from → (xs ws ns : List ℕ) (bx : List ℤ) → Within z from → AtWindow Joint b (stores xs ws ns) bx from
-        → Held b z (from .column) (from .row) (known .cut .0) xs ws bx × joint-visit.Carried (frameOf b) (from .column) (from .row) (known .cut .0) (known .sums) (known .below) ns
-    joint-ready known e xs ws ns bx w h = rw e (joint-held xs ws ns bx from w h)
+    pub joint-ready : (known : joint.Visit) → known ≡ toJoint from → (xs ws hs : List ℕ) (bx : List ℤ) → Within z from → AtWindow Joint b (stores xs ws []) hs bx from
+        → Held b z (from .column) (from .row) (known .cut .0) xs ws bx × joint-visit.Carried (frameOf b) (from .column) (from .row) (known .cut .0) (known .sums) (known .below) hs
+    joint-ready known e xs ws hs bx w h = rw e (joint-held xs ws hs bx from w h)
 
     pub joint-small : (known : joint.Visit) → known ≡ toJoint from → Within z from → (known .cut .0 < z .levels) × (known .shifts ≤ 4294967296)
     joint-small known e w = rw e (w .cut, omega (arith, w .shifts))
 
-    pub joint-slid : (known : joint.Visit) → known ≡ toJoint from → (s t : ℕ) (xs ws ns xs′ ws′ ns′ : List ℕ) (bx : List ℤ) (v : joint.Visit) (w : Visit) → w ≡ ofJoint v s t
-        → (roomOf Joint (settingsIn z) .counts ≤ length xs) × (roomOf Joint (settingsIn z) .words ≤ length ws) → length ns′ ≡ length ns
-        → joint-visit.Visited (frameOf b) s t (known .cut .0) (known .shifts) v xs ws xs′ ws′ bx ns′
-        → Visited Joint b (arrive (frameOf b) s t (from .cut .0) (from .shifts)) (stores xs ws ns) (stores xs′ ws′ ns′) bx w
-    joint-slid known e s t xs ws ns xs′ ws′ ns′ bx v w ew room long h =
-        rw ew (joint-visited s t (from .cut .0) (from .shifts) xs ws ns xs′ ws′ ns′ bx v (room .0) (room .1) long (rw e at h))
+    pub joint-slid : (known : joint.Visit) → known ≡ toJoint from → (s t : ℕ) (xs ws xs′ ws′ hs : List ℕ) (bx : List ℤ) (v : joint.Visit) (w : Visit) → w ≡ ofJoint v s t
+        → (roomOf Joint (settingsIn z) .counts ≤ length xs) × (roomOf Joint (settingsIn z) .words ≤ length ws)
+        → joint-visit.Visited (frameOf b) s t (known .cut .0) (known .shifts) v xs ws xs′ ws′ bx hs
+        → Visited Joint b (arrive (frameOf b) s t (from .cut .0) (from .shifts)) (stores xs ws []) (stores xs′ ws′ []) hs bx w
+    joint-slid known e s t xs ws xs′ ws′ hs bx v w ew room h =
+        rw ew (joint-visited s t (from .cut .0) (from .shifts) xs ws xs′ ws′ hs bx v (room .0) (room .1) (rw e at h))
 
-    pub columns-ready : (known : columns.Visit) → known ≡ toColumns from → (xs : List ℕ) → Within z from → AtWindow Columns b (stores [] [] xs) zeros from
+    pub columns-ready : (known : columns.Visit) → known ≡ toColumns from → (xs : List ℕ) → Within z from → AtWindow Columns b (stores [] [] xs) [] zeros from
         → columns-visit.Standing (frameOf b) (from .column) (from .row) known xs
     columns-ready known e xs w h = rw e (columns-standing xs from w h)
 
     pub columns-slid : (known : columns.Visit) → known ≡ toColumns from → (s t : ℕ) (xs : List ℕ) (v : columns.Visit) (ys : List ℕ) (w : Visit) → w ≡ ofColumns v s t
         → roomOf Columns (settingsIn z) .numbers ≤ length xs → columns-visit.Arrived (frameOf b) s t (known .cut .0) (known .shifts) xs v ys
-        → Visited Columns b (arrive (frameOf b) s t (from .cut .0) (from .shifts)) (stores [] [] xs) (stores [] [] ys) zeros w
+        → Visited Columns b (arrive (frameOf b) s t (from .cut .0) (from .shifts)) (stores [] [] xs) (stores [] [] ys) [] zeros w
     columns-slid known e s t xs v ys w ew room h = rw ew (columns-visited s t (from .cut .0) (from .shifts) xs v ys room (rw e at h))
 
-    pub chain-ready : (known : chain.Visit) → known ≡ toChain from → (xs : List ℕ) → AtWindow Chain b (stores [] [] xs) zeros from
+    pub chain-ready : (known : chain.Visit) → known ≡ toChain from → (xs : List ℕ) → AtWindow Chain b (stores [] [] xs) [] zeros from
         → chain-visit.Holds b z (from .column) (from .row) known xs
     chain-ready known e xs h = rw e (chain-holds xs from h)
 
@@ -238,13 +234,13 @@ module _ {b : List ℕ} {z : Plan} (k : Planned b z) where
 
     pub chain-slid : (known : chain.Visit) → known ≡ toChain from → (s t : ℕ) (xs : List ℕ) (v : chain.Visit) (ys : List ℕ) (w : Visit) → w ≡ ofChain v s t
         → chain-visit.Visited b z s t (known .cut .0) (known .shifts) xs v ys
-        → Visited Chain b (arrive (frameOf b) s t (from .cut .0) (from .shifts)) (stores [] [] xs) (stores [] [] ys) zeros w
+        → Visited Chain b (arrive (frameOf b) s t (from .cut .0) (from .shifts)) (stores [] [] xs) (stores [] [] ys) [] zeros w
     chain-slid known e s t xs v ys w ew h = rw ew (chain-visited s t (from .cut .0) (from .shifts) xs v ys (rw e at h))
 
   pub columns-entered : (s t : ℕ) (xs : List ℕ) (v : columns.Visit) (ys : List ℕ) (w : Visit) → w ≡ ofColumns v s t → roomOf Columns (settingsIn z) .numbers ≤ length xs
-      → columns-visit.Arrived (frameOf b) s t 0 0 xs v ys → Visited Columns b (arrive (frameOf b) s t 0 0) (stores [] [] xs) (stores [] [] ys) zeros w
+      → columns-visit.Arrived (frameOf b) s t 0 0 xs v ys → Visited Columns b (arrive (frameOf b) s t 0 0) (stores [] [] xs) (stores [] [] ys) [] zeros w
   columns-entered s t xs v ys w e room h = rw e (columns-visited s t 0 0 xs v ys room h)
 
   pub chain-entered : (s t : ℕ) (xs : List ℕ) (v : chain.Visit) (ys : List ℕ) (w : Visit) → w ≡ ofChain v s t → chain-visit.Visited b z s t 0 0 xs v ys
-      → Visited Chain b (arrive (frameOf b) s t 0 0) (stores [] [] xs) (stores [] [] ys) zeros w
+      → Visited Chain b (arrive (frameOf b) s t 0 0) (stores [] [] xs) (stores [] [] ys) [] zeros w
   chain-entered s t xs v ys w e h = rw e (chain-visited s t 0 0 xs v ys h)

@@ -130,38 +130,39 @@ fn to_chain(v: Visit) -> chain_search::visit::Visit
     }
 }
 
-// The joint way at the start window; its histogram of levels is made in the numbers, which are 0.
+// The joint way at the start window; its histogram of levels is made in numbers that are 0.
 pub fn joint_enter(
     file: &[u8],
-    z: Plan,
+    plan: Plan,
     weights: &[u16],
     column: usize,
     row: usize,
-    cells: &mut [i16; 256],
+    balance_box: &mut [i16; 256],
+    histogram: &mut [u32; 2048],
     counts: &mut [u16],
     words: &mut [u64],
-    numbers: &mut [u32],
 ) -> Visit
-    requires { ⌜ (Planned (now file) z) × (WeightRows z (now weights)) ⌝ }
-    requires { ⌜ (column < z .width) × (row < z .height) ⌝ }
-    requires { ⌜ (roomOf Way.Joint (settingsIn z) .counts ≤ length (now counts)) × (roomOf Way.Joint (settingsIn z) .words ≤ length (now words)) ⌝ }
-    requires { ⌜ Blank (z .levels) (now numbers) ⌝ }
-    ensures { λ r. ⌜ Visited Way.Joint (now (file .entry)) (arrive (frameOf (now (file .entry))) column row 0 0) (stores (now (counts .entry))
-        (now (words .entry)) (now (numbers .entry))) (stores (now (counts .exit)) (now (words .exit)) (now (numbers .exit))) (now
-        (cells .exit)) r ⌝ }
+    requires { ⌜ (Planned (now file) plan) × (WeightRows plan (now weights)) ⌝ }
+    requires { ⌜ (column < plan .width) × (row < plan .height) ⌝ }
+    requires { ⌜ (roomOf Way.Joint (settingsIn plan) .counts ≤ length (now counts)) × (roomOf Way.Joint (settingsIn plan) .words ≤ length (now
+        words)) ⌝ }
+    requires { ⌜ Blank (plan .levels) (now histogram) ⌝ }
+    ensures { λ r. ⌜ Visited Way.Joint (now (file .entry)) (arrive (frameOf (now (file .entry))) column row 0 0)
+        (stores (now (counts .entry)) (now (words .entry)) []) (stores (now (counts .exit)) (now (words .exit)) [])
+        (now (histogram .exit)) (now («balance_box» .exit)) r ⌝ }
 {
     let v = joint_visit::visit::enter(
         file,
-        z,
+        plan,
         weights,
         column,
         row,
         Level(0),
         0,
-        cells,
+        balance_box,
         counts,
         words,
-        numbers,
+        histogram,
     );
     of_joint(v, column, row)
 }
@@ -169,103 +170,128 @@ pub fn joint_enter(
 // The joint way at a neighbouring window.
 pub fn joint_slide(
     file: &[u8],
-    z: Plan,
+    plan: Plan,
     weights: &[u16],
     from: Visit,
     column: usize,
     row: usize,
-    cells: &mut [i16; 256],
+    balance_box: &mut [i16; 256],
+    histogram: &mut [u32; 2048],
     counts: &mut [u16],
     words: &mut [u64],
-    numbers: &mut [u32],
 ) -> Visit
-    requires { ⌜ (Planned (now file) z) × (WeightRows z (now weights)) ⌝ }
-    requires { ⌜ (Within z from) × (Adjacent z (from .column) (from .row) column row) ⌝ }
-    requires { ⌜ (roomOf Way.Joint (settingsIn z) .counts ≤ length (now counts)) × (roomOf Way.Joint (settingsIn z) .words ≤ length (now words)) ⌝ }
-    requires { ⌜ AtWindow Way.Joint (now file) (stores (now counts) (now words) (now numbers)) (now cells) from ⌝ }
-    ensures { λ r. ⌜ Visited Way.Joint (now (file .entry)) (arrive (frameOf (now (file .entry))) column row (from .cut .0) (from .shifts)) (stores
-        (now (counts .entry)) (now (words .entry)) (now (numbers .entry))) (stores (now (counts .exit)) (now (words .exit)) (now (numbers .exit)))
-        (now (cells .exit)) r ⌝ }
+    requires { ⌜ (Planned (now file) plan) × (WeightRows plan (now weights)) ⌝ }
+    requires { ⌜ (Within plan from) × (Adjacent plan (from .column) (from .row) column row) ⌝ }
+    requires { ⌜ (roomOf Way.Joint (settingsIn plan) .counts ≤ length (now counts)) × (roomOf Way.Joint (settingsIn plan) .words ≤ length (now
+        words)) ⌝ }
+    requires { ⌜ AtWindow Way.Joint (now file) (stores (now counts) (now words) []) (now histogram) (now «balance_box») from ⌝ }
+    ensures { λ r. ⌜ Visited Way.Joint (now (file .entry)) (arrive (frameOf (now (file .entry))) column row (from .cut .0) (from .shifts))
+        (stores (now (counts .entry)) (now (words .entry)) []) (stores (now (counts .exit)) (now (words .exit)) [])
+        (now (histogram .exit)) (now («balance_box» .exit)) r ⌝ }
 {
     let known = to_joint(from);
     let v = joint_visit::visit::slide(
         file,
-        z,
+        plan,
         weights,
         known,
         from.column,
         from.row,
         column,
         row,
-        cells,
+        balance_box,
         counts,
         words,
-        numbers,
+        histogram,
     );
     of_joint(v, column, row)
 }
 
 // Columns at the start window.
-pub fn columns_enter(file: &[u8], z: Plan, column: usize, row: usize, numbers: &mut [u32]) -> Visit
-    requires { ⌜ (Planned (now file) z) × (z .kind ≡ 2) ⌝ }
-    requires { ⌜ (column < z .width) × (row < z .height) ⌝ }
-    requires { ⌜ roomOf Way.Columns (settingsIn z) .numbers ≤ length (now numbers) ⌝ }
+pub fn columns_enter(
+    file: &[u8],
+    plan: Plan,
+    column: usize,
+    row: usize,
+    numbers: &mut [u32],
+) -> Visit
+    requires { ⌜ (Planned (now file) plan) × (plan .kind ≡ 2) ⌝ }
+    requires { ⌜ (column < plan .width) × (row < plan .height) ⌝ }
+    requires { ⌜ roomOf Way.Columns (settingsIn plan) .numbers ≤ length (now numbers) ⌝ }
     ensures { λ r. ⌜ Visited Way.Columns (now (file .entry)) (arrive (frameOf (now (file .entry))) column row 0 0) (stores [] [] (now
-        (numbers .entry))) (stores [] [] (now (numbers .exit))) zeros r ⌝ }
+        (numbers .entry))) (stores [] [] (now (numbers .exit))) [] zeros r ⌝ }
 {
-    let v = columns::visit::enter(file, z, column, row, Level(0), 0, numbers);
+    let v = columns::visit::enter(file, plan, column, row, Level(0), 0, numbers);
     of_columns(v, column, row)
 }
 
 // Columns at a neighbouring window.
 pub fn columns_slide(
     file: &[u8],
-    z: Plan,
+    plan: Plan,
     from: Visit,
     column: usize,
     row: usize,
     numbers: &mut [u32],
 ) -> Visit
-    requires { ⌜ (Planned (now file) z) × (z .kind ≡ 2) ⌝ }
-    requires { ⌜ (Within z from) × (Adjacent z (from .column) (from .row) column row) ⌝ }
-    requires { ⌜ roomOf Way.Columns (settingsIn z) .numbers ≤ length (now numbers) ⌝ }
-    requires { ⌜ AtWindow Way.Columns (now file) (stores [] [] (now numbers)) zeros from ⌝ }
+    requires { ⌜ (Planned (now file) plan) × (plan .kind ≡ 2) ⌝ }
+    requires { ⌜ (Within plan from) × (Adjacent plan (from .column) (from .row) column row) ⌝ }
+    requires { ⌜ roomOf Way.Columns (settingsIn plan) .numbers ≤ length (now numbers) ⌝ }
+    requires { ⌜ AtWindow Way.Columns (now file) (stores [] [] (now numbers)) [] zeros from ⌝ }
     ensures { λ r. ⌜ Visited Way.Columns (now (file .entry)) (arrive (frameOf (now (file .entry))) column row (from .cut .0) (from .shifts))
-        (stores [] [] (now (numbers .entry))) (stores [] [] (now (numbers .exit))) zeros r ⌝ }
+        (stores [] [] (now (numbers .entry))) (stores [] [] (now (numbers .exit))) [] zeros r ⌝ }
 {
     let known = to_columns(from);
-    let v = columns::visit::slide(file, z, known, from.column, from.row, column, row, numbers);
+    let v = columns::visit::slide(
+        file,
+        plan,
+        known,
+        from.column,
+        from.row,
+        column,
+        row,
+        numbers,
+    );
     of_columns(v, column, row)
 }
 
 // The chain at the start window.
-pub fn chain_enter(file: &[u8], z: Plan, column: usize, row: usize, numbers: &mut [u32]) -> Visit
-    requires { ⌜ (Planned (now file) z) × (z .kind ≡ 2) ⌝ }
-    requires { ⌜ (column < z .width) × (row < z .height) ⌝ }
-    requires { ⌜ roomOf Way.Chain (settingsIn z) .numbers ≤ length (now numbers) ⌝ }
+pub fn chain_enter(file: &[u8], plan: Plan, column: usize, row: usize, numbers: &mut [u32]) -> Visit
+    requires { ⌜ (Planned (now file) plan) × (plan .kind ≡ 2) ⌝ }
+    requires { ⌜ (column < plan .width) × (row < plan .height) ⌝ }
+    requires { ⌜ roomOf Way.Chain (settingsIn plan) .numbers ≤ length (now numbers) ⌝ }
     ensures { λ r. ⌜ Visited Way.Chain (now (file .entry)) (arrive (frameOf (now (file .entry))) column row 0 0) (stores [] [] (now
-        (numbers .entry))) (stores [] [] (now (numbers .exit))) zeros r ⌝ }
+        (numbers .entry))) (stores [] [] (now (numbers .exit))) [] zeros r ⌝ }
 {
-    let v = chain_search::visit::enter(file, z, column, row, Level(0), 0, numbers);
+    let v = chain_search::visit::enter(file, plan, column, row, Level(0), 0, numbers);
     of_chain(v, column, row)
 }
 
 // The chain at a neighbouring window.
 pub fn chain_slide(
     file: &[u8],
-    z: Plan,
+    plan: Plan,
     from: Visit,
     column: usize,
     row: usize,
     numbers: &mut [u32],
 ) -> Visit
-    requires { ⌜ (Planned (now file) z) × (z .kind ≡ 2) ⌝ }
-    requires { ⌜ (Within z from) × (Adjacent z (from .column) (from .row) column row) ⌝ }
-    requires { ⌜ AtWindow Way.Chain (now file) (stores [] [] (now numbers)) zeros from ⌝ }
+    requires { ⌜ (Planned (now file) plan) × (plan .kind ≡ 2) ⌝ }
+    requires { ⌜ (Within plan from) × (Adjacent plan (from .column) (from .row) column row) ⌝ }
+    requires { ⌜ AtWindow Way.Chain (now file) (stores [] [] (now numbers)) [] zeros from ⌝ }
     ensures { λ r. ⌜ Visited Way.Chain (now (file .entry)) (arrive (frameOf (now (file .entry))) column row (from .cut .0) (from .shifts))
-        (stores [] [] (now (numbers .entry))) (stores [] [] (now (numbers .exit))) zeros r ⌝ }
+        (stores [] [] (now (numbers .entry))) (stores [] [] (now (numbers .exit))) [] zeros r ⌝ }
 {
     let known = to_chain(from);
-    let v = chain_search::visit::slide(file, z, known, from.column, from.row, column, row, numbers);
+    let v = chain_search::visit::slide(
+        file,
+        plan,
+        known,
+        from.column,
+        from.row,
+        column,
+        row,
+        numbers,
+    );
     of_chain(v, column, row)
 }

@@ -17,7 +17,7 @@ use Rattle.ice.proofs.calls.filter.Reads as reads
 use Rattle.ice.proofs.calls.filter.Lts as lts
 use Rattle.frame.proofs.check.stops.Reads as stops-reads
 use Rattle.frame.proofs.plan.open_plan.Reads as open-plan-reads
-use Rattle.ice.proofs.calls.filter_on.Reads as filter-on-reads
+use Rattle.ice_walk.proofs.filter.sweep.Reads as sweep-reads
 use Rattle.ice.proofs.calls.refused.Reads as refused-reads
 use Rattle.checks.proofs.filter_verdict.Reads as filter-verdict-reads
 use Rattle.checks.proofs.way_of.Reads as way-of-reads
@@ -65,17 +65,17 @@ way-of-requires : tie.Need-way-of-requires
 way-of-requires c κs = search needs
 
 -- where all checks have passed: the plan is the file's, and the outcome is accepted
-plan-at : (c : tie.After-filter-on-arg4) → Planned (c .before .before .before .before .before .before .before .before .before .before .before .before .before .before .before .before .before .args .file .now) (c .before .before .before .before .before .before .before .before .before .before .before .open-plan .result .plan)
+plan-at : (c : tie.After-sweep-arg4) → Planned (c .before .before .before .before .before .before .before .before .before .before .before .before .before .before .before .before .before .args .file .now) (c .before .before .before .before .before .before .before .before .before .before .before .open-plan .result .plan)
 plan-at c = planned-of (c .before .before .before .before .before .before .before .before .before .before .before .open-plan .result) (c .before .before .before .before .before .before .before .before .before .before .before .open-plan .ensures) (known (c .before .before .before .before .before .before .before .before .before .before .stops .ensures) (c .before .before .before .before .before .before .before .before .before .if1 .left))
 
-outcome-at : (c : tie.After-filter-on-arg4) → let at = c .before .before .before .before .before .before .before .before .before .before .before .before .before .before .before .before .before in filterOutcome (at .args .file .now) (at .args .way) (lent (held at)) (length (at .args .output .now)) ≡ accepted
+outcome-at : (c : tie.After-sweep-arg4) → let at = c .before .before .before .before .before .before .before .before .before .before .before .before .before .before .before .before .before in filterOutcome (at .args .file .now) (at .args .way) (lent (held at)) (length (at .args .output .now)) ≡ accepted
 unfolding filterOutcome
 outcome-at c =
     sym (own-decides (plan-at c) (own (c .before .before .before .before .before .before .before .before .before .before .before .before .before .before .before .before .before))) ∙ sym (c .before .before .before .before .before .before .before .filter-verdict .ensures)
     ∙ quiet (numbered (c .before .before .before .before .before .before .before .filter-verdict .result)) (known (c .before .before .before .before .before .before .stops2 .ensures) (c .before .before .before .before .before .if2 .left))
 
-filter-on-requires : tie.Need-filter-on-requires
-filter-on-requires c κs =
+sweep-requires : tie.Need-sweep-requires
+sweep-requires c κs =
     let at = c .before .before .before .before .before .before .before .before .before .before .before .before .before .before .before .before .before in
     let k = plan-at c in
     let g = filter-granted k _ _ (c .before .before .before .before .way-of .ensures) (held at) _ (outcome-at c) in
@@ -97,8 +97,8 @@ returns-3 : tie.Need-returns-3
 returns-3 c =
     let d = c .before .before .before .before .before .before .before .before .before in
     let at = c .before .before .before .before .before .before .before .before .before .before .before .before .before .before .before .before .before .before .before .before .before .before .before .before .before .before in
-    let h = c .before .before .before .before .before .before .before .before .filter-on .ensures in
-    filters-done _ _ _ (d .before .before .before .before .way-of .ensures) (held at) _ (at .args .output .now) _ _ (outcome-at d) (h .0) (h .1 .0) (h .1 .1)
+    let h = c .before .before .before .before .before .before .before .before .sweep .ensures in
+    filters-done _ _ _ (d .before .before .before .before .way-of .ensures) (held at) _ (at .args .output .now) _ _ (outcome-at d) (h .0) (h .1)
 
 pub filter-spec : {M : Type 1} → statement M
 filter-spec =
@@ -113,7 +113,7 @@ filter-spec =
     refused-requires-2
     returns-2
     way-of-requires
-    filter-on-requires
+    sweep-requires
     same-length
     same-length-2
     same-length-3

@@ -18,7 +18,7 @@ use Rattle.ice.proofs.calls.walk.Lts as lts
 use Rattle.frame.proofs.check.stops.Reads as stops-reads
 use Rattle.frame.proofs.plan.open_plan.Reads as open-plan-reads
 use Rattle.ice.proofs.calls.refused.Reads as refused-reads
-use Rattle.ice.proofs.calls.walk_on.Reads as walk-on-reads
+use Rattle.ice_walk.proofs.walk.travel.Reads as travel-reads
 use Rattle.checks.proofs.walk_verdict.Reads as walk-verdict-reads
 use Rattle.checks.proofs.way_of.Reads as way-of-reads
 
@@ -65,17 +65,17 @@ way-of-requires : tie.Need-way-of-requires
 way-of-requires c κs = search needs
 
 -- where all checks have passed: the plan is the file's, and the outcome is accepted
-plan-at : (c : tie.After-walk-on-arg4) → Planned (c .before .before .before .before .before .before .before .before .before .before .before .before .before .before .before .before .before .before .args .file .now) (c .before .before .before .before .before .before .before .before .before .before .before .open-plan .result .plan)
+plan-at : (c : tie.After-travel-arg4) → Planned (c .before .before .before .before .before .before .before .before .before .before .before .before .before .before .before .before .before .before .args .file .now) (c .before .before .before .before .before .before .before .before .before .before .before .open-plan .result .plan)
 plan-at c = planned-of (c .before .before .before .before .before .before .before .before .before .before .before .open-plan .result) (c .before .before .before .before .before .before .before .before .before .before .before .open-plan .ensures) (known (c .before .before .before .before .before .before .before .before .before .before .stops .ensures) (c .before .before .before .before .before .before .before .before .before .if1 .left))
 
-outcome-at : (c : tie.After-walk-on-arg4) → let at = c .before .before .before .before .before .before .before .before .before .before .before .before .before .before .before .before .before .before in walkOutcome (at .args .file .now) (at .args .way) (at .args .column) (at .args .row) (length (at .args .moves .now)) (lent (held at)) (length (at .args .answers .now)) ≡ accepted
+outcome-at : (c : tie.After-travel-arg4) → let at = c .before .before .before .before .before .before .before .before .before .before .before .before .before .before .before .before .before .before in walkOutcome (at .args .file .now) (at .args .way) (at .args .column) (at .args .row) (length (at .args .moves .now)) (lent (held at)) (length (at .args .answers .now)) ≡ accepted
 unfolding walkOutcome
 outcome-at c =
     sym (own-decides (plan-at c) (own (c .before .before .before .before .before .before .before .before .before .before .before .before .before .before .before .before .before .before))) ∙ sym (c .before .before .before .before .before .before .before .walk-verdict .ensures)
     ∙ quiet (numbered (c .before .before .before .before .before .before .before .walk-verdict .result)) (known (c .before .before .before .before .before .before .stops2 .ensures) (c .before .before .before .before .before .if2 .left))
 
-walk-on-requires : tie.Need-walk-on-requires
-walk-on-requires c κs =
+travel-requires : tie.Need-travel-requires
+travel-requires c κs =
     let at = c .before .before .before .before .before .before .before .before .before .before .before .before .before .before .before .before .before .before in
     let k = plan-at c in
     let g = granted k _ _ (c .before .before .before .before .way-of .ensures) _ _ _ (held at) _ (outcome-at c) in
@@ -97,8 +97,8 @@ returns-3 : tie.Need-returns-3
 returns-3 c =
     let d = c .before .before .before .before .before .before .before .before .before in
     let at = c .before .before .before .before .before .before .before .before .before .before .before .before .before .before .before .before .before .before .before .before .before .before .before .before .before .before .before in
-    let h = c .before .before .before .before .before .before .before .before .walk-on .ensures in
-    walks-done _ _ _ (d .before .before .before .before .way-of .ensures) (held at) _ (at .args .answers .now) _ _ _ _ (at .args .moves .now) (outcome-at d) (h .0) (h .1 .0) (h .1 .1)
+    let h = c .before .before .before .before .before .before .before .before .travel .ensures in
+    walks-done _ _ _ (d .before .before .before .before .way-of .ensures) (held at) _ (at .args .answers .now) _ _ _ _ (at .args .moves .now) (outcome-at d) (h .0) (h .1)
 
 pub walk-spec : {M : Type 1} → statement M
 walk-spec =
@@ -113,7 +113,7 @@ walk-spec =
     refused-requires-2
     returns-2
     way-of-requires
-    walk-on-requires
+    travel-requires
     same-length
     same-length-2
     same-length-3

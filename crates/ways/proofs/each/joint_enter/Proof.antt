@@ -10,7 +10,7 @@ use Rattle.ways.proofs.each.of_joint.Reads as of-joint-reads
 
 -- src/each.rt:144:9
 enter-requires : tie.Need-enter-requires
-enter-requires c κs = let at = c .before .before .before .before .before .before .before .before .before in ((joint-fresh (at .pre .0 .0) _ _ _ _ (at .pre .1 .0) (at .pre .1 .1 .0 .0) (at .pre .1 .1 .0 .1), at .pre .1 .1 .1), (at .pre .0 .1, levels-some (at .pre .0 .0), omega arith))
+enter-requires c κs = let at = c .before .before .before .before .before .before .before .before in ((joint-fresh (at .pre .0 .0) _ _ _ _ (at .pre .1 .0) (at .pre .1 .1 .0 .0) (at .pre .1 .1 .0 .1), at .pre .1 .1 .1), (at .pre .0 .1, levels-some (at .pre .0 .0), omega arith))
 
 -- src/each.rt:156:5
 of-joint-requires : tie.Need-of-joint-requires
@@ -24,15 +24,12 @@ same-length c = search needs
 same-length-2 : tie.Need-same-length-2
 same-length-2 c = search needs
 
-same-length-3 : tie.Need-same-length-3
-same-length-3 c = search needs
-
 returns : tie.Need-returns
 returns c =
-    let r = c .before .before .before .before .before .before .before in
-    let at = r .before .before .before .before .before .before .before .before .before .before in
-    joint-entered (at .pre .0 .0) _ _ _ _ _ _ _ _ _ _ _ (c .of-joint .ensures) (at .pre .1 .1 .0) (same-length-3 c) (r .enter .ensures)
+    let r = c .before .before .before .before .before in
+    let at = r .before .before .before .before .before .before .before .before .before in
+    joint-entered (at .pre .0 .0) _ _ _ _ _ _ _ _ _ _ (c .of-joint .ensures) (at .pre .1 .1 .0) (r .enter .ensures)
 
 pub joint-enter-spec : {M : Type 1} → statement M
 joint-enter-spec =
-    tie.close (tie.spec enter-requires of-joint-requires same-length same-length-2 same-length-3 returns)
+    tie.close (tie.spec enter-requires of-joint-requires same-length same-length-2 returns)

@@ -15,7 +15,7 @@ to-joint-requires c κs = search needs
 -- src/each.rt:178:9
 slide-requires : tie.Need-slide-requires
 slide-requires c κs =
-    let at = c .before .before .before .before .before .before .before .before .before .before in
+    let at = c .before .before .before .before .before .before .before .before .before in
     let e = c .before .before .before .before .to-joint .ensures in
     let h = joint-ready (at .pre .0 .0) (at .args .from) _ e _ _ _ _ (at .pre .1 .0 .0) (at .pre .1 .1 .1) in
     let n = joint-small (at .pre .0 .0) (at .args .from) _ e (at .pre .1 .0 .0) in
@@ -33,17 +33,14 @@ same-length c = search needs
 same-length-2 : tie.Need-same-length-2
 same-length-2 c = search needs
 
-same-length-3 : tie.Need-same-length-3
-same-length-3 c = search needs
-
 returns : tie.Need-returns
 returns c =
-    let r = c .before .before .before .before .before .before .before in
+    let r = c .before .before .before .before .before in
     let k = r .before .before .before .before .before in
-    let at = k .before .before .before .before .before .before in
-    joint-slid (at .pre .0 .0) (at .args .from) _ (k .to-joint .ensures) _ _ _ _ _ _ _ _ _ _ _ (c .of-joint .ensures) (at .pre .1 .1 .0) (same-length-3 c) (r .slide .ensures)
+    let at = k .before .before .before .before .before in
+    joint-slid (at .pre .0 .0) (at .args .from) _ (k .to-joint .ensures) _ _ _ _ _ _ _ _ _ _ (c .of-joint .ensures) (at .pre .1 .1 .0) (r .slide .ensures)
 
 pub joint-slide-spec : {M : Type 1} → statement M
 joint-slide-spec =
     tie.close
-    (tie.spec to-joint-requires slide-requires of-joint-requires same-length same-length-2 same-length-3 returns)
+    (tie.spec to-joint-requires slide-requires of-joint-requires same-length same-length-2 returns)
