@@ -1,2 +1,2 @@
-pub mod EachLaws
 pub mod WayLaws
+pub mod EachLaws

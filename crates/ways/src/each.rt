@@ -1,12 +1,12 @@
-// Each way's start and move, as what every visit leaves: its own stores in its own crate's words become the common record.
-use crate::Carry;
-use crate::Visit;
+// The joint way's start and move, as what every visit leaves: its own record becomes the common one.
 use chain::FreeList;
 use levels::tally::Tally;
 use spec::Answer;
 use spec::Level;
 use spec::Plan;
 use spec::Way;
+use visit::Running;
+use visit::Visit;
 ghost use mathlib.Core.Path.{_≡_};
 ghost use mathlib.Core.List.{[]};
 ghost use Prim.Native.Nat.{ℕ, _<_, _≤_};
@@ -14,12 +14,13 @@ ghost use lib.ListN.{length};
 ghost use Rattle.spec.specs.Frame.{frameOf, settingsIn};
 ghost use Rattle.spec.specs.Checks.{Planned};
 ghost use Rattle.spec.specs.Walk.{arrive};
-ghost use Rattle.spec.specs.Calls.{roomOf, zeros};
+ghost use Rattle.spec.specs.Calls.{roomOf};
 ghost use Rattle.window.specs.Line.{Adjacent};
-ghost use Rattle.ways.specs.Visit.{stores, Within, AtWindow, Visited};
+ghost use Rattle.visit.specs.Visit.{Within};
+ghost use Rattle.ways.specs.Visit.{stores, AtWindow, Visited};
 ghost use Rattle.histogram.specs.Histogram.{Blank};
 ghost use Rattle.joint_rows.specs.Rows.{WeightRows};
-ghost use Rattle.ways.specs.Each.{ofJoint, toJoint, ofColumns, toColumns, ofChain, toChain};
+ghost use Rattle.ways.specs.Each.{ofJoint, toJoint};
 
 fn of_joint(v: joint_visit::visit::Visit, column: usize, row: usize) -> Visit
     ensures { λ r. ⌜ r ≡ ofJoint v column row ⌝ }
@@ -27,7 +28,7 @@ fn of_joint(v: joint_visit::visit::Visit, column: usize, row: usize) -> Visit
     let sums = v.sums;
     let below = v.below;
     let free = FreeList { head: 0, count: 0 };
-    let carry = Carry { sums, below, free };
+    let running = Running { sums, below, free };
     let cut = v.cut;
     let level = v.answer;
     let answer = Answer::Level(level);
@@ -37,7 +38,7 @@ fn of_joint(v: joint_visit::visit::Visit, column: usize, row: usize) -> Visit
         cut,
         shifts: v.shifts,
         answer,
-        carry,
+        running,
     }
 }
 
@@ -45,85 +46,13 @@ fn of_joint(v: joint_visit::visit::Visit, column: usize, row: usize) -> Visit
 fn to_joint(v: Visit) -> joint_visit::visit::Visit
     ensures { λ r. ⌜ r ≡ toJoint v ⌝ }
 {
-    let carry = v.carry;
-    let sums = carry.sums;
-    let below = carry.below;
+    let running = v.running;
+    let sums = running.sums;
+    let below = running.below;
     let cut = v.cut;
     joint_visit::visit::Visit {
         sums,
         below,
-        cut,
-        shifts: v.shifts,
-        answer: cut,
-    }
-}
-
-fn of_columns(v: columns::visit::Visit, column: usize, row: usize) -> Visit
-    ensures { λ r. ⌜ r ≡ ofColumns v column row ⌝ }
-{
-    let sums = v.sums;
-    let below = v.below;
-    let free = FreeList { head: 0, count: 0 };
-    let carry = Carry { sums, below, free };
-    let cut = v.cut;
-    let level = v.answer;
-    let answer = Answer::Level(level);
-    Visit {
-        column,
-        row,
-        cut,
-        shifts: v.shifts,
-        answer,
-        carry,
-    }
-}
-
-fn to_columns(v: Visit) -> columns::visit::Visit
-    ensures { λ r. ⌜ r ≡ toColumns v ⌝ }
-{
-    let carry = v.carry;
-    let sums = carry.sums;
-    let below = carry.below;
-    let cut = v.cut;
-    columns::visit::Visit {
-        sums,
-        below,
-        cut,
-        shifts: v.shifts,
-        answer: cut,
-    }
-}
-
-fn of_chain(v: chain_search::visit::Visit, column: usize, row: usize) -> Visit
-    ensures { λ r. ⌜ r ≡ ofChain v column row ⌝ }
-{
-    let sums = v.sums;
-    let below = Tally { count: 0, sum: 0 };
-    let free = v.free;
-    let carry = Carry { sums, below, free };
-    let cut = v.cut;
-    let level = v.answer;
-    let answer = Answer::Level(level);
-    Visit {
-        column,
-        row,
-        cut,
-        shifts: v.shifts,
-        answer,
-        carry,
-    }
-}
-
-fn to_chain(v: Visit) -> chain_search::visit::Visit
-    ensures { λ r. ⌜ r ≡ toChain v ⌝ }
-{
-    let carry = v.carry;
-    let sums = carry.sums;
-    let free = carry.free;
-    let cut = v.cut;
-    chain_search::visit::Visit {
-        sums,
-        free,
         cut,
         shifts: v.shifts,
         answer: cut,
@@ -205,93 +134,4 @@ pub fn joint_slide(
         histogram,
     );
     of_joint(v, column, row)
-}
-
-// Columns at the start window.
-pub fn columns_enter(
-    file: &[u8],
-    plan: Plan,
-    column: usize,
-    row: usize,
-    numbers: &mut [u32],
-) -> Visit
-    requires { ⌜ (Planned (now file) plan) × (plan .kind ≡ 2) ⌝ }
-    requires { ⌜ (column < plan .width) × (row < plan .height) ⌝ }
-    requires { ⌜ roomOf Way.Columns (settingsIn plan) .numbers ≤ length (now numbers) ⌝ }
-    ensures { λ r. ⌜ Visited Way.Columns (now (file .entry)) (arrive (frameOf (now (file .entry))) column row 0 0) (stores [] [] (now
-        (numbers .entry))) (stores [] [] (now (numbers .exit))) [] zeros r ⌝ }
-{
-    let v = columns::visit::enter(file, plan, column, row, Level(0), 0, numbers);
-    of_columns(v, column, row)
-}
-
-// Columns at a neighbouring window.
-pub fn columns_slide(
-    file: &[u8],
-    plan: Plan,
-    from: Visit,
-    column: usize,
-    row: usize,
-    numbers: &mut [u32],
-) -> Visit
-    requires { ⌜ (Planned (now file) plan) × (plan .kind ≡ 2) ⌝ }
-    requires { ⌜ (Within plan from) × (Adjacent plan (from .column) (from .row) column row) ⌝ }
-    requires { ⌜ roomOf Way.Columns (settingsIn plan) .numbers ≤ length (now numbers) ⌝ }
-    requires { ⌜ AtWindow Way.Columns (now file) (stores [] [] (now numbers)) [] zeros from ⌝ }
-    ensures { λ r. ⌜ Visited Way.Columns (now (file .entry)) (arrive (frameOf (now (file .entry))) column row (from .cut .0) (from .shifts))
-        (stores [] [] (now (numbers .entry))) (stores [] [] (now (numbers .exit))) [] zeros r ⌝ }
-{
-    let known = to_columns(from);
-    let v = columns::visit::slide(
-        file,
-        plan,
-        known,
-        from.column,
-        from.row,
-        column,
-        row,
-        numbers,
-    );
-    of_columns(v, column, row)
-}
-
-// The chain at the start window.
-pub fn chain_enter(file: &[u8], plan: Plan, column: usize, row: usize, numbers: &mut [u32]) -> Visit
-    requires { ⌜ (Planned (now file) plan) × (plan .kind ≡ 2) ⌝ }
-    requires { ⌜ (column < plan .width) × (row < plan .height) ⌝ }
-    requires { ⌜ roomOf Way.Chain (settingsIn plan) .numbers ≤ length (now numbers) ⌝ }
-    ensures { λ r. ⌜ Visited Way.Chain (now (file .entry)) (arrive (frameOf (now (file .entry))) column row 0 0) (stores [] [] (now
-        (numbers .entry))) (stores [] [] (now (numbers .exit))) [] zeros r ⌝ }
-{
-    let v = chain_search::visit::enter(file, plan, column, row, Level(0), 0, numbers);
-    of_chain(v, column, row)
-}
-
-// The chain at a neighbouring window.
-pub fn chain_slide(
-    file: &[u8],
-    plan: Plan,
-    from: Visit,
-    column: usize,
-    row: usize,
-    numbers: &mut [u32],
-) -> Visit
-    requires { ⌜ (Planned (now file) plan) × (plan .kind ≡ 2) ⌝ }
-    requires { ⌜ (Within plan from) × (Adjacent plan (from .column) (from .row) column row) ⌝ }
-    requires { ⌜ AtWindow Way.Chain (now file) (stores [] [] (now numbers)) [] zeros from ⌝ }
-    ensures { λ r. ⌜ Visited Way.Chain (now (file .entry)) (arrive (frameOf (now (file .entry))) column row (from .cut .0) (from .shifts))
-        (stores [] [] (now (numbers .entry))) (stores [] [] (now (numbers .exit))) [] zeros r ⌝ }
-{
-    let known = to_chain(from);
-    let v = chain_search::visit::slide(
-        file,
-        plan,
-        known,
-        from.column,
-        from.row,
-        column,
-        row,
-        numbers,
-    );
-    of_chain(v, column, row)
 }

@@ -23,10 +23,14 @@ add-update-block : tie.Need-add-update-block
 add-update-block c = omega (arith, c .before .before .before .before .before .before .pre .0 .0)
 
 add-update-block-2 : tie.Need-add-update-block-2
-add-update-block-2 c = let st = c .before .before .before .before .before .before .before in omega (arith, st .pre .0 .0, st .pre .0 .3 .entering-small)
+add-update-block-2 c =
+    let st = c .before .before .before .before .before .before .before in
+    omega (arith, st .pre .0 .0, st .pre .0 .3 .entering-small, st .pre .0 .3 .leaving-small)
 
 add-update-block-3 : tie.Need-add-update-block-3
-add-update-block-3 c = let st = c .before .before .before .before .before .before .before .before in omega (arith, st .pre .0 .0, st .pre .0 .3 .leaving-small)
+add-update-block-3 c =
+    let st = c .before .before .before .before .before .before .before .before in
+    omega (arith, st .pre .0 .0, st .pre .0 .3 .entering-small, st .pre .0 .3 .leaving-small)
 
 update-block-requires-2 : tie.Need-update-block-requires-2
 update-block-requires-2 c κs =
@@ -37,8 +41,8 @@ update-block-requires-2 c κs =
       (
         st .pre .0 .1,
         omega (arith, st .pre .0 .0),
-        omega (arith, st .pre .0 .0, i .entering-small),
-        omega (arith, st .pre .0 .0, i .leaving-small),
+        omega (arith, st .pre .0 .0, i .entering-small, i .leaving-small),
+        omega (arith, st .pre .0 .0, i .entering-small, i .leaving-small),
         rw (e .len) (blocks-in (st .args .w) (st .args .l) _ (st .pre .0 .2) .1),
       ),
       (

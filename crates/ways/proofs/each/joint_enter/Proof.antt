@@ -1,5 +1,6 @@
 use native.Mathlib.Omega.{arith}
-use Rattle.ways.proofs.EachLaws.{levels-some, joint-fresh, joint-entered}
+use Rattle.ways.proofs.EachLaws.{joint-fresh, joint-entered}
+use Rattle.visit.proofs.StartLaws.{levels-some}
 use borrow.Author.Needs.{needs}
 use Rattle.ways.proofs.each.joint_enter.Statement.{statement}
 use Rattle.ways.proofs.each.joint_enter.Tie as tie
