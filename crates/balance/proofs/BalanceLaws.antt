@@ -4,41 +4,35 @@ use mathlib.Core.Path.{_≡_, refl, sym, ap, ap₂, _∙_, subst}
 use mathlib.Core.Logic.{⊎-elim}
 use mathlib.Core.List.{List}
 use Prim.Native.Nat.{ℕ, _+_, _-_, _*_, _^_, _≤_, _<_}
-use native.Mathlib.Nat.{le-trans, le-of-eq, zero-add}
+use native.Mathlib.Nat.{le-trans, zero-add}
 use native.Mathlib.Omega.{arith}
-use lib.ListN.{length, getD, set, replicate, length-replicate, length-set}
+use lib.ListN.{getD, set, replicate, length-replicate, length-set}
 use lib.Seq.{getD-set-same, getD-set-other}
 use lib.IntN.{ℤ, pos, natAbs, _+ℤ_, _-ℤ_, _*ℤ_, +ℤ-idr}
 use lib.Signed.{mag}
 use mir.Syntax.{w64}
 use mir.Val.{hbits, toZ, ofZ}
 use mir.Facts.{toZ-ofZ, toZ-pos}
-use Rattle.ints.specs.Bound.{abs-mul-le}
+use Rattle.ints.specs.Bound.{abs-add, abs-mul-le}
+use Rattle.ints.specs.Order.{lt-or-le, eq-or-ne}
 use Rattle.ints.specs.Machine.{read-bounded}
 use Rattle.ints.specs.Polynomial.{_⊕_, _⊖_, _⊗_, opposite, #_, _≐_, solve2}
 use Rattle.ints.specs.Ring.{mul-one, one-mul}
 use Rattle.spec.specs.declared.Plan.{Plan}
-use Rattle.spec.specs.Base.{sumℤ}
 use Rattle.spec.specs.Frame.{Frame, guide, table, frameOf}
 use Rattle.spec.specs.Checks.{Planned}
 use Rattle.spec.specs.Window.{span}
-use Rattle.spec.specs.Weight.{weight}
 use Rattle.spec.specs.Median.{balance}
 use Rattle.spec.proofs.Limits.{Pixel}
 use Rattle.spec.proofs.Plans.{facts, pixel-of}
 use Rattle.spec.proofs.Ranges.{intSums, fold-same}
-use Rattle.spec.proofs.Sums.{sum-abs, sum-const}
 use Rattle.spec.proofs.Levels.{balance-signed, weight-table}
 use Rattle.spec.proofs.Bounds.{weight-abs}
 use Rattle.window.specs.declared.line.Line.{Line}
-use Rattle.window.specs.Line.{PlanLimits, columnLine, InPlanes, lineFoldTo, lineFold}
-use Rattle.window.proofs.PixelLaws.{plan-limits, guide-low}
-use Rattle.window.proofs.LineLaws.{fold-more, columns-law, column-in}
-use Rattle.window.proofs.SumLaws.{in-span, few-columns}
-use Rattle.pixels.specs.Pixels.{countOf, levelIn, guideIn, pixelFoldTo, pixelFold, LinePixels}
-use Rattle.pixels.proofs.AdditiveLaws.{pixels-more}
+use Rattle.window.specs.Line.{columnLine}
+use Rattle.pixels.specs.Pixels.{countOf, levelIn, guideIn, pixelFoldTo, pixelFold, columnsFold, LinePixels}
+use Rattle.pixels.proofs.AdditiveLaws.{pixels-more, high-abs, columns-more, columns-window}
 use Rattle.joint.specs.Side.{side}
-use Rattle.joint.proofs.BitLaws.{lt-or-le, eq-or-ne}
 use Rattle.joint.proofs.SideLaws.{side-low, side-high}
 use Rattle.joint_search.specs.declared.formula.Formula.{Formula}
 use Rattle.joint_search.specs.Formula.{weightBy}
@@ -54,10 +48,6 @@ signed-up c i x y h = rw (side-low c i h) (solve2 (λ x y. x ⊕ y ≐ x ⊕ # 1
 pub signed-down : (c i : ℕ) (x y : ℤ) → c < i → x -ℤ y ≡ x +ℤ side c i *ℤ y
 signed-down c i x y h = rw (side-high c i h) (solve2 (λ x y. x ⊖ y ≐ x ⊕ opposite (# 1) ⊗ y) refl x y)
 
--- n numbers, each small
-sumℤ-abs : (f : ℕ → ℤ) (top a n : ℕ) → ((k : ℕ) → a ≤ k → k < a + n → natAbs (f k) ≤ top) → natAbs (sumℤ f a n) ≤ n * top
-sumℤ-abs f top a n h = le-trans (sum-abs f (λ k. top) a n h) (le-of-eq (sum-const top a n))
-
 -- ---- along a list
 module _ {p row : List ℕ} {w : Formula} (v : PixelsWeighed p row w) (c : ℕ) where
   abbrev added : ℕ → ℤ
@@ -68,8 +58,10 @@ module _ {p row : List ℕ} {w : Formula} (v : PixelsWeighed p row w) (c : ℕ) 
   by-abs k h = le-trans (abs-mul-le (side c (levelIn p k)) (weightBy row w (guideIn p k)) (side-abs c (levelIn p k)) (v .low k h)) (omega arith)
 
   list-abs : (k : ℕ) → k ≤ countOf p → natAbs (added k) ≤ k * 180155859075
-  unfolding pixelFoldTo
-  list-abs k h = sumℤ-abs (λ j. signedBy row w c (levelIn p j) (guideIn p j)) 180155859075 0 k (λ j x y. by-abs j (omega arith))
+  list-abs k h = high-abs p (signedBy row w c) 180155859075 k (λ j l. by-abs j (omega arith))
+
+  pub list-small : natAbs (added (countOf p)) ≤ 5584831631325
+  list-small = omega (arith, list-abs (countOf p) (omega arith), v .few)
 
   -- the pixel's weight, and the sum with it
   slope-back : toZ w64 (ofZ w64 (w .slope)) ≡ w .slope
@@ -109,12 +101,6 @@ module _ {b : List ℕ} {z : Plan} {s t : ℕ} {row : List ℕ} {w : Formula} (w
   pixel : Pixel (frameOf b) s t
   pixel = pixel-of (wd .planned) (wd .column) (wd .row)
 
-  signed-abs : (c i g : ℕ) → g < z .guides → natAbs (signedWeight (frameOf b) s t c i g) ≤ 180155859075
-  unfolding signedWeight
-  signed-abs c i g h =
-      let l : g < frameOf b .set .guides = rw (facts (wd .planned) .guides) at h in
-      le-trans (abs-mul-le (side c i) (weight (frameOf b) s t g) (side-abs c i) (weight-abs pixel g l)) (omega arith)
-
   -- ---- a line's list is weighed by the row, and adds what the line adds
   module _ {d : Line} {p : List ℕ} (v : LinePixels b z d p) where
     row-in : (k : ℕ) → k < countOf p → guideIn p k < frameOf b .set .guides
@@ -128,73 +114,42 @@ module _ {b : List ℕ} {z : Plan} {s t : ℕ} {row : List ℕ} {w : Formula} (w
       low = λ k h. subst (λ (q : ℤ). natAbs q ≤ 180155859075) (wd .weighs .is (guideIn p k) (row-in k h)) (weight-abs pixel (guideIn p k) (row-in k h));
     }
 
-    pub list-adds : (c : ℕ) → pixelFold _+ℤ_ (pos 0) p (signedBy row w c) ≡ lineFold _+ℤ_ (pos 0) b d (signedWeight (frameOf b) s t c)
+    list-adds : (c : ℕ) → pixelFold _+ℤ_ (pos 0) p (signedBy row w c) ≡ pixelFold _+ℤ_ (pos 0) p (signedWeight (frameOf b) s t c)
     unfolding pixelFoldTo signedBy signedWeight
     list-adds c =
         fold-same _+ℤ_ (pos 0) intSums _ _ 0 _ (λ k x y. ap (λ (q : ℤ). side c (levelIn p k) *ℤ q) (sym (wd .weighs .is (guideIn p k) (row-in k (omega arith)))))
-        ∙ v .sumℤ (signedWeight (frameOf b) s t c)
 
-  -- ---- by columns
-  abbrev pub columns : ℕ → ℕ → ℤ
-  columns c k = sumℤ (λ a. lineFold _+ℤ_ (pos 0) b (columnLine z a t) (signedWeight (frameOf b) s t c)) (s - z .radius) k
+    -- ---- one column more, whose list adds y
+    module _ (c : ℕ) {y : ℤ} (ey : y ≡ pixelFold _+ℤ_ (pos 0) p (signedBy row w c)) where
+      small : natAbs (pixelFold _+ℤ_ (pos 0) p (signedBy row w c)) ≤ 5584831631325
+      small = list-small pixels-weighed c
 
-  line-column : (c a : ℕ) → a < z .width → natAbs (lineFold _+ℤ_ (pos 0) b (columnLine z a t) (signedWeight (frameOf b) s t c)) ≤ 5584831631325
-  unfolding lineFoldTo
-  line-column c a h =
-      let ln = column-in (plan-limits (wd .planned)) a t h in
-      le-trans (sumℤ-abs _ 180155859075 0 (columnLine z a t .count) (λ k x y. signed-abs c _ _ (guide-low (wd .planned) (ln .inside k (omega arith))))) (omega (arith, ln .few))
+      handed-on : toZ w64 (ofZ w64 y) ≡ pixelFold _+ℤ_ (pos 0) p (signedBy row w c)
+      handed-on = ap (λ (q : ℤ). toZ w64 (ofZ w64 q)) ey ∙ read-bounded w64 {z = pixelFold _+ℤ_ (pos 0) p (signedBy row w c)} 5584831631325 small tt
 
-  columns-abs : (c k : ℕ) → k ≤ span (z .radius) s (z .width) → natAbs (columns c k) ≤ k * 5584831631325
-  columns-abs c k h =
-      sumℤ-abs (λ a. lineFold _+ℤ_ (pos 0) b (columnLine z a t) (signedWeight (frameOf b) s t c)) 5584831631325 (s - z .radius) k
-      (λ a x y. line-column c a (omega (arith, in-span z s (a - (s - z .radius)) (omega arith))))
+      module _ (k : ℕ) (a : ℤ) (low : natAbs a ≤ k * 5584831631325) where
+        pub column-asks : k < 31 → (natAbs a ≤ 173129780571075) × (natAbs (toZ w64 (ofZ w64 y)) ≤ 173129780571075)
+        column-asks h = (omega (arith, low), rw handed-on (omega (arith, small)))
 
-  module _ {k x n : ℕ} (c : ℕ) (h : k < n) (en : n ≡ span (z .radius) s (z .width)) (ex : x ≡ s - z .radius) where
-    column-low : s - z .radius + k < z .width
-    column-low = in-span z s k (rw en at h)
-
-    pub column-asks : PlanLimits z × ((x + k ≤ 1024) × (t < z .height))
-    column-asks = let p = plan-limits (wd .planned) in (p, (omega (arith, column-low, p .width, ex), wd .row))
-
-    module _ {d : Line} (ed : d ≡ columnLine z (x + k) t) where
-      pub column-in-planes : InPlanes z d
-      column-in-planes = rw (ed, ex) (column-in (plan-limits (wd .planned)) (s - z .radius + k) t column-low)
-
-      module _ {p : List ℕ} (v : LinePixels b z d p) where
-        line-is : (y : ℤ) → y ≡ pixelFold _+ℤ_ (pos 0) p (signedBy row w c) → y ≡ lineFold _+ℤ_ (pos 0) b (columnLine z (s - z .radius + k) t) (signedWeight (frameOf b) s t c)
-        line-is y e = let q = e ∙ list-adds v c in rw (ed, ex) at q
-
-        pub columns-asks : (a y : ℤ) → a ≡ columns c k → y ≡ pixelFold _+ℤ_ (pos 0) p (signedBy row w c) → (natAbs a ≤ 173129780571075) × (natAbs (toZ w64 (ofZ w64 y)) ≤ 173129780571075)
-        columns-asks a y ea ey =
-            let l = line-column c (s - z .radius + k) column-low in
-            let e = line-is y ey in
-            let hk : k ≤ span (z .radius) s (z .width) = omega arith in
-            let fw = few-columns z (plan-limits (wd .planned)) s in (
-              rw ea (omega (arith, columns-abs c k hk, fw)),
-              rw (e, read-bounded w64 {z = lineFold _+ℤ_ (pos 0) b (columnLine z (s - z .radius + k) t) (signedWeight (frameOf b) s t c)} 5584831631325 l tt) (omega (arith, l)),
-            )
-
-        pub columns-again : (a y r : ℤ) → a ≡ columns c k → y ≡ pixelFold _+ℤ_ (pos 0) p (signedBy row w c) → mag r < 2 ^ hbits w64 → r ≡ a +ℤ toZ w64 (ofZ w64 y) → toZ w64 (ofZ w64 r) ≡ columns c (k + 1)
-        columns-again a y r ea ey m e =
-            let F : ℕ → ℤ = λ a. lineFold _+ℤ_ (pos 0) b (columnLine z a t) (signedWeight (frameOf b) s t c) in
-            toZ-ofZ (record { sfits = m }) ∙ e
-            ∙ ap₂ (λ (u v : ℤ). u +ℤ v) ea (ap (λ (q : ℤ). toZ w64 (ofZ w64 q)) (line-is y ey) ∙ read-bounded w64 {z = F (s - z .radius + k)} 5584831631325 (line-column c (s - z .radius + k) column-low) tt)
-            ∙ sym (fold-more _+ℤ_ (pos 0) F (s - z .radius) k)
+        pub column-again : (x : ℕ) → d ≡ columnLine z (x + k) t → a ≡ columnsFold _+ℤ_ (pos 0) b z x t (signedWeight (frameOf b) s t c) k
+            → {r : ℤ} → mag r < 2 ^ hbits w64 → r ≡ a +ℤ toZ w64 (ofZ w64 y)
+            → (toZ w64 (ofZ w64 r) ≡ columnsFold _+ℤ_ (pos 0) b z x t (signedWeight (frameOf b) s t c) (k + 1)) × (natAbs (toZ w64 (ofZ w64 r)) ≤ (k + 1) * 5584831631325)
+        column-again x ed ea m e =
+            let h = signedWeight (frameOf b) s t c in
+            let q = toZ-ofZ (record { sfits = m }) ∙ e ∙ ap (λ (u : ℤ). a +ℤ u) handed-on in
+            (q ∙ ap₂ _+ℤ_ ea (list-adds c) ∙ sym (columns-more _+ℤ_ (pos 0) b z x t h k p ed (v .sumℤ h)), rw q (omega (arith, abs-add a (pixelFold _+ℤ_ (pos 0) p (signedBy row w c)), low, small)))
 
   -- all columns
-  pub columns-balance : (c : ℕ) → columns c (span (z .radius) s (z .width)) ≡ balance (frameOf b) s t c
+  pub columns-balance : (c : ℕ) {x n : ℕ} → x ≡ s - z .radius → n ≡ span (z .radius) s (z .width)
+      → columnsFold _+ℤ_ (pos 0) b z x t (signedWeight (frameOf b) s t c) n ≡ balance (frameOf b) s t c
   unfolding signedWeight side
-  columns-balance c = sym (columns-law _+ℤ_ (pos 0) (wd .planned) (signedWeight (frameOf b) s t c) s t) ∙ sym (balance-signed (frameOf b) s t c)
+  columns-balance c {x} ex en = columns-window _+ℤ_ (pos 0) b z x t (signedWeight (frameOf b) s t c) (wd .planned) s ex en ∙ sym (balance-signed (frameOf b) s t c)
 
 -- ---- the table's row of a guide, after k turns
-pub record Rowed (p : Frame) (k f : ℕ) (row : List ℕ) : Type 0 where
-  pub long : length row ≡ 256
-  pub is : (g : ℕ) → g < k → getD row g 0 ≡ table p f g
-
-pub row-start : (p : Frame) (f : ℕ) → Rowed p 0 f (replicate 256 0)
+pub row-start : (p : Frame) (f : ℕ) → TableRow p 0 f (replicate 256 0)
 row-start p f = record { long = length-replicate {A = ℕ} 256 0; is = λ g h. absurd (omega arith) }
 
-pub row-next : {p : Frame} {k f v : ℕ} {row : List ℕ} → k < 256 → Rowed p k f row → v ≡ table p f k → Rowed p (k + 1) f (set row k v)
+pub row-next : {p : Frame} {k f v : ℕ} {row : List ℕ} → k < 256 → TableRow p k f row → v ≡ table p f k → TableRow p (k + 1) f (set row k v)
 row-next {p} {k} {f} {v} {row} h r e = record {
   long = length-set row k v ∙ r .long;
   is = λ g l. ⊎-elim (λ q. rw q (getD-set-same row k v 0 (rw (r .long) h) ∙ e)) (λ n. getD-set-other row k g v 0 n ∙ r .is g (omega arith)) (eq-or-ne g k);

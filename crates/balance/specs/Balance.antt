@@ -1,6 +1,5 @@
 -- What a pixel adds to the balance: its weight, taken off where its level is above the given one.
 -- Assumes nothing.
-use mathlib.Core.Path.{_≡_}
 use mathlib.Core.List.{List}
 use Prim.Native.Nat.{ℕ, _+_, _≤_, _<_}
 use lib.ListN.{length}
@@ -12,7 +11,7 @@ use Rattle.spec.specs.Weight.{weight}
 use Rattle.pixels.specs.Pixels.{countOf, guideIn}
 use Rattle.joint.specs.Side.{side}
 use Rattle.joint_search.specs.declared.formula.Formula.{Formula}
-use Rattle.joint_search.specs.Formula.{Small, weightBy, Weighs}
+use Rattle.joint_search.specs.Formula.{FormulaInBounds, weightBy, Weighs}
 
 unfoldable pub signedWeight : Frame → ℕ → ℕ → ℕ → ℕ → ℕ → ℤ
 signedWeight p s t c i g = side c i *ℤ weight p s t g
@@ -24,7 +23,7 @@ signedBy ns w c i g = side c i *ℤ weightBy ns w g
 -- few pixels, each of whose guides has its weight in the row, and a small one
 pub record PixelsWeighed (p ns : List ℕ) (w : Formula) : Type 0 where
   pub few : countOf p ≤ 31
-  pub small : Small w
+  pub small : FormulaInBounds w
   pub inside : (k : ℕ) → k < countOf p → w .row + guideIn p k < length ns
   pub low : (k : ℕ) → k < countOf p → natAbs (weightBy ns w (guideIn p k)) ≤ 180155859075
 

@@ -1,14 +1,13 @@
 // Document 01's balance of a window at any level, 2U(i) - T, from the file alone: no stores, one pass over the window's pixels in 64 bits.
-use frame::weight;
 use joint_rows::rows;
 use joint_rows::table;
 use joint_search::formula;
 use joint_search::formula::Formula;
-use levels::answer;
 use pixels::sums;
 use spec::Guide;
 use spec::Level;
 use spec::Plan;
+use window::coefficients;
 use window::line::column_line;
 use window::line::low;
 use window::line::span_of;
@@ -66,24 +65,24 @@ pub fn line_balance(p: &[u16], weights: &[u16], w: Formula, top: Level) -> i64
 // The window's columns, one after the other.
 pub fn window_balance(
     file: &[u8],
-    z: Plan,
+    plan: Plan,
     weights: &[u16],
     w: Formula,
     s: usize,
     t: usize,
     top: Level,
 ) -> i64
-    requires { ⌜ Weighed (now file) z s t (now weights) w ⌝ }
+    requires { ⌜ Weighed (now file) plan s t (now weights) w ⌝ }
     ensures { λ r. ⌜ r ≡ balance (frameOf (now (file .entry))) s t (top .0) ⌝ }
 {
-    let x = low(s, z.radius);
-    let n = span_of(s, z.radius, z.width);
+    let x = low(s, plan.radius);
+    let n = span_of(s, plan.radius, plan.width);
     let mut sum: i64 = 0;
     let mut k = 0;
     while k < n {
         let mut places = [0u16; 62];
-        let d = column_line(z, x + k, t);
-        let e = pixels::read(file, z, d, &mut places);
+        let line = column_line(plan, x + k, t);
+        let e = pixels::read(file, plan, line, &mut places);
         sum = add(sum, line_balance(&places[0..e], weights, w, top));
         k += 1;
     }
@@ -91,44 +90,44 @@ pub fn window_balance(
 }
 
 // The table's row of the centre's guide.
-pub fn table_row(file: &[u8], z: Plan, f: Guide) -> [u16; 256]
-    requires { ⌜ (Planned (now file) z) × (f .0 < z .guides) ⌝ }
-    ensures { λ r. ⌜ TableRow (frameOf (now (file .entry))) (z .guides) (f .0) r ⌝ }
+pub fn table_row(file: &[u8], plan: Plan, f: Guide) -> [u16; 256]
+    requires { ⌜ (Planned (now file) plan) × (f .0 < plan .guides) ⌝ }
+    ensures { λ r. ⌜ TableRow (frameOf (now (file .entry))) (plan .guides) (f .0) r ⌝ }
 {
-    let built = weight::constants();
-    let m = z.guides;
+    let built = frame_weights::constants();
+    let m = plan.guides;
     let mut out = [0u16; 256];
     let mut k = 0;
     while k < m {
-        out[k] = table::weight_at(&built, file, z, f, Guide(k as u16));
+        out[k] = table::weight_at(&built, file, plan, f, Guide(k as u16));
         k += 1;
     }
     out
 }
 
 // Kind 1.
-pub fn table_balance(file: &[u8], z: Plan, s: usize, t: usize, top: Level) -> i64
-    requires { ⌜ (Planned (now file) z) × (z .kind ≡ 1) × (s < z .width) × (t < z .height) ⌝ }
+pub fn table_balance(file: &[u8], plan: Plan, s: usize, t: usize, top: Level) -> i64
+    requires { ⌜ (Planned (now file) plan) × (plan .kind ≡ 1) × (s < plan .width) × (t < plan .height) ⌝ }
     ensures { λ r. ⌜ r ≡ balance (frameOf (now (file .entry))) s t (top .0) ⌝ }
 {
-    let centre = pixel::guide_at(file, z, t * z.width + s);
-    let row = table_row(file, z, centre);
+    let centre = pixel::guide_at(file, plan, t * plan.width + s);
+    let row = table_row(file, plan, centre);
     let w = Formula {
         row: 0,
         slope: 1,
         offset: 0,
     };
-    window_balance(file, z, &row, w, s, t, top)
+    window_balance(file, plan, &row, w, s, t, top)
 }
 
 // Kind 2.
-pub fn guided_balance(file: &[u8], z: Plan, s: usize, t: usize, top: Level) -> i64
-    requires { ⌜ (Planned (now file) z) × (z .kind ≡ 2) × (s < z .width) × (t < z .height) ⌝ }
+pub fn guided_balance(file: &[u8], plan: Plan, s: usize, t: usize, top: Level) -> i64
+    requires { ⌜ (Planned (now file) plan) × (plan .kind ≡ 2) × (s < plan .width) × (t < plan .height) ⌝ }
     ensures { λ r. ⌜ r ≡ balance (frameOf (now (file .entry))) s t (top .0) ⌝ }
 {
-    let a = sums::start(file, z, s, t);
-    let k = answer::coefficients_at(file, z, a, s, t);
-    let m = z.guides;
+    let a = sums::start(file, plan, s, t);
+    let k = coefficients::of_window(file, plan, a, s, t);
+    let m = plan.guides;
     let mut row = [0u16; 256];
     rows::ramp(&mut row, m);
     let w = Formula {
@@ -136,16 +135,16 @@ pub fn guided_balance(file: &[u8], z: Plan, s: usize, t: usize, top: Level) -> i
         slope: k.slope,
         offset: k.offset,
     };
-    window_balance(file, z, &row, w, s, t, top)
+    window_balance(file, plan, &row, w, s, t, top)
 }
 
 // The balance of the window at (s, t), at a level.
-pub fn balance_at(file: &[u8], z: Plan, s: usize, t: usize, top: Level) -> i64
-    requires { ⌜ (Planned (now file) z) × (s < z .width) × (t < z .height) ⌝ }
+pub fn balance_at(file: &[u8], plan: Plan, s: usize, t: usize, top: Level) -> i64
+    requires { ⌜ (Planned (now file) plan) × (s < plan .width) × (t < plan .height) ⌝ }
     ensures { λ r. ⌜ r ≡ balance (frameOf (now (file .entry))) s t (top .0) ⌝ }
 {
-    if z.kind == 2 {
-        return guided_balance(file, z, s, t, top);
+    if plan.kind == 2 {
+        return guided_balance(file, plan, s, t, top);
     }
-    table_balance(file, z, s, t, top)
+    table_balance(file, plan, s, t, top)
 }

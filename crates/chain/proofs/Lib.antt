@@ -1,11 +1,3 @@
-pub mod SumLaws
-pub mod ChainLaws
-pub mod LinkLaws
-pub mod FreeLaws
-pub mod StoreLaws
-pub mod PixelLaws
-pub mod InsertLaws
-pub mod ClearLaws
 pub mod KeyLaws
 pub mod MergeLaws
 pub mod LineLaws

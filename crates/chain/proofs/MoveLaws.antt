@@ -25,11 +25,11 @@ use Rattle.window.proofs.SumLaws.{columnsTo}
 use Rattle.pixels.specs.Pixels.{countOf, pixelFold, PixelsBelow, LinePixels}
 use Rattle.pixels.proofs.AdditiveLaws.{stepped}
 use Rattle.pixels.proofs.SumLaws.{below-most}
-use Rattle.chain.specs.declared.FreeList.{FreeList}
-use Rattle.chain.specs.Chain.{sumBelow, Beyond, Cleared, Size, ListOf}
+use Rattle.chain_nodes.specs.declared.FreeList.{FreeList}
+use Rattle.chain_list.specs.Chain.{sumBelow, Beyond, Cleared, Size, ListOf}
 use Rattle.chain.specs.Lines.{nodesOf, sizeOf, counted, guided, lineCount, lineGuides, withCounts, withGuides, MergeableLine, MergedLine}
 use Rattle.chain.specs.Moves.{levelCounts, levelGuides, Listed, storeSize, Stored, Slides, Slid}
-use Rattle.chain.proofs.SumLaws.{sum-ext}
+use Rattle.chain_list.proofs.SumLaws.{sum-ext}
 use Rattle.chain.proofs.MergeLaws.{chain-ext}
 use Rattle.chain.proofs.LineLaws.{cap-is, levels-is, cap-few, lacking, line-total, line-mixed}
 use Rattle.chain.proofs.ReadLaws.{chain-reads, rest-kept}

@@ -12,9 +12,10 @@ use Rattle.spec.specs.Frame.{Frame, guide}
 use Rattle.spec.specs.Window.{levelSum}
 use Rattle.spec.specs.Chain.{Entry, entryOf, entries, Reads}
 use Rattle.spec.proofs.Climb.{entriesFrom, entries-from}
-use Rattle.chain.specs.Chain.{levelIn, nextIn, Used, floor, Live, Chain, Beyond}
-use Rattle.chain.proofs.SumLaws.{zero-or-pos, lt-or-ge}
-use Rattle.chain.proofs.ChainLaws.{floor-pos, floor-zero}
+use Rattle.chain_nodes.specs.Nodes.{levelIn, nextIn}
+use Rattle.chain_list.specs.Chain.{Used, floor, Live, Chain, Beyond}
+use Rattle.chain_list.proofs.SumLaws.{zero-or-pos, lt-or-ge}
+use Rattle.chain_list.proofs.ChainLaws.{floor-pos, floor-zero}
 
 module _ (p : Frame) (s t cap l head free : ℕ) (m : List ℕ) (ch : Chain cap l (levelSum p s t (λ x y. 1)) (levelSum p s t (guide p)) head free m) where
   abbrev cnt : ℕ → ℕ

@@ -22,9 +22,9 @@ use Rattle.window.specs.declared.line.Line.{Line}
 use Rattle.window.specs.Line.{columnLine, rowLine, shift, advance, columnStep, rowStep, reverse, stepOf, Adjacent, right, left, down, up, lineFold}
 use Rattle.window.proofs.FormLaws.{is-right, is-left, is-down, is-up}
 use Rattle.window.proofs.LineLaws.{line-none, row-fold, columns-law}
-use Rattle.chain.specs.Chain.{sumBelow}
+use Rattle.chain_list.specs.Chain.{sumBelow}
 use Rattle.chain.specs.Lines.{counted, guided}
-use Rattle.chain.proofs.SumLaws.{sum-mixed}
+use Rattle.chain_list.proofs.SumLaws.{sum-mixed}
 use Rattle.chain.proofs.LineLaws.{lacking, mixed}
 
 -- the window's sum by levels is its sum

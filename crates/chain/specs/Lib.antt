@@ -1,4 +1,3 @@
-pub mod Chain
 pub mod Keys
 pub mod Lines
 pub mod Moves

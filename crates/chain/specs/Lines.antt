@@ -7,9 +7,9 @@ use lib.Dec.{eqb}
 use Rattle.spec.specs.Base.{if_then_else_}
 use Rattle.spec.specs.declared.Plan.{Plan}
 use Rattle.pixels.specs.Pixels.{countOf, pixelFold, PixelsBelow}
-use Rattle.chain.specs.declared.FreeList.{FreeList}
+use Rattle.chain_nodes.specs.declared.FreeList.{FreeList}
 use Rattle.chain.specs.Keys.{NoneLeft}
-use Rattle.chain.specs.Chain.{sumBelow, Beyond, Size, ListOf}
+use Rattle.chain_list.specs.Chain.{sumBelow, Beyond, Size, ListOf}
 
 -- a node for each pixel of the largest window
 abbrev pub nodesOf : Plan → ℕ

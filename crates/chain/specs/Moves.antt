@@ -12,8 +12,8 @@ use Rattle.spec.specs.Window.{levelSum}
 use Rattle.spec.specs.Chain.{ChainStore}
 use Rattle.spec.specs.Calls.{roomOf}
 use Rattle.pixels.specs.Pixels.{PixelsBelow}
-use Rattle.chain.specs.declared.FreeList.{FreeList}
-use Rattle.chain.specs.Chain.{Beyond, Size, ListOf}
+use Rattle.chain_nodes.specs.declared.FreeList.{FreeList}
+use Rattle.chain_list.specs.Chain.{Beyond, Size, ListOf}
 use Rattle.chain.specs.Keys.{NoneLeft}
 use Rattle.chain.specs.Lines.{sizeOf, withCounts, withGuides, InsertLineReady}
 

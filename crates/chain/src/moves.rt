@@ -1,8 +1,8 @@
 // The list of a window: made at a start, whatever the store held, and carried to a neighbour by one line out and one line in. The line goes out
 // first, so that a node is free for each level that comes in.
-use crate::FreeList;
 use crate::line;
-use crate::list;
+use chain_list::clear;
+use chain_nodes::FreeList;
 use spec::Plan;
 ghost use Prim.Native.Nat.{_<_, _≤_};
 ghost use lib.ListN.{length};
@@ -19,7 +19,7 @@ pub fn start(file: &[u8], z: Plan, s: usize, t: usize, numbers: &mut [u32]) -> F
     let cap = line::node_count(z);
     let left = window::line::low(s, z.radius);
     let columns = window::line::span_of(s, z.radius, z.width);
-    let mut free = list::clear(numbers, cap);
+    let mut free = clear(numbers, cap);
     let mut k: usize = 0;
     while k < columns {
         let mut places = [0u16; 62];

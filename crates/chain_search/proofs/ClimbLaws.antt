@@ -19,18 +19,19 @@ use Rattle.spec.specs.Weight.{slope, offset}
 use Rattle.spec.proofs.Levels.{cumulative-zero, cumulative-next, level-linear}
 use Rattle.spec.proofs.Totals.{lt-leZ, median-first}
 use Rattle.window.specs.declared.coefficients.Coefficients.{Coefficients}
-use Rattle.window.specs.Coefficients.{WeighsAt}
-use Rattle.chain.specs.Chain.{levelIn, countIn, guidesIn, nextIn, Used, floor, Live, Successor, sumBelow}
-use Rattle.chain.proofs.SumLaws.{zero-or-pos, lt-or-ge, sum-none, sum-suc, sum-mono, sum-flat}
-use Rattle.chain.proofs.ChainLaws.{floor-pos, floor-zero}
-use Rattle.chain_search.specs.Climb.{reach, reachAt, Climbs}
+use Rattle.window.specs.Coefficients.{WeighsAt, reachesHalf}
+use Rattle.chain_nodes.specs.Nodes.{levelIn, countIn, guidesIn, nextIn}
+use Rattle.chain_list.specs.Chain.{Used, floor, Live, Successor, sumBelow}
+use Rattle.chain_list.proofs.SumLaws.{zero-or-pos, lt-or-ge, sum-none, sum-suc, sum-mono, sum-flat}
+use Rattle.chain_list.proofs.ChainLaws.{floor-pos, floor-zero}
+use Rattle.chain_search.specs.Climb.{reachesAt, Climbs}
 
 -- ---- nothing does not reach a positive number
 nothing : (c d : ℤ) → pos 2 *ℤ (c *ℤ pos 0 +ℤ d *ℤ pos 0) ≡ pos 0
 nothing c d = ring! (c ∷ d ∷ []) (search quote depth 12) (search quote depth 12) refl
 
-reach-none : (w : Coefficients) → pos 0 <ℤ w .total → reach w 0 0 ≡ false
-unfolding reach
+reach-none : (w : Coefficients) → pos 0 <ℤ w .total → reachesHalf w 0 0 ≡ false
+unfolding reachesHalf
 reach-none w h = ap (leZ (w .total)) (nothing (w .slope) (w .offset)) ∙ lt-leZ h
 
 -- ---- the measure: how many levels are ahead
@@ -54,8 +55,8 @@ pub record Climbing (l : ℕ) (m : List ℕ) (w : Coefficients) (a : Climbs l w 
   pub next : cur ≡ nextIn m y
   pub counted : count ≡ sumBelow (a .cnt) (floor m y)
   pub summed : sum ≡ sumBelow (a .sm) (floor m y)
-  pub short : reach w count sum ≡ false
-  pub under : (j : ℕ) → j < floor m y → reachAt (a .cnt) (a .sm) w j ≡ false
+  pub short : reachesHalf w count sum ≡ false
+  pub under : (j : ℕ) → j < floor m y → reachesAt (a .cnt) (a .sm) w j ≡ false
 
 module _ (l : ℕ) (m : List ℕ) (w : Coefficients) (a : Climbs l w m) where
   pub climb-start : pos 0 <ℤ w .total → Climbing l m w a 0 0 (nextIn m 0)
@@ -90,16 +91,16 @@ module _ (l : ℕ) (m : List ℕ) (w : Coefficients) (a : Climbs l w m) where
     )
 
     -- up to the node nothing reaches it
-    before : (j : ℕ) → (0 < cur → j < levelIn m cur) → reachAt (a .cnt) (a .sm) w j ≡ false
+    before : (j : ℕ) → (0 < cur → j < levelIn m cur) → reachesAt (a .cnt) (a .sm) w j ≡ false
     before j q =
         ⊎-elim (s .under j)
-        (λ h. let f = flat (suc j) (omega arith) (λ w. omega (arith, q w)) in ap₂ (reach w) (f .0) (f .1) ∙ s .short)
+        (λ h. let f = flat (suc j) (omega arith) (λ w. omega (arith, q w)) in ap₂ (reachesHalf w) (f .0) (f .1) ∙ s .short)
         (lt-or-ge j (floor m (s .y)))
 
     -- some level reaches it, so the list does not end before one that does
     pub climb-goes : 0 < cur
     climb-goes =
-        ⊎-elim (λ e. absurd (true≢false (sym (first-is (reachAt (a .cnt) (a .sm) w) l .passes (a .some)) ∙ before (first (reachAt (a .cnt) (a .sm) w) l) (λ p. absurd (omega arith)))))
+        ⊎-elim (λ e. absurd (true≢false (sym (first-is (reachesAt (a .cnt) (a .sm) w) l .passes (a .some)) ∙ before (first (reachesAt (a .cnt) (a .sm) w) l) (λ p. absurd (omega arith)))))
         (λ p. p) (zero-or-pos cur)
 
     pub cur-in : 4 * cur < length m
@@ -124,19 +125,19 @@ module _ (l : ℕ) (m : List ℕ) (w : Coefficients) (a : Climbs l w m) where
       pub sum-small : sum + guidesIn m cur ≤ 245055
       sum-small = omega (arith, sum-next, sum-mono (a .sm) (suc (levelIn m cur)) l cur-level, a .light)
 
-      at-node : (b : Bool) → reach w (count + countIn m cur) (sum + guidesIn m cur) ≡ b → reachAt (a .cnt) (a .sm) w (levelIn m cur) ≡ b
-      at-node b e = ap₂ (reach w) (sym count-next) (sym sum-next) ∙ e
+      at-node : (b : Bool) → reachesHalf w (count + countIn m cur) (sum + guidesIn m cur) ≡ b → reachesAt (a .cnt) (a .sm) w (levelIn m cur) ≡ b
+      at-node b e = ap₂ (reachesHalf w) (sym count-next) (sym sum-next) ∙ e
 
-      pub climb-here : reach w (count + countIn m cur) (sum + guidesIn m cur) ≡ true → levelIn m cur ≡ first (reachAt (a .cnt) (a .sm) w) l
+      pub climb-here : reachesHalf w (count + countIn m cur) (sum + guidesIn m cur) ≡ true → levelIn m cur ≡ first (reachesAt (a .cnt) (a .sm) w) l
       climb-here e =
           sym
-          (first-unique (reachAt (a .cnt) (a .sm) w) l (levelIn m cur)
+          (first-unique (reachesAt (a .cnt) (a .sm) w) l (levelIn m cur)
           (record { within = omega (arith, cur-level); passes = λ h. at-node true e; before = λ j h. before j (λ w. h) }))
 
       above : floor m cur ≡ suc (levelIn m cur)
       above = floor-pos m cur p
 
-      pub climb-next : reach w (count + countIn m cur) (sum + guidesIn m cur) ≡ false → Climbing l m w a (count + countIn m cur) (sum + guidesIn m cur) (nextIn m cur)
+      pub climb-next : reachesHalf w (count + countIn m cur) (sum + guidesIn m cur) ≡ false → Climbing l m w a (count + countIn m cur) (sum + guidesIn m cur) (nextIn m cur)
       climb-next e = record {
         y = cur;
         live = λ q. used;
@@ -147,7 +148,7 @@ module _ (l : ℕ) (m : List ℕ) (w : Coefficients) (a : Climbs l w m) where
         under = λ j h. ⊎-elim (λ w. before j (λ q. w)) (λ w. at-cur j (omega (arith, above))) (lt-or-ge j (levelIn m cur));
       }
         where
-          at-cur : (j : ℕ) → j ≡ levelIn m cur → reachAt (a .cnt) (a .sm) w j ≡ false
+          at-cur : (j : ℕ) → j ≡ levelIn m cur → reachesAt (a .cnt) (a .sm) w j ≡ false
           at-cur j z = rw z (at-node false e)
 
       pub ahead-less : ahead l m (nextIn m cur) < ahead l m cur
@@ -158,10 +159,10 @@ module _ (l : ℕ) (m : List ℕ) (w : Coefficients) (a : Climbs l w m) where
           (zero-or-pos (nextIn m cur))
 
   -- the last node: none before it reaches it, so it does
-  pub climb-last : (count sum cur : ℕ) → Climbing l m w a count sum cur → 0 < cur → nextIn m cur ≡ 0 → levelIn m cur ≡ first (reachAt (a .cnt) (a .sm) w) l
-  climb-last count sum cur s p z = go (reach w (count + countIn m cur) (sum + guidesIn m cur)) refl
+  pub climb-last : (count sum cur : ℕ) → Climbing l m w a count sum cur → 0 < cur → nextIn m cur ≡ 0 → levelIn m cur ≡ first (reachesAt (a .cnt) (a .sm) w) l
+  climb-last count sum cur s p z = go (reachesHalf w (count + countIn m cur) (sum + guidesIn m cur)) refl
     where
-      go : (b : Bool) → reach w (count + countIn m cur) (sum + guidesIn m cur) ≡ b → levelIn m cur ≡ first (reachAt (a .cnt) (a .sm) w) l
+      go : (b : Bool) → reachesHalf w (count + countIn m cur) (sum + guidesIn m cur) ≡ b → levelIn m cur ≡ first (reachesAt (a .cnt) (a .sm) w) l
       go true e = climb-here count sum cur s p e
       go false e = absurd (omega (arith, climb-goes _ _ _ (climb-next count sum cur s p e)))
 
@@ -198,14 +199,14 @@ module _ {l : ℕ} {m : List ℕ} {w : Coefficients} {a : Climbs l w m} where
     pub node-level : getD m (at - 3) 0 < l
     node-level = rw (s .place) (cur-level l m w a _ _ _ (s .state) there)
 
-    pub node-last : next ≡ 0 → getD m (at - 3) 0 ≡ first (reachAt (a .cnt) (a .sm) w) l
+    pub node-last : next ≡ 0 → getD m (at - 3) 0 ≡ first (reachesAt (a .cnt) (a .sm) w) l
     node-last z = rw (s .place) (climb-last l m w a _ _ _ (s .state) there (sym (s .goes) ∙ z))
 
-    module _ {b : Bool} (e : reach w (count + getD m (at - 2) 0) (sum + getD m (at - 1) 0) ≡ b) where
-      tested : reach w (count + countIn m (s .cur)) (sum + guidesIn m (s .cur)) ≡ b
+    module _ {b : Bool} (e : reachesHalf w (count + getD m (at - 2) 0) (sum + getD m (at - 1) 0) ≡ b) where
+      tested : reachesHalf w (count + countIn m (s .cur)) (sum + guidesIn m (s .cur)) ≡ b
       tested = rw (s .place) at e
 
-      pub node-here : b ≡ true → getD m (at - 3) 0 ≡ first (reachAt (a .cnt) (a .sm) w) l
+      pub node-here : b ≡ true → getD m (at - 3) 0 ≡ first (reachesAt (a .cnt) (a .sm) w) l
       node-here t = rw (s .place) (climb-here l m w a _ _ _ (s .state) there (tested ∙ t))
 
       module _ (f : b ≡ false) where
@@ -243,13 +244,13 @@ module _ (p : Frame) (s t : ℕ) (two : p .set .kind ≡ 2) where
       ∙ join-weights (slope p s t) (offset p s t) (pos (sumBelow cnt (suc i))) (pos (sumBelow sm (suc i))) (pos (cnt (suc i))) (pos (sm (suc i)))
       ∙ sym (ap₂ (λ (x y : ℕ). slope p s t *ℤ pos x +ℤ offset p s t *ℤ pos y) (sum-suc sm (suc i)) (sum-suc cnt (suc i)))
 
-  same-test : (w : Coefficients) → WeighsAt p s t w → (i : ℕ) → leZ (totalWeight p s t) (pos 2 *ℤ cumulative p s t i) ≡ reachAt cnt sm w i
-  unfolding reach
+  same-test : (w : Coefficients) → WeighsAt p s t w → (i : ℕ) → leZ (totalWeight p s t) (pos 2 *ℤ cumulative p s t i) ≡ reachesAt cnt sm w i
+  unfolding reachesHalf
   same-test w v i = rw (v .total, v .slope, v .offset) (ap (λ (u : ℤ). leZ (totalWeight p s t) (pos 2 *ℤ u)) (cumulative-linear i))
 
   -- where the climb ends is the median
-  pub climb-median : (w : Coefficients) → WeighsAt p s t w → first (reachAt cnt sm w) (p .set .levels) ≡ median p s t
+  pub climb-median : (w : Coefficients) → WeighsAt p s t w → first (reachesAt cnt sm w) (p .set .levels) ≡ median p s t
   climb-median w v =
       let m = median-first p s t in
-      first-unique (reachAt cnt sm w) (p .set .levels) (median p s t)
+      first-unique (reachesAt cnt sm w) (p .set .levels) (median p s t)
       (record { within = m .within; passes = λ h. sym (same-test w v (median p s t)) ∙ m .passes h; before = λ j h. sym (same-test w v j) ∙ m .before j h })

@@ -1,44 +1,36 @@
 // The median along the list. In kind 2 the weight of any pixels is linear in their number and their guide sum, so two running sums are all that a
 // climb carries; weights may be negative, so it begins at the first node each time.
-use chain::node;
+use chain_nodes::place;
 use spec::Level;
 use window::coefficients::Coefficients;
+use window::coefficients::reached;
 ghost use mathlib.Core.Path.{_≡_};
 ghost use Prim.Native.Nat.{_≤_};
 ghost use lib.IntN.{pos};
 ghost use lib.Signed.{_<ℤ_};
 ghost use Rattle.spec.specs.Base.{first};
 ghost use Rattle.window.specs.Coefficients.{CoefficientsSmall};
-ghost use Rattle.chain_search.specs.Climb.{reach, reachAt, Climbs};
+ghost use Rattle.chain_search.specs.Climb.{reachesAt, Climbs};
 
-// Whether twice the weight of so many pixels with that guide sum reaches the window's weight sum.
-pub fn reaches(k: Coefficients, count: u32, sum: u32) -> bool
-    requires { ⌜ CoefficientsSmall k ⌝ }
-    requires { ⌜ (count ≤ 961) × (sum ≤ 245055) ⌝ }
-    ensures { λ r. ⌜ r ≡ reach k count sum ⌝ }
-{
-    k.total <= 2 * (k.slope * (sum as i64) + k.offset * (count as i64))
-}
-
-// The first level at which twice the weight of the levels up to it reaches the window's weight sum. Some level does: where none before the last node
-// does, the last node's level is the answer.
+// The first level at which the weight of the levels up to it reaches half of the window's. Some level does: where none before the last node does, the
+// last node's level is the answer.
 pub fn climb(numbers: &[u32], levels: usize, k: Coefficients) -> Level
     requires { ⌜ Climbs levels k (now numbers) ⌝ }
     requires { ⌜ levels ≤ 1024 ⌝ }
     requires { ⌜ (CoefficientsSmall k) × (pos 0 <ℤ k .total) ⌝ }
-    ensures { λ r. ⌜ ((a : Climbs levels k (now (numbers .entry))) → r .0 ≡ first (reachAt (a .cnt) (a .sm) k) levels) ⌝ }
+    ensures { λ r. ⌜ ((a : Climbs levels k (now (numbers .entry))) → r .0 ≡ first (reachesAt (a .cnt) (a .sm) k) levels) ⌝ }
 {
     let mut count: u32 = 0;
     let mut sum: u32 = 0;
-    let mut at = node::place(numbers[0]);
+    let mut at = place(numbers[0]);
     let mut next = numbers[at];
     while next != 0 {
         count += numbers[at - 2];
         sum += numbers[at - 1];
-        if reaches(k, count, sum) {
+        if reached(k, count as usize, sum as usize) {
             return Level(numbers[at - 3] as u16);
         }
-        at = node::place(next);
+        at = place(next);
         next = numbers[at];
     }
     Level(numbers[at - 3] as u16)

@@ -3,29 +3,29 @@
 use mathlib.Core.Path.{_≡_, refl, sym, ap, ap₂, _∙_, subst}
 use mathlib.Core.Bool.{Bool}
 use mathlib.Core.List.{List}
-use Prim.Native.Nat.{ℕ, _+_, _*_, _≤_, _<_}
+use Prim.Native.Nat.{ℕ, _+_, _≤_, _<_}
 use native.Mathlib.Omega.{arith}
 use lib.IntN.{ℤ, pos}
 use lib.Signed.{_<ℤ_}
 use Rattle.spec.specs.declared.Level.{Level}
 use Rattle.spec.specs.declared.Plan.{Plan}
 use Rattle.spec.specs.Base.{if_then_else_, distance, first}
-use Rattle.spec.specs.Frame.{guide, pixelGuide, frameOf}
+use Rattle.spec.specs.Frame.{guide, frameOf}
 use Rattle.spec.specs.Checks.{Planned}
 use Rattle.spec.specs.Weight.{monotone}
 use Rattle.spec.specs.Window.{pixelCount, guideSum}
 use Rattle.spec.specs.Median.{median}
 use Rattle.spec.specs.Walk.{State, arrive}
-use Rattle.spec.proofs.Plans.{facts, pixel-of, place-low}
+use Rattle.spec.proofs.Plans.{facts, pixel-of}
 use Rattle.spec.proofs.Totals.{median-low}
 use Rattle.spec.proofs.Climb.{guided-full}
 use Rattle.spec.proofs.Bounds.{pixelCount-high, guideSum-high}
 use Rattle.window.specs.declared.coefficients.Coefficients.{Coefficients}
 use Rattle.window.specs.Coefficients.{WeighsAt}
 use Rattle.window.specs.Sums.{SumsAt}
-use Rattle.window.proofs.PixelLaws.{guide-low, guides-high}
-use Rattle.chain.specs.declared.FreeList.{FreeList}
-use Rattle.chain.specs.Chain.{sumBelow}
+use Rattle.window.proofs.PixelLaws.{guides-high}
+use Rattle.chain_nodes.specs.declared.FreeList.{FreeList}
+use Rattle.chain_list.specs.Chain.{sumBelow}
 use Rattle.chain.specs.Lines.{nodesOf, sizeOf}
 use Rattle.chain.specs.Moves.{levelCounts, levelGuides, Listed, Stored}
 use Rattle.chain.proofs.WindowLaws.{level-total}
@@ -33,7 +33,7 @@ use Rattle.visit.specs.declared.Running.{Running}
 use Rattle.visit.specs.declared.Visit.{Visit}
 use Rattle.visit.specs.Visit.{stateOf, answered}
 use Rattle.visit.proofs.Laws.{state-is, at-visit}
-use Rattle.chain_search.specs.Climb.{reachAt, Climbs}
+use Rattle.chain_search.specs.Climb.{reachesAt, Climbs}
 use Rattle.chain_visit.specs.Visit.{ChainVisited}
 use Rattle.chain_search.proofs.ClimbLaws.{climb-median}
 
@@ -42,13 +42,6 @@ module _ {b : List ℕ} {z : Plan} (pl : Planned b z) where
   some-guides = let f = facts pl in (omega (arith, f .guides, f .limits .sound .guides-low), guides-high pl)
 
   module _ {s t : ℕ} (hs : s < z .width) (ht : t < z .height) where
-    -- the centre's guide
-    pub centre-is : (g : ℕ) → g ≡ pixelGuide b (t * z .width + s) → g ≡ guide (frameOf b) s t
-    centre-is g e = e ∙ facts pl .guide-at s t
-
-    pub centre-high : (g : ℕ) → g ≡ pixelGuide b (t * z .width + s) → g ≤ 255
-    centre-high g e = omega (arith, guide-low pl (place-low z s t hs ht), guides-high pl)
-
     module _ (two : z .kind ≡ 2) where
       kind-is : frameOf b .set .kind ≡ 2
       kind-is = sym (facts pl .kind) ∙ two
@@ -57,8 +50,8 @@ module _ {b : List ℕ} {z : Plan} (pl : Planned b z) where
       total-pos k w = subst (λ (n : ℤ). pos 0 <ℤ n) (sym (w .total)) (guided-full (pixel-of pl hs ht) kind-is .0)
 
       -- where the climb ends is the median
-      climb-is : (k : Coefficients) → WeighsAt (frameOf b) s t k → first (reachAt (levelCounts b s t) (levelGuides b s t) k) (z .levels) ≡ median (frameOf b) s t
-      climb-is k w = ap (first (reachAt (levelCounts b s t) (levelGuides b s t) k)) (facts pl .levels) ∙ climb-median (frameOf b) s t kind-is k w
+      climb-is : (k : Coefficients) → WeighsAt (frameOf b) s t k → first (reachesAt (levelCounts b s t) (levelGuides b s t) k) (z .levels) ≡ median (frameOf b) s t
+      climb-is k w = ap (first (reachesAt (levelCounts b s t) (levelGuides b s t) k)) (facts pl .levels) ∙ climb-median (frameOf b) s t kind-is k w
 
       -- the window's list is one to climb along
       pub climbs : (k : Coefficients) → WeighsAt (frameOf b) s t k → (free : FreeList) (m : List ℕ) → Listed b z s t free m → Climbs (z .levels) k m
@@ -83,7 +76,7 @@ module _ {b : List ℕ} {z : Plan} (pl : Planned b z) where
           }
 
       pub climbed : (k : Coefficients) (w : WeighsAt (frameOf b) s t k) (free : FreeList) (m : List ℕ) → Listed b z s t free m → (r : ℕ)
-          → ((a : Climbs (z .levels) k m) → r ≡ first (reachAt (a .cnt) (a .sm) k) (z .levels)) → r ≡ median (frameOf b) s t
+          → ((a : Climbs (z .levels) k m) → r ≡ first (reachesAt (a .cnt) (a .sm) k) (z .levels)) → r ≡ median (frameOf b) s t
       unfolding climbs
       climbed k w free m c r h = h (climbs k w free m c) ∙ climb-is k w
 

@@ -1,7 +1,7 @@
 // Way 3 at a window of a walk: its list and its sums made or moved, its answer, the cut point after it, and the shift count.
 use chain::moves;
 use chain_search::climb;
-use levels::tally::Tally;
+use level_search::Tally;
 use pixels::sums;
 use spec::Level;
 use spec::Plan;
@@ -9,7 +9,6 @@ use visit::Running;
 use visit::Visit;
 use window::coefficients;
 use window::line;
-use window::pixel;
 ghost use mathlib.Core.Path.{_≡_};
 ghost use Prim.Native.Nat.{_<_, _≤_};
 ghost use lib.ListN.{length};
@@ -53,9 +52,8 @@ pub fn answer_at(
     requires { ⌜ (SumsAt (frameOf (now file)) column row (running .sums)) × (Listed (now file) plan column row (running .free) (now numbers)) ⌝ }
     ensures { λ r. ⌜ (stateOf r ≡ arrive (frameOf (now (file .entry))) column row (cut .0) shifts) × (r .running ≡ running) ⌝ }
 {
-    let centre = pixel::guide_at(file, plan, row * plan.width + column);
     let sums = running.sums;
-    let k = coefficients::from_sums(plan, sums, centre);
+    let k = coefficients::of_window(file, plan, sums, column, row);
     let level = climb::climb(numbers, plan.levels, k);
     let monotone = coefficients::monotone(plan, k);
     let more = added(monotone, cut, level);

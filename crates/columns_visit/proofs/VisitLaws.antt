@@ -18,7 +18,7 @@ use Rattle.spec.proofs.Plans.{facts}
 use Rattle.window.specs.declared.sums.Sums.{Sums}
 use Rattle.window.specs.Sums.{SumsAt}
 use Rattle.window.proofs.PixelLaws.{plan-limits, levels-high}
-use Rattle.levels.specs.declared.search.Found.{Found}
+use Rattle.level_search.specs.declared.search.Found.{Found}
 use Rattle.levels.specs.Answer.{Profiled, Answered}
 use Rattle.columns.specs.Blocks.{storeSize}
 use Rattle.columns.proofs.ContentLaws.{holds-cell, holds-self, content-window, content-window-guide}

@@ -1,10 +1,10 @@
 // Way 2 at a window of a walk: its store and its sums made or moved, its answer, the cut point after it, and the shift count.
-use chain::FreeList;
+use chain_nodes::FreeList;
 use columns::store;
+use level_search::Tally;
+use level_search::search::Found;
 use levels::answer;
-use levels::search::Found;
 use levels::tally;
-use levels::tally::Tally;
 use pixels::sums;
 use spec::Level;
 use spec::Plan;
@@ -24,7 +24,7 @@ ghost use Rattle.spec.specs.Frame.{frameOf};
 ghost use Rattle.spec.specs.Walk.{arrive};
 ghost use Rattle.window.specs.Line.{Adjacent};
 ghost use Rattle.levels.specs.Answer.{Answerable};
-ghost use Rattle.levels.specs.Search.{FoundAt};
+ghost use Rattle.level_search.specs.Search.{FoundAt};
 ghost use Rattle.visit.specs.Visit.{Within};
 ghost use Rattle.columns_visit.specs.Visit.{windowCounts, windowGuides, ColumnsAt, ColumnsVisited};
 
@@ -69,7 +69,7 @@ pub fn enter(file: &[u8], plan: Plan, column: usize, row: usize, numbers: &mut [
 {
     store::start(file, plan, numbers, column, row);
     let sums = sums::start(file, plan, column, row);
-    let k = answer::coefficients_at(file, plan, sums, column, row);
+    let k = coefficients::of_window(file, plan, sums, column, row);
     let none = Tally { count: 0, sum: 0 };
     let found = answer_from(plan, numbers, k, false, none, Level(0), 0);
     let level = found.level;
@@ -105,7 +105,7 @@ pub fn slide(
     let earlier = known.below;
     let cut = from.cut;
     let sums = sums::moved(former, &entering[0..n], &leaving[0..m]);
-    let k = answer::coefficients_at(file, plan, sums, column, row);
+    let k = coefficients::of_window(file, plan, sums, column, row);
     let monotone = coefficients::monotone(plan, k);
     let end = cut.0 as usize + 1;
     let tally = tally::carried_where(monotone, earlier, &entering[0..n], &leaving[0..m], end);

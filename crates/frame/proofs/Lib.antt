@@ -1,5 +1,2 @@
-pub mod Outcomes
 pub mod Planning
-pub mod Table
-pub mod Weights
 pub mod Shown

@@ -1,3 +1,2 @@
-pub mod Parts
-pub mod Weights
+pub mod Plan
 pub mod Open

@@ -1,11 +1,14 @@
 // An opened frame: the caller's bytes beside the trailer, and the parts of them that it shows. A refused file is opened too, with its refusal and a
 // blank trailer, so that it shows nothing and no function here asks anything of its caller.
-use crate::check;
-use crate::plan;
-use crate::read;
+use crate::check::check;
+use frame_limits::plane_bytes;
+use frame_trailer::TRAILER;
+use frame_trailer::own_weights;
+use frame_trailer::trailer_of;
 use spec::Settings;
 use spec::Trailer;
 use spec::Verdict;
+use spec::stops;
 ghost use mathlib.Core.Path.{_≡_};
 ghost use Rattle.spec.specs.Refusal.{numbered};
 ghost use Rattle.spec.specs.Checks.{verdict};
@@ -27,10 +30,10 @@ pub struct Head {
 pub fn part(file: &[u8], back: usize, n: usize) -> &[u8]
     ensures { λ r. ⌜ Shows (file .entry) back n r ⌝ }
 {
-    if file.len() < read::TRAILER {
+    if file.len() < TRAILER {
         return &file[0..0];
     }
-    let at = file.len() - read::TRAILER;
+    let at = file.len() - TRAILER;
     if at < back {
         return &file[0..0];
     }
@@ -65,15 +68,15 @@ fn blank() -> Trailer
 pub fn read_head(file: &[u8]) -> Head
     ensures { λ r. ⌜ Opens (now (file .entry)) r ⌝ }
 {
-    let v = check::check(file);
-    if check::stops(v) {
+    let v = check(file);
+    if stops(v) {
         let none = blank();
         return Head {
             verdict: v,
             trailer: none,
         };
     }
-    let t = read::trailer_of(file);
+    let t = trailer_of(file);
     Head {
         verdict: v,
         trailer: t,
@@ -87,9 +90,9 @@ pub fn show(which: Plane, file: &[u8], h: Head) -> &[u8]
     let t = h.trailer;
     let k = t.settings;
     match which {
-        Plane::Values => part(file, t.value, check::plane_bytes(k)),
-        Plane::Guides => part(file, t.guide, check::plane_bytes(k)),
-        Plane::Table => part(file, t.table, 2 * plan::own_weights(t)),
+        Plane::Values => part(file, t.value, plane_bytes(k)),
+        Plane::Guides => part(file, t.guide, plane_bytes(k)),
+        Plane::Table => part(file, t.table, 2 * own_weights(t)),
     }
 }
 

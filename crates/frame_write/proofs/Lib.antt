@@ -1,4 +1,3 @@
-pub mod Stores
 pub mod Writing
 pub mod RoundTrip
 pub mod Reopening

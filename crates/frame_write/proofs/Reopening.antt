@@ -30,7 +30,7 @@ abbrev sizeIn : Report → ℕ
 sizeIn (wrote n) = n
 sizeIn (declined m l) = 0
 
-answered : (o : Outcome) (n m : ℕ) → wrote n ≡ reportOf o m → (o ≡ accepted) × (n ≡ m)
+pub answered : (o : Outcome) (n m : ℕ) → wrote n ≡ reportOf o m → (o ≡ accepted) × (n ≡ m)
 answered accepted n m e = (refl, ap sizeIn e)
 answered (refused j l) n m e = absurd (subst IsLength e tt)
 

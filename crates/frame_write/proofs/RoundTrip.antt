@@ -20,9 +20,9 @@ use Rattle.spec.specs.Frame.{pixels, tableSize, table, builtIn, plane, trailerA
 use Rattle.spec.specs.Checks.{heaviest, outside, badMark, settingsOutcome, badDistance, scanFile, valueScan, guideScan, tableScan, contents, trailerOutcome, verdict}
 use Rattle.spec.specs.Writer.{fieldBytes, distanceBytes, written, scanList, writerOutcome}
 use Rattle.spec.proofs.Checks.{scan-none, scan-accepted}
-use Rattle.frame.proofs.Outcomes.{past}
+use Rattle.spec.proofs.Outcomes.{past}
 use Rattle.frame_write.specs.Write.{Returned}
-use Rattle.frame_write.proofs.Stores.{length-all16}
+use Rattle.frame_bytes.proofs.Stores.{length-all16}
 use Rattle.frame_write.proofs.Writing.{fields-long, distances-long, passes, Lengths, lengths}
 
 -- ---- numbers behind a prefix, and in a list of numbers

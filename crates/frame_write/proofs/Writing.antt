@@ -17,9 +17,9 @@ use Rattle.spec.specs.Checks.{heaviest, settingsOutcome}
 use Rattle.spec.specs.Writer.{fieldBytes, distanceBytes, written, writtenSize, badLength, scanList, writerOutcome, stored}
 use Rattle.spec.proofs.Checks.{not-refused, both-accepted, not-fired, neither, both}
 use Rattle.spec.proofs.Limits.{settings-limits}
-use Rattle.frame.proofs.Outcomes.{past}
+use Rattle.spec.proofs.Outcomes.{past}
 use Rattle.frame_write.specs.Write.{reportOf, Fit}
-use Rattle.frame_write.proofs.Stores.{joined, length-all16}
+use Rattle.frame_bytes.proofs.Stores.{joined, length-all16}
 
 -- ---- the checks, one after the other
 module _ (k : Settings) (v g a : List ℕ) (room : ℕ) where

@@ -1,16 +1,22 @@
 // The writer of a frame: checks first, then every byte straight to its place in the lent output. Any arguments are taken; a refusal changes no byte.
-mod put;
-
-use frame::check;
+use frame_bytes::put_all;
+use frame_bytes::put_distances;
+use frame_bytes::put_fields;
+use frame_contents::HEAVIEST;
+use frame_contents::too_large;
+use frame_limits::check_settings;
+use frame_limits::product;
 use spec::Refusal;
 use spec::Settings;
 use spec::Verdict;
+use spec::stops;
 ghost use mathlib.Core.Path.{_≡_};
 ghost use Prim.Native.Nat.{_<_};
 ghost use lib.ListN.{length};
+ghost use lib.Seq.{sets};
 ghost use Rattle.spec.specs.Refusal.{numbered};
-ghost use Rattle.spec.specs.Writer.{badLength, scanList, writerOutcome};
-ghost use Rattle.frame_write.specs.Write.{reported, reportOf, Writes};
+ghost use Rattle.spec.specs.Writer.{written, badLength, scanList, writerOutcome};
+ghost use Rattle.frame_write.specs.Write.{reported, reportOf, Fit, Writes};
 
 // The file's length, or why nothing was written.
 pub enum Written {
@@ -22,7 +28,7 @@ pub enum Written {
 fn bad_length(k: Settings, v: usize, g: usize, a: usize) -> bool
     ensures { λ r. ⌜ r ≡ badLength k v g a ⌝ }
 {
-    let p = check::product(k.width, k.height);
+    let p = product(k.width, k.height);
     if v != p {
         return true;
     }
@@ -35,7 +41,7 @@ fn bad_length(k: Settings, v: usize, g: usize, a: usize) -> bool
     if k.kind != 1 {
         return true;
     }
-    let c = check::product(k.guides, k.guides);
+    let c = product(k.guides, k.guides);
     a != c
 }
 
@@ -47,7 +53,7 @@ fn scan_list(list: &[u16], limit: u16, offset: usize) -> Verdict
     let mut k = 0;
     while k < list.len() {
         if limit <= list[k] {
-            return check::too_large(offset + 2 * k);
+            return too_large(offset + 2 * k);
         }
         k += 1;
     }
@@ -58,24 +64,24 @@ fn scan_list(list: &[u16], limit: u16, offset: usize) -> Verdict
 fn check_writing(k: Settings, values: &[u16], guides: &[u16], table: &[u16], room: usize) -> Verdict
     ensures { λ r. ⌜ numbered r ≡ writerOutcome k (now (values .entry)) (now (guides .entry)) (now (table .entry)) room ⌝ }
 {
-    let s = check::check_settings(k);
-    if check::stops(s) {
+    let s = check_settings(k);
+    if stops(s) {
         return s;
     }
     if bad_length(k, values.len(), guides.len(), table.len()) {
         return Verdict::Refused(Refusal::Distance);
     }
-    let p = check::product(k.width, k.height);
+    let p = product(k.width, k.height);
     let v = scan_list(values, k.levels, 0);
-    if check::stops(v) {
+    if stops(v) {
         return v;
     }
     let g = scan_list(guides, k.guides, 2 * p);
-    if check::stops(g) {
+    if stops(g) {
         return g;
     }
-    let a = scan_list(table, check::HEAVIEST + 1, 4 * p);
-    if check::stops(a) {
+    let a = scan_list(table, HEAVIEST + 1, 4 * p);
+    if stops(a) {
         return a;
     }
     if room < 4 * p + 2 * table.len() + 28 {
@@ -94,6 +100,21 @@ fn answer(v: Verdict, n: usize) -> Written
     }
 }
 
+// The whole file.
+fn put_file(out: &mut [u8], k: Settings, values: &[u16], guides: &[u16], table: &[u16])
+    requires { ⌜ Fit k (now values) (now guides) (now table) (length (now out)) ⌝ }
+    ensures { λ _. ⌜ now (out .exit) ≡ sets (now (out .entry)) 0 (written k (now (values .entry)) (now (guides .entry)) (now (table .entry))) ⌝ }
+{
+    let p = values.len();
+    let n = table.len();
+    put_all(out, 0, values);
+    put_all(out, 2 * p, guides);
+    put_all(out, 4 * p, table);
+    let at = 4 * p + 2 * n;
+    put_fields(out, at, k);
+    put_distances(out, at + 12, n, p);
+}
+
 // Writes value plane, guide plane, table and trailer without gaps from the output's first byte; an empty table means the built-in weights.
 pub fn write(
     k: Settings,
@@ -105,10 +126,10 @@ pub fn write(
     ensures { λ r. ⌜ Writes k (now (values .entry)) (now (guides .entry)) (now (table .entry)) (now (output .entry)) r (now (output .exit)) ⌝ }
 {
     let verdict = check_writing(k, values, guides, table, output.len());
-    if check::stops(verdict) {
+    if stops(verdict) {
         return answer(verdict, 0);
     }
-    put::put_file(output, k, values, guides, table);
+    put_file(output, k, values, guides, table);
     let size = 4 * values.len() + 2 * table.len() + 28;
     answer(verdict, size)
 }

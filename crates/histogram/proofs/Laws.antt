@@ -1,7 +1,7 @@
 -- Laws of the histogram: a pixel's share, a pixel more or less, and what its places hold for a window.
 -- Assumes nothing.
 use mathlib.Core.Path.{_≡_, refl, sym, ap, _∙_}
-use mathlib.Core.Logic.{_⊎_, inl, inr, ⊎-elim}
+use mathlib.Core.Logic.{⊎-elim}
 use mathlib.Core.Bool.{Bool, true, false}
 use mathlib.Core.List.{List}
 use Prim.Native.Nat.{ℕ, _+_, _-_, _≤_, _<_}
@@ -9,7 +9,8 @@ use native.Mathlib.Omega.{arith}
 use lib.Dec.{eqb, ltb}
 use lib.ListN.{length, getD, set, length-set}
 use lib.Seq.{getD-set-same, getD-set-other}
-use borrow.Author.Tests.{eq-eqb, ne-eqb, eqb-true, eqb-false, lt-ltb, le-ltb}
+use borrow.Author.Tests.{eq-eqb, ne-eqb, lt-ltb, le-ltb}
+use Rattle.ints.specs.Order.{eq-or-ne}
 use Rattle.spec.specs.declared.Plan.{Plan}
 use Rattle.spec.specs.Base.{if_then_else_}
 use Rattle.spec.specs.Frame.{Frame, level, guide, frameOf}
@@ -20,20 +21,6 @@ use Rattle.spec.proofs.Bounds.{over-high}
 use Rattle.pixels.specs.Additive.{changed, Fits}
 use Rattle.pixels.proofs.AdditiveLaws.{changed-none}
 use Rattle.histogram.specs.Histogram.{share, Changed, Histogram}
-
-eq-or-ne : (a b : ℕ) → (a ≡ b) ⊎ (a ≡ b → ⊥)
-eq-or-ne a b = go (eqb a b) refl
-  where
-    go : (q : Bool) → eqb a b ≡ q → (a ≡ b) ⊎ (a ≡ b → ⊥)
-    go true e = inl (eqb-true a b e)
-    go false e = inr (eqb-false a b e)
-
--- ---- a number that changes
-pub fits-up : (w : Bool) (a n : ℕ) → w ≡ true → Fits 4294967296 w a n → a + n < 4294967296
-fits-up w a n e h = rw e at h
-
-pub fits-down : (w : Bool) (a n : ℕ) → w ≡ false → Fits 4294967296 w a n → n ≤ a
-fits-down w a n e h = rw e at h
 
 -- ---- a pixel's share
 module _ (l i f : ℕ) where

@@ -1,6 +1,6 @@
 -- The histogram changed by lists of pixels: a turn of the loop, two lists, the window's columns one after the other, and a step of the window.
 -- Assumes nothing.
-use mathlib.Core.Path.{_≡_, sym, ap, ap₂, _∙_, subst}
+use mathlib.Core.Path.{_≡_, sym, _∙_, subst}
 use mathlib.Core.Bool.{Bool, true}
 use mathlib.Core.List.{List}
 use Prim.Native.Nat.{ℕ, _+_, _-_, _≤_, _<_}
@@ -9,23 +9,21 @@ use lib.ListN.{length, getD}
 use Rattle.spec.specs.declared.Plan.{Plan}
 use Rattle.spec.specs.Frame.{frameOf}
 use Rattle.spec.specs.Checks.{Planned}
-use Rattle.spec.specs.Base.{sum}
 use Rattle.spec.specs.Window.{span}
 use Rattle.window.specs.declared.line.Line.{Line}
 use Rattle.window.specs.declared.line.Step.{Step}
-use Rattle.window.specs.Line.{columnLine, Adjacent, stepOf, lineFold}
+use Rattle.window.specs.Line.{columnLine, Adjacent, stepOf}
 use Rattle.window.proofs.PixelLaws.{guides-high, levels-high}
-use Rattle.window.proofs.LineLaws.{fold-none, fold-more, columns-law}
 use Rattle.pixels.specs.Pixels.{countOf, levelIn, guideIn, pixelFold, PixelsBelow, LinePixels}
 use Rattle.pixels.specs.Additive.{changed, Fits, PassedTo, Exchanged, Exchangeable}
-use Rattle.pixels.proofs.AdditiveLaws.{passed-next, room-next, high, leaving-there, slid}
+use Rattle.pixels.proofs.AdditiveLaws.{columns-none, columns-more, columns-window, high, naturals, passed-next, room-next, leaving-there, slid}
 use Rattle.window.proofs.FormLaws.{both-in}
 use Rattle.histogram.specs.Histogram.{share, Changed, Blank, Filled, Histogram}
 use Rattle.histogram.specs.Places.{Place, shareAt, numberAt, RoomFor}
 use Rattle.histogram.proofs.Laws.{own-count, own-sum, share-le, place-of, histogram-of, held-high, levels-same}
 
 module _ {w : Bool} {l : ℕ} {p xs : List ℕ} (v : PixelsBelow l 256 p) (rm : RoomFor w l p xs) {k : ℕ} (h : k < countOf p) (ys : List ℕ)
-    (g : PassedTo (shareAt l) w p k (numberAt l xs) (numberAt l ys)) where
+    (g : PassedTo _+_ 0 (shareAt l) changed w p k (numberAt l xs) (numberAt l ys)) where
   abbrev i : ℕ
   i = levelIn p k
 
@@ -43,8 +41,8 @@ module _ {w : Bool} {l : ℕ} {p xs : List ℕ} (v : PixelsBelow l 256 p) (rm : 
         takes (record { at = l + i; low = omega arith }) f (own-sum l i f low),
       )
 
-  pub turn-next : {zs : List ℕ} → Changed w l i f ys zs → PassedTo (shareAt l) w p (k + 1) (numberAt l xs) (numberAt l zs)
-  turn-next c = passed-next (shareAt l) g (λ q. c .cells (q .at))
+  pub turn-next : {zs : List ℕ} → Changed w l i f ys zs → PassedTo _+_ 0 (shareAt l) changed w p (k + 1) (numberAt l xs) (numberAt l zs)
+  turn-next c = passed-next naturals (shareAt l) g (λ q. c .cells (q .at))
 
 -- ---- a list adds little
 module _ {l : ℕ} {p : List ℕ} (v : PixelsBelow l 256 p) where
@@ -58,14 +56,11 @@ below pl u = record { few = u .few; level = u .level; guide = λ k h. omega (ari
 
 -- ---- column by column
 module _ {b : List ℕ} {z : Plan} (pl : Planned b z) where
-  abbrev columns : ℕ → ℕ → ℕ → ℕ → ℕ
-  columns x t q n = sum (λ a. lineFold _+_ 0 b (columnLine z a t) (share (z .levels) q)) x n
-
   pub filled-start : (x t : ℕ) {xs : List ℕ} → Blank (z .levels) xs → Filled b z x t 0 xs
   filled-start x t o = record {
     long = o .long;
     low = λ q l. omega (arith, o .zeros q l);
-    cells = λ q l. o .zeros q l ∙ sym (fold-none _+_ 0 (λ a. lineFold _+_ 0 b (columnLine z a t) (share (z .levels) q)) x);
+    cells = λ q l. o .zeros q l ∙ sym (columns-none _+_ 0 b z x t (share (z .levels) q));
   }
 
   module _ {x t n : ℕ} {xs : List ℕ} (v : Filled b z x t n xs) {d : Line} (ed : d ≡ columnLine z (x + n) t) {p : List ℕ} (r : LinePixels b z d p) where
@@ -75,19 +70,16 @@ module _ {b : List ℕ} {z : Plan} (pl : Planned b z) where
       record { fits = λ q. omega (arith, v .low (q .at) (q .low), list-high (below pl (r .below)) q) },
     )
 
-    pub filled-next : {ys : List ℕ} → length ys ≡ length xs → PassedTo (shareAt (z .levels)) true p (countOf p) (numberAt (z .levels) xs) (numberAt (z .levels) ys) → Filled b z x t (n + 1) ys
+    pub filled-next : {ys : List ℕ} → length ys ≡ length xs → PassedTo _+_ 0 (shareAt (z .levels)) changed true p (countOf p) (numberAt (z .levels) xs) (numberAt (z .levels) ys) → Filled b z x t (n + 1) ys
     unfolding changed
     filled-next e g = record {
       long = rw e (v .long);
       low = λ q l. let a : Place (z .levels) = record { at = q; low = l } in omega (arith, g .cells a, v .low q l, list-high (below pl (r .below)) a);
-      cells = λ q l.
-          g .cells (record { at = q; low = l })
-          ∙ ap₂ _+_ (v .cells q l) (r .sum (share (z .levels) q) ∙ ap (λ (y : Line). lineFold _+_ 0 b y (share (z .levels) q)) ed)
-          ∙ sym (fold-more _+_ 0 (λ a. lineFold _+_ 0 b (columnLine z a t) (share (z .levels) q)) x n);
+      cells = λ q l. let h = share (z .levels) q in omega (arith, g .cells (record { at = q; low = l }), v .cells q l, columns-more _+_ 0 b z x t h n p ed (r .sum h));
     }
 
   pub filled-end : {s t n x : ℕ} {xs : List ℕ} → x ≡ s - z .radius → n ≡ span (z .radius) s (z .width) → Filled b z x t n xs → Histogram (frameOf b) s t xs
-  filled-end {s} {t} ex en v = histogram-of pl (v .long) (λ q l. v .cells q l ∙ ap₂ (λ (u m : ℕ). columns u t q m) ex en ∙ sym (columns-law _+_ 0 pl (share (z .levels) q) s t))
+  filled-end {s} {t} {x = x} ex en v = histogram-of pl (v .long) (λ q l. v .cells q l ∙ columns-window _+_ 0 b z x t (share (z .levels) q) pl s ex en)
 
 -- ---- a step of the window
 module _ {b : List ℕ} {z : Plan} (pl : Planned b z) {s t s′ t′ : ℕ} (adj : Adjacent z s t s′ t′) {d : Step} (ed : d ≡ stepOf z s t s′ t′)
@@ -107,6 +99,6 @@ module _ {b : List ℕ} {z : Plan} (pl : Planned b z) {s t s′ t′ : ℕ} (adj
     },
   )
 
-  pub exchanged-histogram : {ys : List ℕ} → length ys ≡ length xs → Exchanged (shareAt L) e l (numberAt L xs) (numberAt L ys) → Histogram (frameOf b) s′ t′ ys
+  pub exchanged-histogram : {ys : List ℕ} → length ys ≡ length xs → Exchanged _+_ 0 (shareAt L) e l (numberAt L xs) (numberAt L ys) → Histogram (frameOf b) s′ t′ ys
   exchanged-histogram n x =
-      histogram-of pl (rw n long) (λ q lo. slid (shareAt L) pl adj ed re rl (λ q. place-of pl v (q .at) (q .low)) x (record { at = q; low = lo }))
+      histogram-of pl (rw n long) (λ q lo. slid naturals (shareAt L) pl adj ed e l (re .sum) (rl .sum) x (record { at = q; low = lo }) (place-of pl v q lo))

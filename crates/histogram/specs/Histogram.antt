@@ -7,10 +7,10 @@ use Prim.Native.Nat.{ℕ, _+_, _-_, _*_, _≤_, _<_}
 use lib.Dec.{eqb, ltb}
 use lib.ListN.{length, getD}
 use Rattle.spec.specs.declared.Plan.{Plan}
-use Rattle.spec.specs.Base.{if_then_else_, sum}
+use Rattle.spec.specs.Base.{if_then_else_}
 use Rattle.spec.specs.Frame.{Frame, level, guide}
 use Rattle.spec.specs.Window.{Σ}
-use Rattle.window.specs.Line.{columnLine, lineFold}
+use Rattle.pixels.specs.Pixels.{columnsFold}
 use Rattle.pixels.specs.Additive.{changed}
 
 -- what a pixel of level i and guide f adds at place k, of l levels
@@ -31,7 +31,7 @@ pub record Blank (l : ℕ) (xs : List ℕ) : Type 0 where
 pub record Filled (b : List ℕ) (z : Plan) (x t n : ℕ) (xs : List ℕ) : Type 0 where
   pub long : z .levels + z .levels ≤ length xs
   pub low : (k : ℕ) → k < z .levels + z .levels → getD xs k 0 ≤ 7936 * n
-  pub cells : (k : ℕ) → k < z .levels + z .levels → getD xs k 0 ≡ sum (λ a. lineFold _+_ 0 b (columnLine z a t) (share (z .levels) k)) x n
+  pub cells : (k : ℕ) → k < z .levels + z .levels → getD xs k 0 ≡ columnsFold _+_ 0 b z x t (share (z .levels) k) n
 
 -- the window at (s, t)
 pub record Histogram (p : Frame) (s t : ℕ) (xs : List ℕ) : Type 0 where

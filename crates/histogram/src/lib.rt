@@ -1,33 +1,20 @@
 // The window's histogram of levels, with guide sums: for l levels, place i of a list is level i's count and place l + i its guide sum. Way 1 keeps
 // it beside its store in kind 2, where a level's weight takes no more than these two numbers.
+use pixels::store::change;
 use spec::Guide;
 use spec::Level;
 use spec::Plan;
 use window::line::column_line;
 use window::line::low;
 use window::line::span_of;
-ghost use mathlib.Core.Path.{_≡_};
 ghost use Prim.Native.Nat.{_+_, _<_, _≤_};
-ghost use lib.ListN.{length, getD, set};
+ghost use lib.ListN.{length, getD};
 ghost use Rattle.spec.specs.Frame.{frameOf};
 ghost use Rattle.spec.specs.Checks.{Planned};
 ghost use Rattle.pixels.specs.Pixels.{countOf, PixelsBelow};
 ghost use Rattle.pixels.specs.Additive.{changed, Fits, PassedTo, Exchanged, Exchangeable};
 ghost use Rattle.histogram.specs.Places.{shareAt, numberAt, RoomFor};
 ghost use Rattle.histogram.specs.Histogram.{Changed, Blank, Histogram};
-
-// A number raised or lowered.
-pub fn change(numbers: &mut [u32], at: usize, v: u32, enters: bool)
-    requires { ⌜ (at < length (now numbers)) × (Fits 4294967296 enters (getD (now numbers) at 0) v) ⌝ }
-    ensures { λ _. ⌜ now (numbers .exit) ≡ set (now (numbers .entry)) at (changed enters (getD (now (numbers .entry)) at 0) v) ⌝ }
-{
-    let n = numbers[at];
-    if enters {
-        numbers[at] = n + v;
-        return;
-    }
-    numbers[at] = n - v;
-}
 
 // A pixel that enters the window or leaves it.
 pub fn change_pixel(numbers: &mut [u32], l: usize, level: Level, guide: Guide, enters: bool)
@@ -46,8 +33,8 @@ pub fn change_pixel(numbers: &mut [u32], l: usize, level: Level, guide: Guide, e
 pub fn change_pixels(p: &[u16], l: usize, enters: bool, numbers: &mut [u32])
     requires { ⌜ (l ≤ 1024) × (l + l ≤ length (now numbers)) × (PixelsBelow l 256 (now p)) ⌝ }
     requires { ⌜ RoomFor enters l (now p) (now numbers) ⌝ }
-    ensures { λ _. ⌜ PassedTo (shareAt l) enters (now (p .entry)) (countOf (now (p .entry))) (numberAt l (now (numbers .entry))) (numberAt l (now
-        (numbers .exit))) ⌝ }
+    ensures { λ _. ⌜ PassedTo _+_ 0 (shareAt l) changed enters (now (p .entry)) (countOf (now (p .entry))) (numberAt l (now (numbers .entry)))
+        (numberAt l (now (numbers .exit))) ⌝ }
 {
     let n = p.len() / 2;
     let mut k = 0;
@@ -63,27 +50,27 @@ pub fn change_pixels(p: &[u16], l: usize, enters: bool, numbers: &mut [u32])
 pub fn exchange(entering: &[u16], leaving: &[u16], l: usize, numbers: &mut [u32])
     requires { ⌜ (l ≤ 1024) × (l + l ≤ length (now numbers)) × (PixelsBelow l 256 (now entering)) × (PixelsBelow l 256 (now leaving)) ⌝ }
     requires { ⌜ Exchangeable (shareAt l) 4294967296 (now entering) (now leaving) (numberAt l (now numbers)) ⌝ }
-    ensures { λ _. ⌜ Exchanged (shareAt l) (now (entering .entry)) (now (leaving .entry)) (numberAt l (now (numbers .entry))) (numberAt l (now
-        (numbers .exit))) ⌝ }
+    ensures { λ _. ⌜ Exchanged _+_ 0 (shareAt l) (now (entering .entry)) (now (leaving .entry)) (numberAt l (now (numbers .entry)))
+        (numberAt l (now (numbers .exit))) ⌝ }
 {
     change_pixels(entering, l, true, numbers);
     change_pixels(leaving, l, false, numbers);
 }
 
 // Of the window at (s, t), in numbers that are all 0.
-pub fn start(file: &[u8], z: Plan, s: usize, t: usize, numbers: &mut [u32])
-    requires { ⌜ (Planned (now file) z) × (s < z .width) × (t < z .height) ⌝ }
-    requires { ⌜ Blank (z .levels) (now numbers) ⌝ }
+pub fn start(file: &[u8], plan: Plan, s: usize, t: usize, numbers: &mut [u32])
+    requires { ⌜ (Planned (now file) plan) × (s < plan .width) × (t < plan .height) ⌝ }
+    requires { ⌜ Blank (plan .levels) (now numbers) ⌝ }
     ensures { λ _. ⌜ Histogram (frameOf (now (file .entry))) s t (now (numbers .exit)) ⌝ }
 {
-    let x = low(s, z.radius);
-    let n = span_of(s, z.radius, z.width);
+    let x = low(s, plan.radius);
+    let n = span_of(s, plan.radius, plan.width);
     let mut k = 0;
     while k < n {
         let mut places = [0u16; 62];
-        let d = column_line(z, x + k, t);
-        let p = pixels::read(file, z, d, &mut places);
-        change_pixels(&places[0..p], z.levels, true, numbers);
+        let line = column_line(plan, x + k, t);
+        let p = pixels::read(file, plan, line, &mut places);
+        change_pixels(&places[0..p], plan.levels, true, numbers);
         k += 1;
     }
 }

@@ -5,7 +5,6 @@ use mathlib.Core.Path.{_≡_, refl, ap, ap₂, sym, _∙_, subst}
 use mathlib.Core.Bool.{true, false}
 use mathlib.Core.Logic.{_⊎_, inl, inr}
 use mathlib.Core.List.{List, _++_}
-use native.Mathlib.Omega.{arith}
 use lib.IntN.{pos}
 use lib.ListN.{length, take, drop, take-append-drop}
 use Rattle.spec.specs.declared.Settings.{Settings}
@@ -23,7 +22,7 @@ use Rattle.spec.specs.Calls.{wayOf, roomOf, countsOf, wordsOf, walkOutcome, fil
 use Rattle.spec.proofs.Plans.{facts}
 use Rattle.spec.proofs.Calls.{way-serves, Fits, walk-accepted, filter-accepted, balance-accepted}
 use Rattle.frame.specs.declared.plan.Opened.{Opened}
-use Rattle.frame.specs.Parts.{openedPlan}
+use Rattle.frame.specs.Plan.{openedPlan}
 use Rattle.ice_walk.specs.declared.Walked.{Walked}
 use Rattle.ice.specs.declared.Balanced.{Balanced}
 use Rattle.ways.specs.Visit.{Stores, lent, Fit, Serves}

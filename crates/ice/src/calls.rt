@@ -2,7 +2,6 @@
 // fires.
 use crate::Balanced;
 use balance::balance_at;
-use frame::check::stops;
 use frame::plan::open_plan;
 use ice_walk::Walked;
 use ice_walk::filter::sweep;
@@ -10,6 +9,7 @@ use ice_walk::walk::travel;
 use spec::Level;
 use spec::Room;
 use spec::Verdict;
+use spec::stops;
 ghost use Rattle.ways.specs.Visit.{stores};
 ghost use Rattle.ice.specs.Result.{Zeroed};
 ghost use Rattle.ice.specs.Contract.{Walks, Filters, Balances};

@@ -1,19 +1,18 @@
 -- Statuses, offsets and lent results of the exported calls.
 -- Assumes nothing.
 use Prim.Native.Nat.{ℕ, _<_}
-use mathlib.Core.Path.{_≡_, refl, ap, sym, _∙_}
+use mathlib.Core.Path.{_≡_, refl, ap, sym, subst, _∙_}
 use mathlib.Core.List.{List}
 use native.Mathlib.Omega.{arith}
 use lib.IntN.{ℤ}
 use lib.ListN.{length}
-use borrow.Author.Tests.{eq-eqb, ne-eqb}
 use Rattle.spec.specs.declared.Settings.{Settings}
 use Rattle.spec.specs.declared.Way.{Way}
 use Rattle.spec.specs.declared.Refusal.{Refusal}
-use Rattle.spec.specs.declared.Refusal.the-variants as refusal
 use Rattle.spec.specs.declared.Verdict.{Verdict}
-use Rattle.spec.specs.declared.Verdict.the-variants.{Accepted, Refused}
-use Rattle.spec.specs.Refusal.{Outcome, accepted, refused, numbered, number, offsetOf}
+use Rattle.spec.specs.declared.Verdict.the-variants.{Refused}
+use Rattle.spec.specs.Refusal.{Outcome, accepted, refused, numbered}
+use Rattle.spec.specs.Checks.{settingsOutcome}
 use Rattle.spec.specs.Frame.{Frame}
 use Rattle.spec.specs.Walk.{State}
 use Rattle.spec.specs.Writer.{writerOutcome}
@@ -23,36 +22,12 @@ use Rattle.ice.specs.declared.Balanced.{Balanced}
 use Rattle.ice.specs.Contract.{Untouched, Ended, Walks, Filters, Balances}
 use Rattle.frame_write.specs.declared.Written.{Written}
 use Rattle.frame_write.specs.declared.Written.the-variants as written
-use Rattle.frame_write.specs.Write.{wrote, declined, reportOf, Writes}
-use Rattle.icemedian_c.specs.Exports.{statusOf, given, Reported, Called, resultAt, WalkCall, FilterCall, BalanceCall, WriteCall}
-
--- ---- the report of a refusal r: n is its number
-module _ {v : Verdict} {r : Refusal} (e : v ≡ Refused r) {n : ℕ} (is : n ≡ number r) {status : ℕ} (status-is : status ≡ n) {old : ℕ} where
-  pub offset-written : {at new : ℕ} → at ≡ offsetOf r → new ≡ at → n ≡ 7 → Reported (numbered v) status old new
-  offset-written o new-is h =
-      rw e (record { status-is = status-is ∙ is; offset-is = rw (eq-eqb (number r) 7 (sym is ∙ h)) (new-is ∙ o) })
-
-  pub offset-kept : (n ≡ 7 → ⊥) → Reported (numbered v) status old old
-  offset-kept h = rw e (record { status-is = status-is ∙ is; offset-is = rw (ne-eqb (number r) 7 (λ q. h (is ∙ q))) refl })
-
--- ---- the status tells a refusal
-positive : (r : Refusal) → 0 < number r
-positive refusal.Mark = omega arith
-positive refusal.Size = omega arith
-positive refusal.Counts = omega arith
-positive refusal.Kind = omega arith
-positive refusal.Radius = omega arith
-positive refusal.Distance = omega arith
-positive (refusal.Contents o) = omega arith
-positive refusal.Way = omega arith
-positive refusal.Start = omega arith
-positive refusal.Moves = omega arith
-positive refusal.Room = omega arith
-positive refusal.Program = omega arith
-
-passes : (v : Verdict) → statusOf (numbered v) ≡ 0 → numbered v ≡ accepted
-passes Accepted e = refl
-passes (Refused r) e = let h = positive r in absurd (omega arith)
+use Rattle.frame_write.specs.Write.{declined, reportOf, Writes}
+use Rattle.frame_write.proofs.Reopening.{answered}
+use Rattle.c_values.specs.Results.{statusOf, given, byStatus, Reported}
+use Rattle.c_values.specs.Settings.{Narrowed}
+use Rattle.c_values.proofs.ResultLaws.{passes, by-status}
+use Rattle.icemedian_c.specs.Exports.{Called, resultAt, WalkCall, FilterCall, BalanceCall, WriteCall}
 
 module _ (v : Verdict) {o : Outcome} {r old new : ℕ} (is : numbered v ≡ o) (h : Reported (numbered v) r old new) where
   pub reported : Reported o r old new
@@ -63,6 +38,14 @@ module _ (v : Verdict) {o : Outcome} {r old new : ℕ} (is : numbered v ≡ o) (
 
   pub passed : r ≡ 0 → o ≡ accepted
   passed z = sym is ∙ passes v (sym (h .status-is) ∙ z)
+
+  -- a lent result told by the status
+  pub lends : {A : Type 0} {now new due : A} (old : A) → now ≡ byStatus r new old → (o ≡ accepted → new ≡ due) → now ≡ given o due old
+  lends {A} {now} {new} {due} old e f = e ∙ by-status v h new old ∙ ap (λ (u : Outcome). given u new old) is ∙ chosen o f
+    where
+      chosen : (u : Outcome) → (u ≡ accepted → new ≡ due) → given u new old ≡ given u due old
+      chosen accepted g = g refl
+      chosen (refused n l) g = refl
 
 kept : {A : Type 0} (o : Outcome) (new old : A) → (o ≡ accepted → ⊥) → old ≡ given o new old
 kept accepted new old n = absurd (n refl)
@@ -98,35 +81,20 @@ module _ {o : Outcome} {way : Way} {p : Frame} {x : State} {a z : Stores} {due b
         answers = h .answers;
       }
 
-  called-stopped : {old : ℕ} → (o ≡ accepted → ⊥) → Called o way p x a z due before after old old
-  called-stopped n = record { shifts-is = kept _ _ _ n; refused-keeps = buffers-kept; accepted-ends = buffers-ended }
-
-  called-passed : {old new : ℕ} → o ≡ accepted → new ≡ r .shifts → Called o way p x a z due before after old new
-  called-passed e is =
-      record { shifts-is = is ∙ ended e .shifts ∙ gained _ _ _ e; refused-keeps = buffers-kept; accepted-ends = buffers-ended }
+  called : {old new : ℕ} → new ≡ given o (x .shifts) old → Called o way p x a z due before after old new
+  called is = record { shifts-is = is; refused-keeps = buffers-kept; accepted-ends = buffers-ended }
 
 module _ {b : List ℕ} {way s t : ℕ} {moves : List ℕ} {a z : Stores} {before after : List ℕ} {w : Walked}
     (h : Walks b way s t moves a z before after w) {r offset₀ offset : ℕ} (q : Reported (numbered (w .verdict)) r offset₀ offset)
     {shifts₀ cut₀ : ℕ} {cells₀ : List ℤ} where
-  pub walk-stopped : 0 < r → WalkCall b way s t moves a z before after r shifts₀ shifts₀ cut₀ cut₀ cells₀ cells₀ offset₀ offset
-  walk-stopped l =
-      let n = stopped (w .verdict) (h .verdict) q l in
+  pub walk-called : {shifts cut : ℕ} {cells : List ℤ} → shifts ≡ byStatus r (w .shifts) shifts₀ → cut ≡ byStatus r (w .cut .0) cut₀
+      → cells ≡ byStatus r (w .cells) cells₀ → WalkCall b way s t moves a z before after r shifts₀ shifts cut₀ cut cells₀ cells offset₀ offset
+  walk-called es ec eb =
       record {
         reported = reported (w .verdict) (h .verdict) q;
-        called = called-stopped (h .refused) (h .walked) n;
-        cut-is = kept _ _ _ n;
-        cells-is = kept _ _ _ n;
-      }
-
-  pub walk-passed : {shifts cut : ℕ} {cells : List ℤ} → r ≡ 0 → shifts ≡ w .shifts → cut ≡ w .cut .0 → cells ≡ w .cells
-      → WalkCall b way s t moves a z before after r shifts₀ shifts cut₀ cut cells₀ cells offset₀ offset
-  walk-passed l es ec eb =
-      let e = passed (w .verdict) (h .verdict) q l in
-      record {
-        reported = reported (w .verdict) (h .verdict) q;
-        called = called-passed (h .refused) (h .walked) e es;
-        cut-is = ec ∙ h .walked e .cut ∙ gained _ _ _ e;
-        cells-is = eb ∙ h .walked e .cells ∙ gained _ _ _ e;
+        called = called (h .refused) (h .walked) (lends (w .verdict) (h .verdict) q _ es (λ e. h .walked e .shifts));
+        cut-is = lends (w .verdict) (h .verdict) q _ ec (λ e. h .walked e .cut);
+        cells-is = lends (w .verdict) (h .verdict) q _ eb (λ e. h .walked e .cells);
       }
 
 module _ {b : List ℕ} {way : ℕ} {a z : Stores} {before after : List ℕ} {w : Walked} (h : Filters b way a z before after w)
@@ -135,14 +103,15 @@ module _ {b : List ℕ} {way : ℕ} {a z : Stores} {before after : List ℕ} {w 
   filter-stopped l =
       record {
         reported = reported (w .verdict) (h .verdict) q;
-        called = called-stopped (h .refused) (h .filtered) (stopped (w .verdict) (h .verdict) q l);
+        called = called (h .refused) (h .filtered) (kept _ _ _ (stopped (w .verdict) (h .verdict) q l));
       }
 
   pub filter-passed : {shifts : ℕ} → r ≡ 0 → shifts ≡ w .shifts → FilterCall b way a z before after r shifts₀ shifts offset₀ offset
   filter-passed l es =
+      let e = passed (w .verdict) (h .verdict) q l in
       record {
         reported = reported (w .verdict) (h .verdict) q;
-        called = called-passed (h .refused) (h .filtered) (passed (w .verdict) (h .verdict) q l) es;
+        called = called (h .refused) (h .filtered) (es ∙ h .filtered e .shifts ∙ gained _ _ _ e);
       }
 
 -- ---- balance
@@ -158,18 +127,24 @@ module _ {b : List ℕ} {s t i : ℕ} {w : Balanced} (h : Balances b s t i w) {r
       record { reported = reported (w .verdict) (h .verdict) q; balance-is = is ∙ h .balanced e ∙ gained _ _ _ e }
 
 -- ---- the writer
-wrote-accepted : (o : Outcome) (n m : ℕ) → wrote n ≡ reportOf o m → (o ≡ accepted) × (n ≡ m)
-wrote-accepted accepted n m e = (refl, cc)
-wrote-accepted (refused k l) n m e = let z : _≡_ {A = ℕ} 0 1 = cc in absurd (omega arith)
-
 declined-refused : (o : Outcome) (n k : ℕ) (l : List ℕ) → declined k l ≡ reportOf o n → o ≡ refused k l
 declined-refused accepted n k l e = let z : _≡_ {A = ℕ} 0 1 = cc in absurd (omega arith)
 declined-refused (refused j m) n k l e = cc
 
+-- the writer does the same with both
+pub writes-narrowed : {k s : Settings} {v g a old : List ℕ} {r : Written} {new : List ℕ} → Narrowed k s → Writes s v g a old r new
+    → Writes k v g a old r new
+unfolding writerOutcome
+writes-narrowed {k} {s} {v} {g} {a} {old} {r} {new} n h = go (settingsOutcome k) refl
+  where
+    go : (o : Outcome) → settingsOutcome k ≡ o → Writes k v g a old r new
+    go accepted e = subst (λ (x : Settings). Writes x v g a old r new) (n .whole e) h
+    go (refused m l) e = record { answer = rw e (rw (n .same ∙ e) at (h .answer)); output = rw e (rw (n .same ∙ e) at (h .output)) }
+
 module _ {k : Settings} {v g a old : List ℕ} {w : Written} {new : List ℕ} (h : Writes k v g a old w new) {len₀ offset₀ : ℕ} where
   pub write-passed : {n len : ℕ} → w ≡ written.Length n → len ≡ n → WriteCall k v g a old new 0 len₀ len offset₀ offset₀
   write-passed e is =
-      let q = wrote-accepted (writerOutcome k v g a (length old)) _ _ (rw e at (h .answer)) in
+      let q = answered (writerOutcome k v g a (length old)) _ _ (rw e at (h .answer)) in
       record {
         reported = rw (q .0) (record { status-is = refl; offset-is = refl });
         length-is = is ∙ q .1 ∙ gained _ _ _ (q .0);

@@ -1,2 +1,1 @@
-pub mod SettingsLaws
 pub mod ExportLaws

@@ -1,52 +1,24 @@
--- What the exported calls give back: a status and an offset for each outcome, and the results of the calls that they stand for.
+-- What the exported calls give back: the results of the calls that they stand for.
 -- Assumes nothing.
 use Prim.Native.Nat.{ℕ, _+_}
 use mathlib.Core.Path.{_≡_}
-use mathlib.Core.List.{List, [], _∷_, _++_}
-use lib.Dec.{eqb}
+use mathlib.Core.List.{List, _++_}
 use lib.IntN.{ℤ}
 use lib.ListN.{length, drop}
 use Rattle.spec.specs.declared.Settings.{Settings}
 use Rattle.spec.specs.declared.Way.{Way}
 use Rattle.spec.specs.declared.Verdict.the-variants.{Accepted}
-use Rattle.spec.specs.Base.{if_then_else_}
-use Rattle.spec.specs.Refusal.{Outcome, accepted, refused}
+use Rattle.spec.specs.Refusal.{Outcome, accepted}
 use Rattle.spec.specs.Frame.{Frame, frameOf, pixels}
 use Rattle.spec.specs.Median.{balance}
 use Rattle.spec.specs.Walk.{State, walkEnd, walkAnswers}
 use Rattle.spec.specs.Filter.{filtered, filterEnd}
 use Rattle.spec.specs.Calls.{wayOf, boxOf, walkOutcome, filterOutcome, balanceOutcome}
-use Rattle.spec.specs.Checks.{settingsOutcome}
 use Rattle.spec.specs.Writer.{written, writtenSize, writerOutcome, stored}
+use Rattle.c_values.specs.Results.{given, Reported}
 use Rattle.ways.specs.Visit.{Stores, lent}
 use Rattle.ice_walk.specs.declared.Walked.{Walked}
 use Rattle.ice.specs.Contract.{Ended}
-
--- ---- status, lent results, offset
-
--- 0, or document 01's number
-abbrev pub statusOf : Outcome → ℕ
-statusOf accepted = 0
-statusOf (refused n l) = n
-
--- a lent result after the call: the new content where accepted, the old one where refused
-abbrev pub given : {A : Type 0} → Outcome → A → A → A
-given accepted new old = new
-given (refused n l) new old = old
-
-abbrev pub firstOr : ℕ → List ℕ → ℕ
-firstOr old [] = old
-firstOr old (v ∷ vs) = v
-
--- the lent offset after the call: the value beside number 7, else the old content
-abbrev pub offsetAfter : Outcome → ℕ → ℕ
-offsetAfter accepted old = old
-offsetAfter (refused n l) old = if eqb n 7 then firstOr old l else old
-
--- the status r, and the offset before and after
-pub record Reported (o : Outcome) (r old new : ℕ) : Type 0 where
-  pub status-is : r ≡ statusOf o
-  pub offset-is : new ≡ offsetAfter o old
 
 -- ---- walk and filter
 
@@ -87,16 +59,6 @@ pub record BalanceCall (b : List ℕ) (s t i r : ℕ) (old new : ℤ) (offset₀
   pub balance-is : new ≡ given (balanceOutcome b s t i) (balance (frameOf b) s t i) old
 
 -- ---- write
-
--- the settings that seven numbers make, of any size
-abbrev pub settingsFrom : ℕ → ℕ → ℕ → ℕ → ℕ → ℕ → ℕ → Settings
-settingsFrom w h l m k r e = record { width = w; height = h; levels = l; guides = m; kind = k; radius = r; smoothing = e }
-
--- the settings k that the seven numbers make and those, s, that their fields hold: checks 2 to 5 say the same of both, and only of equal ones that
--- they pass
-pub record Narrowed (k s : Settings) : Type 0 where
-  pub same : settingsOutcome s ≡ settingsOutcome k
-  pub whole : settingsOutcome k ≡ accepted → s ≡ k
 
 pub record WriteCall (k : Settings) (v g a old new : List ℕ) (r len₀ len offset₀ offset : ℕ) : Type 0 where
   pub reported : Reported (writerOutcome k v g a (length old)) r offset₀ offset

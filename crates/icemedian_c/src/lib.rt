@@ -1,33 +1,17 @@
 // The calls for C and Rust: numbers and slices as pointer and length, a status out (0, or document 01's number), every other result through a lent
 // number. A refused call writes nothing but the offset of number 7. include/icemedian.h documents them. Each takes any arguments; the work and the
 // promises are those of frame, frame_write and ice.
+use c_values::give_walk;
+use c_values::report;
+use c_values::settings_from;
 use frame_write::Written;
 use ice::calls;
-use spec::Settings;
 use spec::Verdict;
-ghost use mathlib.Core.Path.{_≡_};
-ghost use Prim.Native.Nat.{min};
-ghost use Rattle.spec.specs.Refusal.{numbered};
 ghost use Rattle.spec.specs.Checks.{verdict};
 ghost use Rattle.ways.specs.Visit.{stores};
-ghost use Rattle.icemedian_c.specs.Exports.{Reported, WalkCall, FilterCall, BalanceCall, WriteCall, Narrowed, settingsFrom};
-
-// A verdict as a status, and the offset of number 7.
-fn report(verdict: Verdict, offset: &mut u64) -> u32
-    ensures { λ r. ⌜ Reported (numbered verdict) r (now (offset .entry)) (now (offset .exit)) ⌝ }
-{
-    match verdict {
-        Verdict::Accepted => 0,
-        Verdict::Refused(refusal) => {
-            let number = spec::number_of(refusal) as u32;
-            if number == 7 {
-                let at = spec::offset_of(refusal) as u64;
-                *offset = at;
-            }
-            number
-        }
-    }
-}
+ghost use Rattle.c_values.specs.Results.{Reported};
+ghost use Rattle.c_values.specs.Settings.{settingsFrom};
+ghost use Rattle.icemedian_c.specs.Exports.{WalkCall, FilterCall, BalanceCall, WriteCall};
 
 // Checks 1 to 7.
 #[no_mangle]
@@ -74,13 +58,16 @@ pub extern "C" fn icemedian_walk(
     );
     let v = walked.verdict;
     let status = report(v, offset);
-    if 0 < status {
-        return status;
-    }
-    *shifts = walked.shifts;
-    *cut = walked.cut.0;
     let cells = walked.cells;
-    *balance_box = cells;
+    give_walk(
+        status,
+        walked.shifts,
+        walked.cut.0,
+        cells,
+        shifts,
+        cut,
+        balance_box,
+    );
     status
 }
 
@@ -131,47 +118,6 @@ pub extern "C" fn icemedian_balance(
         *balance = n;
     }
     status
-}
-
-// A number, or the most that its field can hold.
-fn at_most(n: u32, most: u32) -> u32
-    ensures { λ r. ⌜ r ≡ min n most ⌝ }
-{
-    if n < most {
-        return n;
-    }
-    most
-}
-
-// The settings that seven numbers make. A number that its field cannot hold becomes the field's largest, which its own check refuses too: none is cut
-// down to one that passes.
-fn settings_from(
-    width: u32,
-    height: u32,
-    levels: u32,
-    guides: u32,
-    kind: u32,
-    radius: u32,
-    smoothing: u32,
-) -> Settings
-    ensures { λ r. ⌜ Narrowed (settingsFrom width height levels guides kind radius smoothing) r ⌝ }
-{
-    let width = at_most(width, 65535);
-    let height = at_most(height, 65535);
-    let levels = at_most(levels, 65535);
-    let guides = at_most(guides, 65535);
-    let kind = at_most(kind, 255);
-    let radius = at_most(radius, 255);
-    let smoothing = at_most(smoothing, 65535);
-    Settings {
-        width: width as u16,
-        height: height as u16,
-        levels: levels as u16,
-        guides: guides as u16,
-        kind: kind as u8,
-        radius: radius as u8,
-        smoothing: smoothing as u16,
-    }
 }
 
 // Writes a frame into the output.

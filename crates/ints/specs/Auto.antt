@@ -76,7 +76,25 @@ quote₈ a b c d e f g h i ρ = record { expr = var 8; is = refl }
 abbrev pub quote₉ : (a b c d e f g h i j : ℤ) (ρ : List ℤ) → Quoted (a ∷ b ∷ c ∷ d ∷ e ∷ f ∷ g ∷ h ∷ i ∷ j ∷ ρ) j
 quote₉ a b c d e f g h i j ρ = record { expr = var 9; is = refl }
 
-pub ruleset quote = (quote₀, quote₁, quote₂, quote₃, quote₄, quote₅, quote₆, quote₇, quote₈, quote₉, quote-mul, quote-sub, quote-add, quote-opp, quote-lit, quote-neg-lit, tt)
+pub ruleset quote = (
+  quote₀,
+  quote₁,
+  quote₂,
+  quote₃,
+  quote₄,
+  quote₅,
+  quote₆,
+  quote₇,
+  quote₈,
+  quote₉,
+  quote-mul,
+  quote-sub,
+  quote-add,
+  quote-opp,
+  quote-lit,
+  quote-neg-lit,
+  tt,
+)
 
 -- the two sides have one normal form
 pub ring! : (ρ : List ℤ) {x y : ℤ} (p : Quoted ρ x) (q : Quoted ρ y) → normalize (p .expr) ≡ normalize (q .expr) → x ≡ y
@@ -103,19 +121,24 @@ module _ {A : Type 0} {Means : A → ℤ → Type 0} where
   abbrev pub has₄ : (O : Operations A) (a b c d e : Variable A Means) (xs : List (Variable A Means)) → Computed O (a ∷ b ∷ c ∷ d ∷ e ∷ xs) (e .has)
   has₄ O a b c d e xs = record { expr = var 4; is = refl }
 
-  abbrev pub has₅ : (O : Operations A) (a b c d e f : Variable A Means) (xs : List (Variable A Means)) → Computed O (a ∷ b ∷ c ∷ d ∷ e ∷ f ∷ xs) (f .has)
+  abbrev pub has₅ : (O : Operations A) (a b c d e f : Variable A Means) (xs : List (Variable A Means)) →
+      Computed O (a ∷ b ∷ c ∷ d ∷ e ∷ f ∷ xs) (f .has)
   has₅ O a b c d e f xs = record { expr = var 5; is = refl }
 
-  abbrev pub has₆ : (O : Operations A) (a b c d e f g : Variable A Means) (xs : List (Variable A Means)) → Computed O (a ∷ b ∷ c ∷ d ∷ e ∷ f ∷ g ∷ xs) (g .has)
+  abbrev pub has₆ : (O : Operations A) (a b c d e f g : Variable A Means) (xs : List (Variable A Means)) →
+      Computed O (a ∷ b ∷ c ∷ d ∷ e ∷ f ∷ g ∷ xs) (g .has)
   has₆ O a b c d e f g xs = record { expr = var 6; is = refl }
 
-  abbrev pub has₇ : (O : Operations A) (a b c d e f g h : Variable A Means) (xs : List (Variable A Means)) → Computed O (a ∷ b ∷ c ∷ d ∷ e ∷ f ∷ g ∷ h ∷ xs) (h .has)
+  abbrev pub has₇ : (O : Operations A) (a b c d e f g h : Variable A Means) (xs : List (Variable A Means)) →
+      Computed O (a ∷ b ∷ c ∷ d ∷ e ∷ f ∷ g ∷ h ∷ xs) (h .has)
   has₇ O a b c d e f g h xs = record { expr = var 7; is = refl }
 
-  abbrev pub has₈ : (O : Operations A) (a b c d e f g h i : Variable A Means) (xs : List (Variable A Means)) → Computed O (a ∷ b ∷ c ∷ d ∷ e ∷ f ∷ g ∷ h ∷ i ∷ xs) (i .has)
+  abbrev pub has₈ : (O : Operations A) (a b c d e f g h i : Variable A Means) (xs : List (Variable A Means)) →
+      Computed O (a ∷ b ∷ c ∷ d ∷ e ∷ f ∷ g ∷ h ∷ i ∷ xs) (i .has)
   has₈ O a b c d e f g h i xs = record { expr = var 8; is = refl }
 
-  abbrev pub has₉ : (O : Operations A) (a b c d e f g h i j : Variable A Means) (xs : List (Variable A Means)) → Computed O (a ∷ b ∷ c ∷ d ∷ e ∷ f ∷ g ∷ h ∷ i ∷ j ∷ xs) (j .has)
+  abbrev pub has₉ : (O : Operations A) (a b c d e f g h i j : Variable A Means) (xs : List (Variable A Means)) →
+      Computed O (a ∷ b ∷ c ∷ d ∷ e ∷ f ∷ g ∷ h ∷ i ∷ j ∷ xs) (j .has)
   has₉ O a b c d e f g h i j xs = record { expr = var 9; is = refl }
 
 -- ---- signed code
@@ -123,19 +146,22 @@ pub record BeforeStore (w : Width) (xs : List Cell) (x : ℤ) : Type 0 where
   pub expr : Expr
   pub is : beforeStore w xs expr ≡ x
 
-abbrev pub has-add : (w : Width) (xs : List Cell) (x y : ℤ) → Computed (signedOps w) xs x → Computed (signedOps w) xs y → Computed (signedOps w) xs (stored w (x +ℤ y))
+abbrev pub has-add : (w : Width) (xs : List Cell) (x y : ℤ) → Computed (signedOps w) xs x → Computed (signedOps w) xs y →
+    Computed (signedOps w) xs (stored w (x +ℤ y))
 has-add w xs x y p q = record { expr = p .expr ⊕ q .expr; is = ap₂ (λ (a b : ℤ). stored w (a +ℤ b)) (p .is) (q .is) }
 
 abbrev pub before-add : (w : Width) (xs : List Cell) (x y : ℤ) → Computed (signedOps w) xs x → Computed (signedOps w) xs y → BeforeStore w xs (x +ℤ y)
 before-add w xs x y p q = record { expr = p .expr ⊕ q .expr; is = ap₂ (λ (a b : ℤ). a +ℤ b) (p .is) (q .is) }
 
-abbrev pub has-sub : (w : Width) (xs : List Cell) (x y : ℤ) → Computed (signedOps w) xs x → Computed (signedOps w) xs y → Computed (signedOps w) xs (stored w (x -ℤ y))
+abbrev pub has-sub : (w : Width) (xs : List Cell) (x y : ℤ) → Computed (signedOps w) xs x → Computed (signedOps w) xs y →
+    Computed (signedOps w) xs (stored w (x -ℤ y))
 has-sub w xs x y p q = record { expr = p .expr ⊖ q .expr; is = ap₂ (λ (a b : ℤ). stored w (a -ℤ b)) (p .is) (q .is) }
 
 abbrev pub before-sub : (w : Width) (xs : List Cell) (x y : ℤ) → Computed (signedOps w) xs x → Computed (signedOps w) xs y → BeforeStore w xs (x -ℤ y)
 before-sub w xs x y p q = record { expr = p .expr ⊖ q .expr; is = ap₂ (λ (a b : ℤ). a -ℤ b) (p .is) (q .is) }
 
-abbrev pub has-mul : (w : Width) (xs : List Cell) (x y : ℤ) → Computed (signedOps w) xs x → Computed (signedOps w) xs y → Computed (signedOps w) xs (stored w (x *ℤ y))
+abbrev pub has-mul : (w : Width) (xs : List Cell) (x y : ℤ) → Computed (signedOps w) xs x → Computed (signedOps w) xs y →
+    Computed (signedOps w) xs (stored w (x *ℤ y))
 has-mul w xs x y p q = record { expr = p .expr ⊗ q .expr; is = ap₂ (λ (a b : ℤ). stored w (a *ℤ b)) (p .is) (q .is) }
 
 abbrev pub before-mul : (w : Width) (xs : List Cell) (x y : ℤ) → Computed (signedOps w) xs x → Computed (signedOps w) xs y → BeforeStore w xs (x *ℤ y)
@@ -147,24 +173,48 @@ has-lit w xs n t = record { expr = lit (pos n); is = refl }
 abbrev pub has-neg-lit : (w : Width) (xs : List Cell) (n : ℕ) → T (leb n n) → Computed (signedOps w) xs (negsuc n)
 has-neg-lit w xs n t = record { expr = lit (negsuc n); is = refl }
 
-pub ruleset signedCode = (has₀, has₁, has₂, has₃, has₄, has₅, has₆, has₇, has₈, has₉, has-mul, has-sub, has-add, before-mul, before-sub, before-add, has-lit, has-neg-lit, tt)
+pub ruleset signedCode = (
+  has₀,
+  has₁,
+  has₂,
+  has₃,
+  has₄,
+  has₅,
+  has₆,
+  has₇,
+  has₈,
+  has₉,
+  has-mul,
+  has-sub,
+  has-add,
+  before-mul,
+  before-sub,
+  before-add,
+  has-lit,
+  has-neg-lit,
+  tt,
+)
 
 -- a need `add-..`, `sub-..`, `mul-..`
 pub need! : (w : Width) {x : ℤ} (xs : List Cell) (p : BeforeStore w xs x) → T (allBelow (2 ^ hbits w) (bounds xs) (p .expr)) → SFits w x
 need! w xs p t = subst (λ (z : ℤ). SFits w z) (p .is) (need w xs (p .expr) t)
 
 -- what the code has is what the contract says, by the ring laws
-pub computes! : (w : Width) {x z : ℤ} (xs : List Cell) (p : Computed (signedOps w) xs x) (q : Quoted (values xs) z) → T (allBelow (2 ^ hbits w) (bounds xs) (p .expr)) → normalize (p .expr) ≡ normalize (q .expr) → x ≡ z
+pub computes! : (w : Width) {x z : ℤ} (xs : List Cell) (p : Computed (signedOps w) xs x) (q : Quoted (values xs) z) →
+    T (allBelow (2 ^ hbits w) (bounds xs) (p .expr)) → normalize (p .expr) ≡ normalize (q .expr) → x ≡ z
 computes! w xs p q t e = sym (p .is) ∙ computes w xs (p .expr) t ∙ ring (values xs) (p .expr) (q .expr) e ∙ q .is
 
 -- ---- float code
-abbrev pub float-add : (f : Format) (xs : List (FloatCell f)) (x y : Float) → Computed (floatOps f) xs x → Computed (floatOps f) xs y → Computed (floatOps f) xs (add f x y)
+abbrev pub float-add : (f : Format) (xs : List (FloatCell f)) (x y : Float) → Computed (floatOps f) xs x → Computed (floatOps f) xs y →
+    Computed (floatOps f) xs (add f x y)
 float-add f xs x y p q = record { expr = p .expr ⊕ q .expr; is = ap₂ (λ (a b : Float). add f a b) (p .is) (q .is) }
 
-abbrev pub float-sub : (f : Format) (xs : List (FloatCell f)) (x y : Float) → Computed (floatOps f) xs x → Computed (floatOps f) xs y → Computed (floatOps f) xs (sub f x y)
+abbrev pub float-sub : (f : Format) (xs : List (FloatCell f)) (x y : Float) → Computed (floatOps f) xs x → Computed (floatOps f) xs y →
+    Computed (floatOps f) xs (sub f x y)
 float-sub f xs x y p q = record { expr = p .expr ⊖ q .expr; is = ap₂ (λ (a b : Float). sub f a b) (p .is) (q .is) }
 
-abbrev pub float-mul : (f : Format) (xs : List (FloatCell f)) (x y : Float) → Computed (floatOps f) xs x → Computed (floatOps f) xs y → Computed (floatOps f) xs (mul f x y)
+abbrev pub float-mul : (f : Format) (xs : List (FloatCell f)) (x y : Float) → Computed (floatOps f) xs x → Computed (floatOps f) xs y →
+    Computed (floatOps f) xs (mul f x y)
 float-mul f xs x y p q = record { expr = p .expr ⊗ q .expr; is = ap₂ (λ (a b : Float). mul f a b) (p .is) (q .is) }
 
 abbrev pub float-neg : (f : Format) (xs : List (FloatCell f)) (x : Float) → Computed (floatOps f) xs x → Computed (floatOps f) xs (Ieee.neg x)
@@ -173,8 +223,11 @@ float-neg f xs x p = record { expr = opposite (p .expr); is = ap Ieee.neg (p .is
 pub ruleset floatCode = (has₀, has₁, has₂, has₃, has₄, has₅, has₆, has₇, has₈, has₉, float-mul, float-sub, float-add, float-neg)
 
 -- the float that the code has stands for what the contract says
-pub rep! : {f : Format} {x : Float} {z : ℤ} (xs : List (FloatCell f)) (p : Computed (floatOps f) xs x) (q : Quoted (values xs) z) → T (allBelow (suc (2 ^ prec f)) (bounds xs) (p .expr)) → normalize (p .expr) ≡ normalize (q .expr) → Rep f x z
-rep! {f} {x} xs p q t e = rep-at (ring (values xs) (p .expr) (q .expr) e ∙ q .is) (subst (λ (y : Float). Rep f y (eval (values xs) (p .expr))) (p .is) (rep-computed f xs (p .expr) t))
+pub rep! : {f : Format} {x : Float} {z : ℤ} (xs : List (FloatCell f)) (p : Computed (floatOps f) xs x) (q : Quoted (values xs) z) →
+    T (allBelow (suc (2 ^ prec f)) (bounds xs) (p .expr)) → normalize (p .expr) ≡ normalize (q .expr) → Rep f x z
+rep! {f} {x} xs p q t e =
+    rep-at (ring (values xs) (p .expr) (q .expr) e ∙ q .is)
+    (subst (λ (y : Float). Rep f y (eval (values xs) (p .expr))) (p .is) (rep-computed f xs (p .expr) t))
 
 -- ---- test: six variables
 test-six : (u F a n G S : ℤ) → u *ℤ F +ℤ a *ℤ (n *ℤ G -ℤ S *ℤ F) ≡ (u -ℤ a *ℤ S) *ℤ F +ℤ (a *ℤ n) *ℤ G

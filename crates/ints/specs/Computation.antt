@@ -46,9 +46,12 @@ pub record Operations (A : Type 0) : Type 0 where
 
 pub record Exact {A : Type 0} (Means : A → ℤ → Type 0) (O : Operations A) (limit : ℕ) : Type 0 where
   pub literal-means : (c : ℤ) → Means (O .literal c) c
-  pub plus-means : (x y : A) (a b : ℤ) → Means x a → Means y b → natAbs a < limit → natAbs b < limit → natAbs (a +ℤ b) < limit → Means (O .plus x y) (a +ℤ b)
-  pub minus-means : (x y : A) (a b : ℤ) → Means x a → Means y b → natAbs a < limit → natAbs b < limit → natAbs (a -ℤ b) < limit → Means (O .minus x y) (a -ℤ b)
-  pub times-means : (x y : A) (a b : ℤ) → Means x a → Means y b → natAbs a < limit → natAbs b < limit → natAbs (a *ℤ b) < limit → Means (O .times x y) (a *ℤ b)
+  pub plus-means : (x y : A) (a b : ℤ) → Means x a → Means y b → natAbs a < limit → natAbs b < limit → natAbs (a +ℤ b) < limit →
+      Means (O .plus x y) (a +ℤ b)
+  pub minus-means : (x y : A) (a b : ℤ) → Means x a → Means y b → natAbs a < limit → natAbs b < limit → natAbs (a -ℤ b) < limit →
+      Means (O .minus x y) (a -ℤ b)
+  pub times-means : (x y : A) (a b : ℤ) → Means x a → Means y b → natAbs a < limit → natAbs b < limit → natAbs (a *ℤ b) < limit →
+      Means (O .times x y) (a *ℤ b)
   pub negate-means : (x : A) (a : ℤ) → Means x a → natAbs (negℤ a) < limit → Means (O .negate x) (negℤ a)
 
 -- ---- an expression
@@ -76,7 +79,8 @@ allBelow M B (a ⊗ b) = allBelow M B a && (allBelow M B b && ltb (boundOf B a *
 allBelow M B (opposite a) = allBelow M B a
 
 -- the test of an operation with the operands a and b and a result of at most n: of each operand, and of the result
-pub operands : (M : ℕ) (B : List ℕ) (a b : Expr) (n : ℕ) → T (allBelow M B a && (allBelow M B b && ltb n M)) → T (allBelow M B a) × (T (allBelow M B b) × T (ltb n M))
+pub operands : (M : ℕ) (B : List ℕ) (a b : Expr) (n : ℕ) → T (allBelow M B a && (allBelow M B b && ltb n M)) →
+    T (allBelow M B a) × (T (allBelow M B b) × T (ltb n M))
 operands M B a b n t =
     let s = and-yes (allBelow M B a) (allBelow M B b && ltb n M) t in
     (s .0, and-yes (allBelow M B b) (ltb n M) (s .1))
@@ -103,11 +107,14 @@ module _ {A : Type 0} {Means : A → ℤ → Type 0} {O : Operations A} {M : ℕ
   computed-means (lit c) t = E .literal-means c
   computed-means (a ⊕ b) t =
       let s = operands M (bounds xs) a b (boundOf (bounds xs) a + boundOf (bounds xs) b) t in
-      E .plus-means (computed O xs a) (computed O xs b) (eval (values xs) a) (eval (values xs) b) (computed-means a (s .0)) (computed-means b (s .1 .0)) (eval-below a (s .0)) (eval-below b (s .1 .0)) (eval-below (a ⊕ b) t)
+      E .plus-means (computed O xs a) (computed O xs b) (eval (values xs) a) (eval (values xs) b) (computed-means a (s .0))
+      (computed-means b (s .1 .0)) (eval-below a (s .0)) (eval-below b (s .1 .0)) (eval-below (a ⊕ b) t)
   computed-means (a ⊖ b) t =
       let s = operands M (bounds xs) a b (boundOf (bounds xs) a + boundOf (bounds xs) b) t in
-      E .minus-means (computed O xs a) (computed O xs b) (eval (values xs) a) (eval (values xs) b) (computed-means a (s .0)) (computed-means b (s .1 .0)) (eval-below a (s .0)) (eval-below b (s .1 .0)) (eval-below (a ⊖ b) t)
+      E .minus-means (computed O xs a) (computed O xs b) (eval (values xs) a) (eval (values xs) b) (computed-means a (s .0))
+      (computed-means b (s .1 .0)) (eval-below a (s .0)) (eval-below b (s .1 .0)) (eval-below (a ⊖ b) t)
   computed-means (a ⊗ b) t =
       let s = operands M (bounds xs) a b (boundOf (bounds xs) a * boundOf (bounds xs) b) t in
-      E .times-means (computed O xs a) (computed O xs b) (eval (values xs) a) (eval (values xs) b) (computed-means a (s .0)) (computed-means b (s .1 .0)) (eval-below a (s .0)) (eval-below b (s .1 .0)) (eval-below (a ⊗ b) t)
+      E .times-means (computed O xs a) (computed O xs b) (eval (values xs) a) (eval (values xs) b) (computed-means a (s .0))
+      (computed-means b (s .1 .0)) (eval-below a (s .0)) (eval-below b (s .1 .0)) (eval-below (a ⊗ b) t)
   computed-means (opposite a) t = E .negate-means (computed O xs a) (eval (values xs) a) (computed-means a t) (eval-below (opposite a) t)

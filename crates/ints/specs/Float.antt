@@ -13,7 +13,34 @@ use lib.Dec.{T, ltb, leb, ltb→lt, nltb→le, lt→ltb, le→leb, leb→le, leb
 use lib.IntN.{ℤ, pos, negsuc, negℤ, natAbs, _+ℤ_, _-ℤ_, _*ℤ_, negℤ-negℤ}
 use lib.Signed.{ltZ, mag}
 use lib.Ieee
-use lib.Ieee.{Float, nan, inf, fin, Format, binary64, prec, emax, low, nearest, odd, units, up, down, round, sum, add, sub, mul, neg, unlike, below, ofInt, inFloat, inSigned, toSigned}
+use lib.Ieee.{
+  Float,
+  nan,
+  inf,
+  fin,
+  Format,
+  binary64,
+  prec,
+  emax,
+  low,
+  nearest,
+  odd,
+  units,
+  up,
+  down,
+  round,
+  sum,
+  add,
+  sub,
+  mul,
+  neg,
+  unlike,
+  below,
+  ofInt,
+  inFloat,
+  inSigned,
+  toSigned,
+}
 use lib.Ieee.Exact.{HasValue}
 use lib.Ieee.Back.{round-whole, positive-back, negative-back}
 use lib.Ieee.Fits.{down-pos}
@@ -54,7 +81,9 @@ size-is {z} r = ap natAbs (sym (r .value)) ∙ go (r .sign) (r .size)
 
 -- its value, as the kit's laws of floats say it
 has-value : {f : Format} {x : Float} {z : ℤ} (r : Rep f x z) → natAbs z ≤ 2 ^ prec f → HasValue x (r .sign) (r .size) 1
-has-value {f} {x} {z} r h = subst (λ (y : Float). HasValue y (r .sign) (r .size) 1) (sym (r .is)) (round-whole f (r .sign) (r .size) (subst (λ (n : ℕ). n ≤ 2 ^ prec f) (size-is r) h))
+has-value {f} {x} {z} r h =
+    subst (λ (y : Float). HasValue y (r .sign) (r .size) 1) (sym (r .is))
+    (round-whole f (r .sign) (r .size) (subst (λ (n : ℕ). n ≤ 2 ^ prec f) (size-is r) h))
 
 -- ---- rounding a whole number, written as a fraction
 whole-same : (f : Format) (s : Bool) (num den n : ℕ) → 0 < den → num ≡ n * den → round f s num den ≡ round f s n 1
@@ -72,14 +101,19 @@ on-finite P s t a b f nan y h k = absurd h
 on-finite P s t a b f (inf u) y h k = absurd h
 on-finite P s t a b f (fin u m e) nan h k = absurd k
 on-finite P s t a b f (fin u m e) (inf r) h k = absurd k
-on-finite P s t a b f (fin u m e) (fin r n d) h k = subst₂ (λ (i j : Bool). P (fin i m e) (fin j n d)) (sym (h .0)) (sym (k .0)) (f m n e d (h .1) (k .1))
+on-finite P s t a b f (fin u m e) (fin r n d) h k =
+    subst₂ (λ (i j : Bool). P (fin i m e) (fin j n d)) (sym (h .0)) (sym (k .0)) (f m n e d (h .1) (k .1))
 
 -- ---- sums of fractions with the denominator c: the sign and the size of ±a ± b
 neg-of-sub : (a b : ℕ) → a < b → withSign true (b - a) ≡ pos a +ℤ negℤ (pos b)
-neg-of-sub a b h = nat-eq (withSign true (b - a)) (pos a +ℤ negℤ (pos b)) (omega (arith, posPart-neg (pos (b - a)), negPart-neg (pos (b - a)), posPart-neg (pos b), negPart-neg (pos b), add-parts (pos a) (negℤ (pos b))))
+neg-of-sub a b h =
+    nat-eq (withSign true (b - a)) (pos a +ℤ negℤ (pos b))
+    (omega (arith, posPart-neg (pos (b - a)), negPart-neg (pos (b - a)), posPart-neg (pos b), negPart-neg (pos b), add-parts (pos a) (negℤ (pos b))))
 
 pos-of-sub : (a b : ℕ) → b ≤ a → withSign false (a - b) ≡ pos a +ℤ negℤ (pos b)
-pos-of-sub a b h = nat-eq (withSign false (a - b)) (pos a +ℤ negℤ (pos b)) (omega (arith, posPart-neg (pos b), negPart-neg (pos b), add-parts (pos a) (negℤ (pos b))))
+pos-of-sub a b h =
+    nat-eq (withSign false (a - b)) (pos a +ℤ negℤ (pos b))
+    (omega (arith, posPart-neg (pos b), negPart-neg (pos b), add-parts (pos a) (negℤ (pos b))))
 
 both-neg : (a b : ℕ) → withSign true (a + b) ≡ negℤ (pos a) +ℤ negℤ (pos b)
 both-neg a b = lib.IntN.negℤ-+ℤ (pos a) (pos b)
@@ -103,17 +137,37 @@ not-zero a b h e = omega arith
 
 sum-rep : (f : Format) (s t : Bool) (a b c : ℕ) → 0 < c → Rep₀ f (sum f s (a * c) t (b * c) c) (withSign s a +ℤ withSign t b) (s && t)
 unfolding sum
-sum-rep f false false a b c d = (record { sign = false; size = a + b; is = whole-same f false (a * c + b * c) c (a + b) d (omega arith); value = refl }, λ e. refl)
-sum-rep f true true a b c d = (record { sign = true; size = a + b; is = whole-same f true (a * c + b * c) c (a + b) d (omega arith); value = both-neg a b }, λ e. refl)
+sum-rep f false false a b c d =
+    (record { sign = false; size = a + b; is = whole-same f false (a * c + b * c) c (a + b) d (omega arith); value = refl }, λ e. refl)
+sum-rep f true true a b c d =
+    (record { sign = true; size = a + b; is = whole-same f true (a * c + b * c) c (a + b) d (omega arith); value = both-neg a b }, λ e. refl)
 sum-rep f false true a b c d = go (ltb (a * c) (b * c)) (ltb→lt (a * c) (b * c)) (nltb→le (a * c) (b * c))
   where
-    go : (u : Bool) → (T u → a * c < b * c) → (T (not u) → b * c ≤ a * c) → Rep₀ f (cond u (round f true (b * c - a * c) c) (round f false (a * c - b * c) c)) (pos a +ℤ negℤ (pos b)) false
+    go : (u : Bool) → (T u → a * c < b * c) → (T (not u) → b * c ≤ a * c) →
+        Rep₀ f (cond u (round f true (b * c - a * c) c) (round f false (a * c - b * c) c)) (pos a +ℤ negℤ (pos b)) false
     go true h g = (
-      record { sign = true; size = b - a; is = whole-same f true (b * c - a * c) c (b - a) d (sub-mul a b c); value = neg-of-sub a b (cancel-< a b c d (h tt)) },
+      record {
+        sign = true;
+        size = b - a;
+        is = whole-same f true (b * c - a * c) c (b - a) d (sub-mul a b c);
+        value =
+            neg-of-sub a b (cancel-< a b c d (h tt));
+      },
       λ e. absurd (not-zero a b (cancel-< a b c d (h tt)) e),
     )
-    go false h g = (record { sign = false; size = a - b; is = whole-same f false (a * c - b * c) c (a - b) d (sub-mul b a c); value = pos-of-sub a b (cancel-≤ b a c d (g tt)) }, λ e. refl)
-sum-rep f true false a b c d = go (ltb (a * c) (b * c)) (ltb→lt (a * c) (b * c)) (nltb→le (a * c) (b * c)) (ltb (b * c) (a * c)) (ltb→lt (b * c) (a * c)) (nltb→le (b * c) (a * c))
+    go false h g = (
+      record {
+        sign = false;
+        size = a - b;
+        is = whole-same f false (a * c - b * c) c (a - b) d (sub-mul b a c);
+        value =
+            pos-of-sub a b (cancel-≤ b a c d (g tt));
+      },
+      λ e. refl,
+    )
+sum-rep f true false a b c d =
+    go (ltb (a * c) (b * c)) (ltb→lt (a * c) (b * c)) (nltb→le (a * c) (b * c)) (ltb (b * c) (a * c)) (ltb→lt (b * c) (a * c))
+    (nltb→le (b * c) (a * c))
   where
     flip : (a b : ℕ) {z : ℤ} → z ≡ pos b +ℤ negℤ (pos a) → z ≡ negℤ (pos a) +ℤ pos b
     flip a b e = e ∙ lib.IntN.+ℤ-comm (pos b) (negℤ (pos a))
@@ -126,23 +180,47 @@ sum-rep f true false a b c d = go (ltb (a * c) (b * c)) (ltb→lt (a * c) (b * c
 
     go : (u : Bool) → (T u → a * c < b * c) → (T (not u) → b * c ≤ a * c) → (x : Bool) → (T x → b * c < a * c) → (T (not x) → a * c ≤ b * c)
         → Rep₀ f (cond u (round f false (b * c - a * c) c) (round f x (a * c - b * c) c)) (negℤ (pos a) +ℤ pos b) false
-    go true h g x i j =
-        (record { sign = false; size = b - a; is = whole-same f false (b * c - a * c) c (b - a) d (sub-mul a b c); value = flip a b (pos-of-sub b a (cancel-≤ a b c d (NatL.le-of-lt (h tt)))) }, λ e. refl)
+    go true h g x i j = (
+      record {
+        sign = false;
+        size = b - a;
+        is = whole-same f false (b * c - a * c) c (b - a) d (sub-mul a b c);
+        value =
+            flip a b (pos-of-sub b a (cancel-≤ a b c d (NatL.le-of-lt (h tt))));
+      },
+      λ e. refl,
+    )
     go false h g true i j = (
-      record { sign = true; size = a - b; is = whole-same f true (a * c - b * c) c (a - b) d (sub-mul b a c); value = flip a b (neg-of-sub b a (cancel-< b a c d (i tt))) },
+      record {
+        sign = true;
+        size = a - b;
+        is = whole-same f true (a * c - b * c) c (a - b) d (sub-mul b a c);
+        value =
+            flip a b (neg-of-sub b a (cancel-< b a c d (i tt)));
+      },
       λ e. absurd (not-zero b a (cancel-< b a c d (i tt)) e),
     )
-    go false h g false i j =
-        (record { sign = false; size = 0; is = whole-same f false (a * c - b * c) c 0 d (zero-times a b c (j tt)); value = flip a b (none a b (cancel-≤ a b c d (j tt)) (cancel-≤ b a c d (g tt))) }, λ e. refl)
+    go false h g false i j = (
+      record {
+        sign = false;
+        size = 0;
+        is = whole-same f false (a * c - b * c) c 0 d (zero-times a b c (j tt));
+        value =
+            flip a b (none a b (cancel-≤ a b c d (j tt)) (cancel-≤ b a c d (g tt)));
+      },
+      λ e. refl,
+    )
 
 -- the sum of two floats that are worth ±a and ±b
-add-worth : (f : Format) (x y : Float) (s t : Bool) (a b : ℕ) → HasValue x s a 1 → HasValue y t b 1 → Rep₀ f (add f x y) (withSign s a +ℤ withSign t b) (s && t)
+add-worth : (f : Format) (x y : Float) (s t : Bool) (a b : ℕ) → HasValue x s a 1 → HasValue y t b 1 →
+    Rep₀ f (add f x y) (withSign s a +ℤ withSign t b) (s && t)
 unfolding add
 add-worth f x y s t a b =
     on-finite (λ (x y : Float). Rep₀ f (add f x y) (withSign s a +ℤ withSign t b) (s && t)) s t a b
     (λ m n e d h k.
     let c = over-both (m * up e) (down e) (n * up d) (down d) a b h k in
-    subst₂ (λ (i j : ℕ). Rep₀ f (sum f s i t j (down e * down d)) (withSign s a +ℤ withSign t b) (s && t)) (sym (c .0)) (sym (c .1)) (sum-rep f s t a b (down e * down d) (NatL.mul-pos (down-pos e) (down-pos d))))
+    subst₂ (λ (i j : ℕ). Rep₀ f (sum f s i t j (down e * down d)) (withSign s a +ℤ withSign t b) (s && t)) (sym (c .0)) (sym (c .1))
+    (sum-rep f s t a b (down e * down d) (NatL.mul-pos (down-pos e) (down-pos d))))
     x y
 
 -- the same integer, written otherwise
@@ -150,8 +228,11 @@ pub rep-at : {f : Format} {x : Float} {y z : ℤ} → y ≡ z → Rep f x y → 
 rep-at {f} {x} e r = subst (λ (w : ℤ). Rep f x w) e r
 
 -- ---- the sum, the negation, the difference, the product
-pub rep-add : {f : Format} {x y : Float} {a b : ℤ} → Rep f x a → Rep f y b → natAbs a ≤ 2 ^ prec f → natAbs b ≤ 2 ^ prec f → Rep f (add f x y) (a +ℤ b)
-rep-add {f} {x} {y} {a} {b} r q h k = rep-at (ap₂ (λ (i j : ℤ). i +ℤ j) (r .value) (q .value)) (add-worth f x y (r .sign) (q .sign) (r .size) (q .size) (has-value r h) (has-value q k) .0)
+pub rep-add : {f : Format} {x y : Float} {a b : ℤ} → Rep f x a → Rep f y b → natAbs a ≤ 2 ^ prec f → natAbs b ≤ 2 ^ prec f →
+    Rep f (add f x y) (a +ℤ b)
+rep-add {f} {x} {y} {a} {b} r q h k =
+    rep-at (ap₂ (λ (i j : ℤ). i +ℤ j) (r .value) (q .value))
+    (add-worth f x y (r .sign) (q .sign) (r .size) (q .size) (has-value r h) (has-value q k) .0)
 
 -- the sum of two integers' floats is the float of their sum, the zero's sign and all
 plus-zero : {f : Format} {x : Float} (z : ℤ) (r : Rep f x z) → (r .size ≡ 0 → r .sign ≡ false) → x ≡ ofInt f z
@@ -198,7 +279,11 @@ ofInt-add f a b h g =
 -- rounding is the same for both signs
 neg-round : (f : Format) (s : Bool) (num den : ℕ) → neg (round f s num den) ≡ round f (not s) num den
 unfolding neg round units odd
-neg-round f s num den = go-units (nearest (num * 2 ^ low f / (den * 2 ^ (Ieee.size (num * 2 ^ low f / den) - prec f))) (compare (num * 2 ^ low f % (den * 2 ^ (Ieee.size (num * 2 ^ low f / den) - prec f)) * 2) (den * 2 ^ (Ieee.size (num * 2 ^ low f / den) - prec f)))) (Ieee.size (num * 2 ^ low f / den) - prec f)
+neg-round f s num den =
+    go-units
+    (nearest (num * 2 ^ low f / (den * 2 ^ (Ieee.size (num * 2 ^ low f / den) - prec f)))
+    (compare (num * 2 ^ low f % (den * 2 ^ (Ieee.size (num * 2 ^ low f / den) - prec f)) * 2)
+    (den * 2 ^ (Ieee.size (num * 2 ^ low f / den) - prec f)))) (Ieee.size (num * 2 ^ low f / den) - prec f)
   where
     go-odd : (d q k l : ℕ) → neg (odd d s q k l) ≡ odd d (not s) q k l
     go-odd d zero k l = refl
@@ -216,9 +301,17 @@ withSign-not false n = refl
 withSign-not true n = sym (negℤ-negℤ (pos n))
 
 pub rep-neg : {f : Format} {x : Float} {a : ℤ} → Rep f x a → Rep f (neg x) (negℤ a)
-rep-neg {f} {x} {a} r = record { sign = not (r .sign); size = r .size; is = ap neg (r .is) ∙ neg-round f (r .sign) (r .size) 1; value = withSign-not (r .sign) (r .size) ∙ ap negℤ (r .value) }
+rep-neg {f} {x} {a} r =
+    record {
+      sign = not (r .sign);
+      size = r .size;
+      is = ap neg (r .is) ∙ neg-round f (r .sign) (r .size) 1;
+      value =
+          withSign-not (r .sign) (r .size) ∙ ap negℤ (r .value);
+    }
 
-pub rep-sub : {f : Format} {x y : Float} {a b : ℤ} → Rep f x a → Rep f y b → natAbs a ≤ 2 ^ prec f → natAbs b ≤ 2 ^ prec f → Rep f (sub f x y) (a -ℤ b)
+pub rep-sub : {f : Format} {x y : Float} {a b : ℤ} → Rep f x a → Rep f y b → natAbs a ≤ 2 ^ prec f → natAbs b ≤ 2 ^ prec f →
+    Rep f (sub f x y) (a -ℤ b)
 unfolding sub
 rep-sub {f} {x} {y} {a} {b} r q h k = rep-add r (rep-neg q) h (subst (λ (n : ℕ). n ≤ 2 ^ prec f) (sym (abs-neg b)) k)
 
@@ -240,13 +333,17 @@ mul-worth f x y s t a b =
     record {
       sign = unlike s t;
       size = a * b;
-      is = whole-same f (unlike s t) (m * up e * (n * up d)) (down e * down d) (a * b) (NatL.mul-pos (down-pos e) (down-pos d)) (mul-fractions (m * up e) (n * up d) a b (down e) (down d) h k);
+      is =
+          whole-same f (unlike s t) (m * up e * (n * up d)) (down e * down d) (a * b) (NatL.mul-pos (down-pos e) (down-pos d))
+          (mul-fractions (m * up e) (n * up d) a b (down e) (down d) h k);
       value = withSign-mul s t a b;
     })
     x y
 
-pub rep-mul : {f : Format} {x y : Float} {a b : ℤ} → Rep f x a → Rep f y b → natAbs a ≤ 2 ^ prec f → natAbs b ≤ 2 ^ prec f → Rep f (mul f x y) (a *ℤ b)
-rep-mul {f} {x} {y} {a} {b} r q h k = rep-at (ap₂ (λ (i j : ℤ). i *ℤ j) (r .value) (q .value)) (mul-worth f x y (r .sign) (q .sign) (r .size) (q .size) (has-value r h) (has-value q k))
+pub rep-mul : {f : Format} {x y : Float} {a b : ℤ} → Rep f x a → Rep f y b → natAbs a ≤ 2 ^ prec f → natAbs b ≤ 2 ^ prec f →
+    Rep f (mul f x y) (a *ℤ b)
+rep-mul {f} {x} {y} {a} {b} r q h k =
+    rep-at (ap₂ (λ (i j : ℤ). i *ℤ j) (r .value) (q .value)) (mul-worth f x y (r .sign) (q .sign) (r .size) (q .size) (has-value r h) (has-value q k))
 
 -- ---- comparisons
 -- two flags that say the same
@@ -274,9 +371,11 @@ below-is true false zero b c d =
     same-bool (ltb 0 (0 * c + b * c)) (ltb 0 b)
     (λ e. lt→ltb 0 b (cancel-< 0 b c d (omega (arith, ltb→lt 0 (0 * c + b * c) e))))
     (λ e. lt→ltb 0 (0 * c + b * c) (omega (arith, scale-< 0 b c d (ltb→lt 0 b e))))
-below-is true false (suc a) b c d = same-bool (ltb 0 (suc a * c + b * c)) true (λ e. tt) (λ e. lt→ltb 0 (suc a * c + b * c) (omega (arith, scale-< 0 (suc a) c d (zero-lt-suc a))))
+below-is true false (suc a) b c d =
+    same-bool (ltb 0 (suc a * c + b * c)) true (λ e. tt) (λ e. lt→ltb 0 (suc a * c + b * c) (omega (arith, scale-< 0 (suc a) c d (zero-lt-suc a))))
 below-is true true zero zero c d = ltb-scaled 0 0 c d
-below-is true true zero (suc b) c d = ltb-scaled (suc b) 0 c d ∙ same-bool (ltb (suc b) 0) false (λ e. absurd (NatL.not-suc-le-zero (ltb→lt (suc b) 0 e))) (λ e. absurd e)
+below-is true true zero (suc b) c d =
+    ltb-scaled (suc b) 0 c d ∙ same-bool (ltb (suc b) 0) false (λ e. absurd (NatL.not-suc-le-zero (ltb→lt (suc b) 0 e))) (λ e. absurd e)
 below-is true true (suc a) zero c d = ltb-scaled 0 (suc a) c d ∙ same-bool (ltb 0 (suc a)) true (λ e. tt) (λ e. lt→ltb 0 (suc a) (zero-lt-suc a))
 below-is true true (suc a) (suc b) c d = ltb-scaled (suc b) (suc a) c d ∙ leb·suc-suc (suc b) a
 
@@ -291,7 +390,8 @@ lt-worth x y s t a b =
 
 -- `x < y` of two floats that stand for integers is the integers' order
 pub rep-lt : {f : Format} {x y : Float} {a b : ℤ} → Rep f x a → Rep f y b → natAbs a ≤ 2 ^ prec f → natAbs b ≤ 2 ^ prec f → Ieee.lt x y ≡ ltZ a b
-rep-lt {f} {x} {y} {a} {b} r q h k = lt-worth x y (r .sign) (q .sign) (r .size) (q .size) (has-value r h) (has-value q k) ∙ ap₂ ltZ (r .value) (q .value)
+rep-lt {f} {x} {y} {a} {b} r q h k =
+    lt-worth x y (r .sign) (q .sign) (r .size) (q .size) (has-value r h) (has-value q k) ∙ ap₂ ltZ (r .value) (q .value)
 
 -- ---- casts: an integer as a float
 in-float : (f : Format) (z : ℤ) → natAbs z ≤ 2 ^ prec f → T (inFloat f z)

@@ -20,7 +20,20 @@ use mir.Facts.{toZ-ofZ}
 use Rattle.ints.specs.Order.{not-≤}
 use Rattle.ints.specs.Polynomial.{Expr, var, lit, _⊕_, _⊖_, _⊗_, opposite, eval}
 use Rattle.ints.specs.Bound.{boundOf, sfits-below, sfits-abs, sfits-pos}
-use Rattle.ints.specs.Computation.{Variable, Operations, Exact, values, bounds, bounded, heldAt, computed, allBelow, operands, eval-below, computed-means}
+use Rattle.ints.specs.Computation.{
+  Variable,
+  Operations,
+  Exact,
+  values,
+  bounds,
+  bounded,
+  heldAt,
+  computed,
+  allBelow,
+  operands,
+  eval-below,
+  computed-means,
+}
 
 -- written, and read back
 abbrev pub stored : Width → ℤ → ℤ
@@ -108,7 +121,8 @@ module _ (w : Width) (xs : List Cell) where
 
   -- `letCell w64 xs e tt ∷ xs`
   abbrev pub letCell : (e : Expr) → T (allBelow (2 ^ hbits w) (bounds xs) e) → Cell
-  letCell e t = record { has = computed (signedOps w) xs e; is = eval (values xs) e; bound = boundOf (bounds xs) e; same = computes e t; small = bounded xs e }
+  letCell e t =
+      record { has = computed (signedOps w) xs e; is = eval (values xs) e; bound = boundOf (bounds xs) e; same = computes e t; small = bounded xs e }
 
 -- ---- a test of two signed numbers, whose operands e and f are what the code has of x and y
 pub lt-true : {e f x y : ℤ} → e ≡ x → f ≡ y → ltZ e f ≡ true → x <ℤ y
@@ -121,7 +135,8 @@ pub le-true : {e f x y : ℤ} → e ≡ x → f ≡ y → leZ e f ≡ true → x
 le-true p q t = subst₂ (λ (a b : ℤ). a ≤ℤ b) p q (leZ-yes (subst T (sym t) tt))
 
 pub le-false : {e f x y : ℤ} → e ≡ x → f ≡ y → leZ e f ≡ false → y <ℤ x
-le-false {e} {f} p q t = subst₂ (λ (a b : ℤ). b <ℤ a) p q (not-≤ (λ (h : e ≤ℤ f). T-not (leZ e f) (subst (λ (b : Bool). T (not b)) (sym t) tt) (h .le)))
+le-false {e} {f} p q t =
+    subst₂ (λ (a b : ℤ). b <ℤ a) p q (not-≤ (λ (h : e ≤ℤ f). T-not (leZ e f) (subst (λ (b : Bool). T (not b)) (sym t) tt) (h .le)))
 
 -- ---- a signed number that is not negative, as an unsigned one: what the cast asks, and the number that it gives
 pub unsigned-need : (w : Width) {e z : ℤ} → e ≡ z → pos 0 ≤ℤ z → natAbs z < 2 ^ bits w → T (nonNeg e) × Fits w (natAbs e)

@@ -8,6 +8,7 @@ use mathlib.Core.Bool.{Bool, true, false, not, cond}
 use Prim.Native.Nat.{ℕ, zero, suc, _+_, _-_, _*_, _≤_, _<_}
 use native.Mathlib.Nat as NatL
 use native.Mathlib.Omega.{arith}
+use native.Mathlib.Decide.{decLt, ℕ-discrete}
 use lib.Dec.{T, leb, ltb, leb→le, le→leb, ltb→lt, lt→ltb, nleb→lt, nltb→le}
 use lib.IntN.{ℤ, pos, negsuc, negℤ, subℕ, _+ℤ_, _-ℤ_, _*ℤ_}
 use lib.Signed.{_≤ℤ_, _<ℤ_, leZ, ltZ, leZ-yes, ≤ℤ-refl, <ℤ-irrefl}
@@ -69,7 +70,8 @@ nat-eq (negsuc a) (negsuc b) h = ap negsuc (omega (arith, h))
 
 -- ---- the parts of a sum, a negation, a difference, a product
 -- `subℕ a b` is the integer a - b, by the flag c that tells whether a < b
-sub-parts′ : (a b : ℕ) (c : Bool) → (T c → a < b) → (T (not c) → b ≤ a) → posPart (cond c (negsuc (b - suc a)) (pos (a - b))) + b ≡ a + negPart (cond c (negsuc (b - suc a)) (pos (a - b)))
+sub-parts′ : (a b : ℕ) (c : Bool) → (T c → a < b) → (T (not c) → b ≤ a) →
+    posPart (cond c (negsuc (b - suc a)) (pos (a - b))) + b ≡ a + negPart (cond c (negsuc (b - suc a)) (pos (a - b)))
 sub-parts′ a b true f g = omega (arith, f tt)
 sub-parts′ a b false f g = omega (arith, g tt)
 
@@ -95,7 +97,8 @@ negPart-neg (negsuc n) = refl
 pub diff-parts : (a b : ℤ) → posPart (a -ℤ b) + (negPart a + posPart b) ≡ (posPart a + negPart b) + negPart (a -ℤ b)
 diff-parts a b = omega (arith, add-parts a (negℤ b), posPart-neg b, negPart-neg b)
 
-pub mul-parts : (a b : ℤ) → posPart (a *ℤ b) + (posPart a * negPart b + negPart a * posPart b) ≡ (posPart a * posPart b + negPart a * negPart b) + negPart (a *ℤ b)
+pub mul-parts : (a b : ℤ) →
+    posPart (a *ℤ b) + (posPart a * negPart b + negPart a * posPart b) ≡ (posPart a * posPart b + negPart a * negPart b) + negPart (a *ℤ b)
 mul-parts (pos a) (pos b) = omega arith
 mul-parts (pos a) (negsuc b) = omega (arith, posPart-neg (pos (a * suc b)), negPart-neg (pos (a * suc b)))
 mul-parts (negsuc a) (pos b) = omega (arith, posPart-neg (pos (suc a * b)), negPart-neg (pos (suc a * b)))
@@ -214,3 +217,10 @@ mul-cancel-≤ {a} {b} c hc h = go (≤-or-> a b)
     go : (a ≤ℤ b) ⊎ (b <ℤ a) → a ≤ℤ b
     go (inl k) = k
     go (inr k) = absurd (≤-not-< h (pos-sub (subst (λ (x : ℤ). pos 0 <ℤ x) (mul-sub c a b) (mul-pos hc (sub-pos k)))))
+
+-- ---- which of two cases holds, of natural numbers
+pub lt-or-le : (a b : ℕ) → (a < b) ⊎ (b ≤ a)
+lt-or-le a b = elim (decLt a b) [ yes p ↦ inl p | no q ↦ inr (omega arith) ]
+
+pub eq-or-ne : (a b : ℕ) → (a ≡ b) ⊎ (a ≡ b → ⊥)
+eq-or-ne a b = elim (ℕ-discrete a b) [ yes p ↦ inl p | no q ↦ inr q ]

@@ -132,13 +132,15 @@ module _ (ρ : List ℤ) where
   insertVar-is i [] = refl
   insertVar-is i (j ∷ m) = go (leb i j) (insertVar-is i m)
     where
-      go : (b : Bool) → evalVars (insertVar i m) ≡ at ρ i *ℤ evalVars m → evalVars (cond b (i ∷ j ∷ m) (j ∷ insertVar i m)) ≡ at ρ i *ℤ (at ρ j *ℤ evalVars m)
+      go : (b : Bool) → evalVars (insertVar i m) ≡ at ρ i *ℤ evalVars m →
+          evalVars (cond b (i ∷ j ∷ m) (j ∷ insertVar i m)) ≡ at ρ i *ℤ (at ρ j *ℤ evalVars m)
       go true h = refl
       go false h = ap (λ (x : ℤ). at ρ j *ℤ x) h ∙ mul-left-comm (at ρ j) (at ρ i) (evalVars m)
 
   mulVars-is : (m n : List ℕ) → evalVars (mulVars m n) ≡ evalVars m *ℤ evalVars n
   mulVars-is [] n = sym (one-mul (evalVars n))
-  mulVars-is (i ∷ m) n = insertVar-is i (mulVars m n) ∙ ap (λ (x : ℤ). at ρ i *ℤ x) (mulVars-is m n) ∙ sym (mul-assoc (at ρ i) (evalVars m) (evalVars n))
+  mulVars-is (i ∷ m) n =
+      insertVar-is i (mulVars m n) ∙ ap (λ (x : ℤ). at ρ i *ℤ x) (mulVars-is m n) ∙ sym (mul-assoc (at ρ i) (evalVars m) (evalVars n))
 
   putTerm-is : (c : ℤ) (m : List ℕ) (p : Poly) → evalPoly (putTerm c m p) ≡ c *ℤ evalVars m +ℤ evalPoly p
   putTerm-is (pos zero) m p = sym (ap (λ (x : ℤ). x +ℤ evalPoly p) (zero-*ℤ (evalVars m)) ∙ +ℤ-idl (evalPoly p))
@@ -158,7 +160,9 @@ module _ (ρ : List ℤ) where
   insertTerm-is c m (term d n p) = go (eqVars m n) (eqVars-is m n) (ltVars m n) (insertTerm-is c m p)
     where
       go : (b : Bool) → (T b → m ≡ n) → (l : Bool) → evalPoly (insertTerm c m p) ≡ c *ℤ evalVars m +ℤ evalPoly p
-          → evalPoly (cond b (putTerm (c +ℤ d) n p) (cond l (putTerm c m (term d n p)) (term d n (insertTerm c m p)))) ≡ c *ℤ evalVars m +ℤ (d *ℤ evalVars n +ℤ evalPoly p)
+          →
+          evalPoly (cond b (putTerm (c +ℤ d) n p) (cond l (putTerm c m (term d n p)) (term d n (insertTerm c m p)))) ≡ c *ℤ evalVars m +ℤ
+          (d *ℤ evalVars n +ℤ evalPoly p)
       go true e l h =
           putTerm-is (c +ℤ d) n p
           ∙ ap (λ (x : ℤ). x +ℤ evalPoly p) (add-mul c d (evalVars n))
@@ -169,7 +173,9 @@ module _ (ρ : List ℤ) where
 
   addPoly-is : (p q : Poly) → evalPoly (addPoly p q) ≡ evalPoly p +ℤ evalPoly q
   addPoly-is nil q = sym (+ℤ-idl (evalPoly q))
-  addPoly-is (term c m p) q = insertTerm-is c m (addPoly p q) ∙ ap (λ (x : ℤ). c *ℤ evalVars m +ℤ x) (addPoly-is p q) ∙ sym (+ℤ-assoc (c *ℤ evalVars m) (evalPoly p) (evalPoly q))
+  addPoly-is (term c m p) q =
+      insertTerm-is c m (addPoly p q) ∙ ap (λ (x : ℤ). c *ℤ evalVars m +ℤ x) (addPoly-is p q) ∙ sym
+      (+ℤ-assoc (c *ℤ evalVars m) (evalPoly p) (evalPoly q))
 
   negPoly-is : (p : Poly) → evalPoly (negPoly p) ≡ negℤ (evalPoly p)
   negPoly-is nil = refl
@@ -196,7 +202,9 @@ module _ (ρ : List ℤ) where
   normalize-is (var i) = +ℤ-idr (pos 1 *ℤ (at ρ i *ℤ pos 1)) ∙ one-mul (at ρ i *ℤ pos 1) ∙ mul-one (at ρ i)
   normalize-is (lit c) = putTerm-is c [] nil ∙ +ℤ-idr (c *ℤ pos 1) ∙ mul-one c
   normalize-is (a ⊕ b) = addPoly-is (normalize a) (normalize b) ∙ ap₂ (λ (x y : ℤ). x +ℤ y) (normalize-is a) (normalize-is b)
-  normalize-is (a ⊖ b) = addPoly-is (normalize a) (negPoly (normalize b)) ∙ ap₂ (λ (x y : ℤ). x +ℤ y) (normalize-is a) (negPoly-is (normalize b) ∙ ap negℤ (normalize-is b))
+  normalize-is (a ⊖ b) =
+      addPoly-is (normalize a) (negPoly (normalize b)) ∙ ap₂ (λ (x y : ℤ). x +ℤ y) (normalize-is a)
+      (negPoly-is (normalize b) ∙ ap negℤ (normalize-is b))
   normalize-is (a ⊗ b) = mulPoly-is (normalize a) (normalize b) ∙ ap₂ (λ (x y : ℤ). x *ℤ y) (normalize-is a) (normalize-is b)
   normalize-is (opposite a) = negPoly-is (normalize a) ∙ ap negℤ (normalize-is a)
 
@@ -234,13 +242,16 @@ solve2 f p a b = solve (a ∷ b ∷ []) (f (var 0) (var 1)) p
 pub solve3 : (f : Expr → Expr → Expr → Equation) → Holds (f (var 0) (var 1) (var 2)) → (a b c : ℤ) → Says (a ∷ b ∷ c ∷ []) (f (var 0) (var 1) (var 2))
 solve3 f p a b c = solve (a ∷ b ∷ c ∷ []) (f (var 0) (var 1) (var 2)) p
 
-pub solve4 : (f : Expr → Expr → Expr → Expr → Equation) → Holds (f (var 0) (var 1) (var 2) (var 3)) → (a b c d : ℤ) → Says (a ∷ b ∷ c ∷ d ∷ []) (f (var 0) (var 1) (var 2) (var 3))
+pub solve4 : (f : Expr → Expr → Expr → Expr → Equation) → Holds (f (var 0) (var 1) (var 2) (var 3)) → (a b c d : ℤ) →
+    Says (a ∷ b ∷ c ∷ d ∷ []) (f (var 0) (var 1) (var 2) (var 3))
 solve4 f p a b c d = solve (a ∷ b ∷ c ∷ d ∷ []) (f (var 0) (var 1) (var 2) (var 3)) p
 
-pub solve5 : (f : Expr → Expr → Expr → Expr → Expr → Equation) → Holds (f (var 0) (var 1) (var 2) (var 3) (var 4)) → (a b c d e : ℤ) → Says (a ∷ b ∷ c ∷ d ∷ e ∷ []) (f (var 0) (var 1) (var 2) (var 3) (var 4))
+pub solve5 : (f : Expr → Expr → Expr → Expr → Expr → Equation) → Holds (f (var 0) (var 1) (var 2) (var 3) (var 4)) → (a b c d e : ℤ) →
+    Says (a ∷ b ∷ c ∷ d ∷ e ∷ []) (f (var 0) (var 1) (var 2) (var 3) (var 4))
 solve5 f p a b c d e = solve (a ∷ b ∷ c ∷ d ∷ e ∷ []) (f (var 0) (var 1) (var 2) (var 3) (var 4)) p
 
-pub solve6 : (f : Expr → Expr → Expr → Expr → Expr → Expr → Equation) → Holds (f (var 0) (var 1) (var 2) (var 3) (var 4) (var 5)) → (a b c d e g : ℤ) → Says (a ∷ b ∷ c ∷ d ∷ e ∷ g ∷ []) (f (var 0) (var 1) (var 2) (var 3) (var 4) (var 5))
+pub solve6 : (f : Expr → Expr → Expr → Expr → Expr → Expr → Equation) → Holds (f (var 0) (var 1) (var 2) (var 3) (var 4) (var 5)) →
+    (a b c d e g : ℤ) → Says (a ∷ b ∷ c ∷ d ∷ e ∷ g ∷ []) (f (var 0) (var 1) (var 2) (var 3) (var 4) (var 5))
 solve6 f p a b c d e g = solve (a ∷ b ∷ c ∷ d ∷ e ∷ g ∷ []) (f (var 0) (var 1) (var 2) (var 3) (var 4) (var 5)) p
 
 -- ---- tests: six variables, and a literal

@@ -1,23 +1,16 @@
 -- Laws of single bits, and of the lowest one that is set.
 -- Assumes nothing.
 use mathlib.Core.Path.{_≡_, refl, sym, ap, _∙_}
-use mathlib.Core.Logic.{_⊎_, inl, inr}
 use Prim.Native.Nat.{ℕ, zero, suc, _-_, _*_, _/_, _%_, _^_, _≤_, _<_, min, max}
 use native.Mathlib.Nat.{pow-succ', div-div-eq-div-mul, div-one, mod-lt, div-self, lt-of-le-of-lt, le-of-suc-le-suc, zero-mul, one-mul, mul-le-mul, le-refl}
 use native.Mathlib.Omega.{arith}
-use native.Mathlib.Decide.{decLt, ℕ-discrete}
 use lib.Dec.{lit<}
 use lib.Arith.{digits-mod}
 use lib.Pow.{pow-pos, pow-lt, shl-exact}
 use lib.Bits.{bitAnd, bitOr, or-shr, or-step, and-shr, and-step}
 use lib.Count.{trailingZeros, under}
 use Rattle.joint.specs.Bit.{bit, withBit, withoutBit}
-
-pub lt-or-le : (a b : ℕ) → (a < b) ⊎ (b ≤ a)
-lt-or-le a b = elim (decLt a b) [ yes p ↦ inl p | no q ↦ inr (omega arith) ]
-
-pub eq-or-ne : (a b : ℕ) → (a ≡ b) ⊎ (a ≡ b → ⊥)
-eq-or-ne a b = elim (ℕ-discrete a b) [ yes p ↦ inl p | no q ↦ inr q ]
+pub use Rattle.ints.specs.Order.{lt-or-le, eq-or-ne}
 
 -- `1 << b`
 pub one-shl : (b : ℕ) → b < 64 → 1 * 2 ^ b % 2 ^ 64 ≡ 2 ^ b

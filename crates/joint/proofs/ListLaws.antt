@@ -11,6 +11,7 @@ use lib.Dec.{ltb, eqb}
 use lib.ListN.{length, getD, take, drop, length-append, length-drop, List·getD-append, take-append-drop}
 use lib.Seq.{length-take-le, getD-take, ext-getD}
 use borrow.Author.Tests.{ne-eqb, lt-ltb}
+use Rattle.ints.specs.Order.{lt-or-le, eq-or-ne}
 use Rattle.spec.specs.Base.{indicator, fold, sum}
 use Rattle.spec.specs.Frame.{Frame, level, guide}
 use Rattle.spec.specs.Window.{inCell, count, pixelCount, InWindow}
@@ -21,7 +22,7 @@ use Rattle.spec.proofs.Sums.{over-inWindow, over-constant}
 use Rattle.spec.proofs.Limits.{Pixel}
 use Rattle.joint.specs.Bit.{bit}
 use Rattle.joint.specs.Store.{cellAt, wordAt, wordsPer, countIn, Rep}
-use Rattle.joint.proofs.BitLaws.{lt-or-le, eq-or-ne, bit-zero, bit-suc}
+use Rattle.joint.proofs.BitLaws.{bit-zero, bit-suc}
 use Rattle.joint.proofs.RepLaws.{rep-eq, count-in, count-out}
 
 -- ---- a number and its bits

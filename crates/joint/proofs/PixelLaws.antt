@@ -4,7 +4,7 @@ use mathlib.Core.Path.{_≡_, refl, sym, ap, _∙_, subst}
 use mathlib.Core.Logic.{⊎-elim}
 use mathlib.Core.Bool.{Bool, true, false, _&&_}
 use mathlib.Core.List.{List}
-use Prim.Native.Nat.{ℕ, zero, suc, _+_, _-_, _*_, _/_, _^_, _≤_, _<_}
+use Prim.Native.Nat.{ℕ, suc, _+_, _-_, _*_, _/_, _^_, _≤_, _<_}
 use native.Mathlib.Nat.{lt-of-lt-of-le}
 use native.Mathlib.Numerals.{add-one}
 use native.Mathlib.Omega.{arith}
@@ -12,33 +12,30 @@ use lib.Arith.{digits-lt}
 use lib.ListN.{length, getD, set, length-set}
 use lib.Seq.{getD-set-same, getD-set-other, drop-set-lt}
 use lib.Dec.{eqb}
-use lib.IntN.{ℤ, pos, natAbs, _+ℤ_, _-ℤ_}
-use Rattle.ints.specs.Polynomial.{Expr, Equation, _⊕_, _⊖_, _≐_, solve2}
+use lib.IntN.{ℤ, pos, natAbs, _+ℤ_}
+use Rattle.ints.specs.Order.{eq-or-ne}
 use Rattle.spec.specs.declared.Plan.{Plan}
 use Rattle.spec.specs.Base.{indicator}
 use Rattle.spec.specs.Frame.{frameOf}
 use Rattle.spec.specs.Window.{count}
-use Rattle.spec.proofs.Ranges.{intSums}
 use Rattle.spec.proofs.Plans.{pixel-of}
 use Rattle.spec.proofs.Levels.{cell, box-cell}
 use Rattle.spec.proofs.Bounds.{count-high}
 use Rattle.window.specs.declared.line.Step.{Step}
 use Rattle.window.specs.Line.{Adjacent, stepOf}
 use Rattle.window.proofs.PixelLaws.{guides-high, levels-high}
-use Rattle.window.proofs.LineLaws.{step-law}
 use Rattle.window.proofs.FormLaws.{both-in}
-use Rattle.pixels.specs.Pixels.{countOf, levelIn, guideIn, pixelFold, LinePixels}
-use Rattle.pixels.specs.Additive.{changed, Fits}
-use Rattle.pixels.proofs.AdditiveLaws.{changed-none, changed-next, pixels-none, pixels-next, upto, stepped}
-use Rattle.joint.specs.Store.{Takes, cellAt, wordAt, wordsPer, Place, changedℤ, changedCounts, changedWords, countIn, hit}
+use Rattle.pixels.specs.Pixels.{countOf, levelIn, guideIn, pixelFoldTo, pixelFold, LinePixels}
+use Rattle.pixels.specs.Additive.{changed, changedℤ, Fits}
+use Rattle.pixels.proofs.AdditiveLaws.{changed-none, changed-next, changed-noneℤ, changed-abs, fits-next, pixels-none, pixels-next, upto, high, high-abs, integers, passed-none, passed-next, exchangedℤ, stepped, slid}
+use Rattle.joint.specs.Store.{cellAt, wordAt, wordsPer, Place, changedCounts, changedWords, countIn, hit}
 use Rattle.joint.specs.Side.{side, sideOf}
-use Rattle.joint.specs.List.{listCount, listSide, Countable, BoxRoom, CountsPassed, BoxPassed, Exchangeable, CountsExchanged, BoxExchanged}
+use Rattle.joint.specs.List.{listCount, boxAt, Countable, BoxRoom, CountsPassed, BoxPassed, Exchangeable, CountsExchanged, BoxExchanged}
 use Rattle.joint.specs.Window.{JointAt, Held}
-use Rattle.joint.proofs.BitLaws.{eq-or-ne}
 use Rattle.joint.proofs.RepLaws.{hit-same, rep-changed, rep-eq, count-in}
 use Rattle.joint.proofs.ListLaws.{rep-own, rep-self}
-use Rattle.joint.proofs.WindowLaws.{plan-cells, plan-words, joint-of, held-pixel, held-rep, held-cells, held-words, held-low, held-long}
-use Rattle.joint.proofs.SideLaws.{side-here, side-away, side-abs, changed-noneℤ, changed-nextℤ, changed-abs}
+use Rattle.joint.proofs.WindowLaws.{cell-sum, plan-cells, plan-words, joint-of, held-pixel, held-rep, held-cells, held-words, held-low, held-long}
+use Rattle.joint.proofs.SideLaws.{side-here, side-away, side-abs}
 
 -- ---- places
 cell-in : (l m i f : ℕ) (xs : List ℕ) → l * m ≤ length xs → i < l → f < m → cellAt m i f < length xs
@@ -46,11 +43,6 @@ cell-in l m i f xs h u v = lt-of-lt-of-le (digits-lt u v) h
 
 word-in : (l m i f : ℕ) (ws : List ℕ) → l * wordsPer m ≤ length ws → i < l → f < m → wordAt m i f < length ws
 word-in l m i f ws h u v = let k : f / 64 < wordsPer m = omega arith in lt-of-lt-of-le (digits-lt u k) h
-
-takes-one : (w : Bool) (a m n l : ℕ) → Fits 65536 w a l → m + n ≤ l → n ≡ 1 → Takes w (changed w a m)
-unfolding changed
-takes-one true a m n l h k e = omega arith
-takes-one false a m n l h k e = omega arith
 
 -- ---- the counts
 module _ {w : Bool} {m : ℕ} {p xs ws : List ℕ} (a : Countable w m p xs ws) where
@@ -89,11 +81,11 @@ module _ {w : Bool} {m : ℕ} {p xs ws : List ℕ} (a : Countable w m p xs ws) w
     pub place-of : Place m (levelIn p k) (guideIn p k) xs₁ ws₁
     place-of = record { guides = a .guides-high; level = omega (arith, hi, a .levels-high); guide = hf; cell = hx; word = hw }
 
-    pub takes : Takes w (getD xs₁ (cellAt m (levelIn p k) (guideIn p k)) 0)
+    pub takes : Fits 65536 w (getD xs₁ (cellAt m (levelIn p k) (guideIn p k)) 0) 1
     takes =
-        subst (Takes w) (sym (g .held .cells i f hi hf ∙ ap (λ (q : ℕ). changed w q (listCount p k i f)) (count-in m i f xs hf)))
-        (takes-one w (getD xs (cellAt m i f) 0) (listCount p k i f) (hit i f i f) (listCount p (countOf p) i f) (a .fits i f hi hf)
-        (omega (arith, one-more i f, upto p (λ v g. hit v g i f) (suc k) (countOf p) (omega arith))) (hit-same i f))
+        subst (λ (q : ℕ). Fits 65536 w q 1) (sym (g .held .cells i f hi hf ∙ ap (λ (q : ℕ). changed w q (listCount p k i f)) (count-in m i f xs hf)))
+        (fits-next 65536 w (getD xs (cellAt m i f) 0) (listCount p k i f) 1 (listCount p (countOf p) i f) (a .fits i f hi hf)
+        (omega (arith, one-more i f, hit-same i f, upto p (λ v g. hit v g i f) (suc k) (countOf p) (omega arith))))
 
     -- what it gives
     pub counts-next : {xs₂ ws₂ : List ℕ} → xs₂ ≡ changedCounts w m (levelIn p k) (guideIn p k) xs₁ → ws₂ ≡ changedWords w m (levelIn p k) (guideIn p k) xs₁ ws₁
@@ -114,26 +106,22 @@ module _ {w : Bool} {m : ℕ} {p xs ws : List ℕ} (a : Countable w m p xs ws) w
 
 -- ---- the box
 module _ (w : Bool) (c : ℕ) (p : List ℕ) where
-  side-next : (k f : ℕ) → listSide p c (suc k) f ≡ listSide p c k f +ℤ sideOf c f (levelIn p k) (guideIn p k)
-  side-next k f = pixels-next _+ℤ_ (pos 0) p (sideOf c f) k
-
-  pub list-abs : (k f : ℕ) (x : ℤ) → natAbs (changedℤ w x (listSide p c k f)) ≤ natAbs x + k
-  list-abs zero f x = rw (pixels-none _+ℤ_ (pos 0) p (sideOf c f), changed-noneℤ w x) (omega arith)
-  list-abs (suc k) f x =
-      let i = levelIn p k in
-      let g = guideIn p k in
-      let s = listSide p c k f in
-      rw (side-next k f, sym (changed-nextℤ w x s (sideOf c f i g))) (omega (arith, changed-abs w (changedℤ w x s) (sideOf c f i g) (side-abs c f i g), list-abs k f x))
+  pub list-abs : (k f : ℕ) (x : ℤ) → natAbs (changedℤ w x (pixelFoldTo _+ℤ_ (pos 0) p (sideOf c f) k)) ≤ natAbs x + k
+  list-abs k f x =
+      omega (arith, changed-abs w x (pixelFoldTo _+ℤ_ (pos 0) p (sideOf c f) k), high-abs p (sideOf c f) 1 k (λ j h. side-abs c f (levelIn p j) (guideIn p j)))
 
   pub box-none : (bx : List ℤ) → BoxPassed w c p 0 bx bx
-  box-none bx = record { long = refl; cells = λ f. sym (ap (changedℤ w (getD bx f (pos 0))) (pixels-none _+ℤ_ (pos 0) p (sideOf c f)) ∙ changed-noneℤ w (getD bx f (pos 0))) }
+  box-none bx = record { long = refl; passed = passed-none integers (sideOf c) w p (boxAt bx) }
 
   module _ {bx : List ℤ} (br : BoxRoom (countOf p) bx) {k : ℕ} (h : k < countOf p) (low : guideIn p k < 256) {bx₁ : List ℤ} (g : BoxPassed w c p k bx bx₁) where
     pub cell-room : natAbs (getD bx₁ (guideIn p k) (pos 0)) ≤ 32766
-    cell-room = rw (g .cells (guideIn p k)) (omega (arith, list-abs k (guideIn p k) (getD bx (guideIn p k) (pos 0)), br .room (guideIn p k), h))
+    cell-room = rw (g .passed .cells (guideIn p k)) (omega (arith, list-abs k (guideIn p k) (boxAt bx (guideIn p k)), br .room (guideIn p k), h))
 
     pub box-next : {bx₂ : List ℤ} → bx₂ ≡ set bx₁ (guideIn p k) (changedℤ w (getD bx₁ (guideIn p k) (pos 0)) (side c (levelIn p k))) → BoxPassed w c p (k + 1) bx bx₂
-    box-next e = rw (add-one k, e) (record { long = length-set bx₁ _ _ ∙ g .long; cells = λ f′. ⊎-elim (at-cell f′) (off-cell f′) (eq-or-ne f′ f) })
+    box-next e = rw e (record {
+      long = length-set bx₁ _ _ ∙ g .long;
+      passed = passed-next integers (sideOf c) (g .passed) (λ f′. ⊎-elim (at-cell f′) (off-cell f′) (eq-or-ne f′ f));
+    })
       where
         i : ℕ
         i = levelIn p k
@@ -142,22 +130,16 @@ module _ (w : Bool) (c : ℕ) (p : List ℕ) where
         f = guideIn p k
 
         v : ℤ
-        v = changedℤ w (getD bx₁ f (pos 0)) (side c i)
+        v = changedℤ w (boxAt bx₁ f) (side c i)
 
-        joined : (f′ : ℕ) → changedℤ w (getD bx₁ f′ (pos 0)) (sideOf c f′ i f) ≡ changedℤ w (getD bx f′ (pos 0)) (listSide p c (suc k) f′)
-        joined f′ =
-            ap (λ (q : ℤ). changedℤ w q (sideOf c f′ i f)) (g .cells f′)
-            ∙ changed-nextℤ w (getD bx f′ (pos 0)) (listSide p c k f′) (sideOf c f′ i f)
-            ∙ ap (changedℤ w (getD bx f′ (pos 0))) (sym (side-next k f′))
-
-        at-cell : (f′ : ℕ) → f′ ≡ f → getD (set bx₁ f v) f′ (pos 0) ≡ changedℤ w (getD bx f′ (pos 0)) (listSide p c (suc k) f′)
+        at-cell : (f′ : ℕ) → f′ ≡ f → boxAt (set bx₁ f v) f′ ≡ changedℤ w (boxAt bx₁ f′) (sideOf c f′ i f)
         at-cell f′ e =
             let l : f < length bx₁ = rw (g .long, br .long) low in
-            rw e (getD-set-same bx₁ f v (pos 0) l ∙ ap (changedℤ w (getD bx₁ f (pos 0))) (sym (side-here c i f)) ∙ joined f)
+            rw e (getD-set-same bx₁ f v (pos 0) l ∙ ap (changedℤ w (boxAt bx₁ f)) (sym (side-here c i f)))
 
-        off-cell : (f′ : ℕ) → (f′ ≡ f → ⊥) → getD (set bx₁ f v) f′ (pos 0) ≡ changedℤ w (getD bx f′ (pos 0)) (listSide p c (suc k) f′)
+        off-cell : (f′ : ℕ) → (f′ ≡ f → ⊥) → boxAt (set bx₁ f v) f′ ≡ changedℤ w (boxAt bx₁ f′) (sideOf c f′ i f)
         off-cell f′ n =
-            getD-set-other bx₁ f f′ v (pos 0) n ∙ sym (changed-noneℤ w (getD bx₁ f′ (pos 0))) ∙ ap (changedℤ w (getD bx₁ f′ (pos 0))) (sym (side-away c i f′ f n)) ∙ joined f′
+            getD-set-other bx₁ f f′ v (pos 0) n ∙ sym (changed-noneℤ w (boxAt bx₁ f′)) ∙ ap (changedℤ w (boxAt bx₁ f′)) (sym (side-away c i f′ f n))
 
 -- ---- a list adds at most its pixels
 hit-le : (i f i′ f′ : ℕ) → hit i f i′ f′ ≤ 1
@@ -169,8 +151,7 @@ hit-le i f i′ f′ = go (eqb i i′ && eqb f f′)
     go false = omega arith
 
 pub list-le : (p : List ℕ) (k i f : ℕ) → listCount p k i f ≤ k
-list-le p zero i f = omega (arith, pixels-none _+_ 0 p (λ v g. hit v g i f))
-list-le p (suc k) i f = omega (arith, list-le p k i f, pixels-next _+_ 0 p (λ v g. hit v g i f) k, hit-le (levelIn p k) (guideIn p k) i f)
+list-le p k i f = omega (arith, high p (λ v g. hit v g i f) 1 k (λ j h. hit-le (levelIn p j) (guideIn p j) i f) k (omega arith))
 
 -- ---- one list in, another out
 module _ {m : ℕ} {e l xs ws : List ℕ} (x : Exchangeable m e l xs ws) {xs₁ ws₁ : List ℕ} (g : CountsPassed true (x .entering .levels) m e (countOf e) xs ws xs₁ ws₁) where
@@ -210,11 +191,10 @@ module _ (e l : List ℕ) {bx : List ℤ} (br : BoxRoom (countOf e + countOf l) 
 
   module _ {c : ℕ} {bx₁ : List ℤ} (g : BoxPassed true c e (countOf e) bx bx₁) where
     pub leave-box : BoxRoom (countOf l) bx₁
-    leave-box = record { long = g .long ∙ br .long; room = λ f. rw (g .cells f) (omega (arith, list-abs true c e (countOf e) f (getD bx f (pos 0)), br .room f)) }
+    leave-box = record { long = g .long ∙ br .long; room = λ f. rw (g .passed .cells f) (omega (arith, list-abs true c e (countOf e) f (boxAt bx f), br .room f)) }
 
     pub box-exchanged : {bx₂ : List ℤ} → BoxPassed false c l (countOf l) bx₁ bx₂ → BoxExchanged c e l bx bx₂
-    unfolding changedℤ
-    box-exchanged o = record { long = o .long ∙ g .long; cells = λ f. o .cells f ∙ ap (λ (q : ℤ). q -ℤ listSide l c (countOf l) f) (g .cells f) }
+    box-exchanged o = record { long = o .long ∙ g .long; exchanged = exchangedℤ (sideOf c) (g .passed) (o .passed) }
 
 -- ---- a window's stores and box, moved to a neighbour
 module _ {b : List ℕ} {z : Plan} {s t c : ℕ} {xs ws : List ℕ} {bx : List ℤ} (hd : Held b z s t c xs ws bx) {s′ t′ : ℕ} {d : Step} (adj : Adjacent z s t s′ t′) (ed : d ≡ stepOf z s t s′ t′)
@@ -225,10 +205,6 @@ module _ {b : List ℕ} {z : Plan} {s t c : ℕ} {xs ws : List ℕ} {bx : List �
   pub counts-step : (i f : ℕ) → count (frameOf b) s′ t′ i f + pixelFold _+_ 0 l (at i f) ≡ count (frameOf b) s t i f + pixelFold _+_ 0 e (at i f)
   unfolding count hit
   counts-step i f = stepped (λ (h : ℕ → ℕ → ℕ). h) (hd .planned) adj ed re rl (at i f)
-
-  cells-step : (f : ℕ) → cell (frameOf b) s′ t′ c f +ℤ pixelFold _+ℤ_ (pos 0) l (sideOf c f) ≡ cell (frameOf b) s t c f +ℤ pixelFold _+ℤ_ (pos 0) e (sideOf c f)
-  unfolding cell sideOf side
-  cells-step f = rw (re .sumℤ (sideOf c f), rl .sumℤ (sideOf c f), ed) (step-law _+ℤ_ (pos 0) (hd .planned) (sideOf c f) intSums adj)
 
   unfoldable pub entering-countable : Countable true (z .guides) e xs ws
   entering-countable = record {
@@ -265,9 +241,8 @@ module _ {b : List ℕ} {z : Plan} {s t c : ℕ} {xs ws : List ℕ} {bx : List �
       (rep-eq _ _ _ (count (frameOf b) s′ t′) xs₂ ws₂ (λ i f h. omega (arith, rep-own _ _ _ xs ws (held-rep hd) i f h, counts-step i f)) (o .held)) (o .fits)
       (u .long ∙ held-long hd) each
     where
-      each : (f : ℕ) → f < 256 → getD bx₂ f (pos 0) ≡ cell (frameOf b) s′ t′ c f
+      each : (f : ℕ) → f < 256 → boxAt bx₂ f ≡ cell (frameOf b) s′ t′ c f
       each f h =
-          let O = pixelFold _+ℤ_ (pos 0) l (sideOf c f) in
-          u .cells f
-          ∙ ap (λ (q : ℤ). q -ℤ O) (ap (λ (q : ℤ). q +ℤ pixelFold _+ℤ_ (pos 0) e (sideOf c f)) (ap (λ (y : List ℤ). getD y f (pos 0)) (hd .joint .box) ∙ box-cell (frameOf b) s t c f h) ∙ sym (cells-step f))
-          ∙ solve2 (λ x o. (x ⊕ o) ⊖ o ≐ x) refl (cell (frameOf b) s′ t′ c f) O
+          slid integers (sideOf c) (hd .planned) adj ed e l (re .sumℤ) (rl .sumℤ) (u .exchanged) f
+          (ap (λ (y : List ℤ). boxAt y f) (hd .joint .box) ∙ box-cell (frameOf b) s t c f h ∙ cell-sum (frameOf b) s t c f)
+          ∙ sym (cell-sum (frameOf b) s′ t′ c f)

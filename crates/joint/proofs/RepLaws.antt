@@ -1,5 +1,5 @@
 -- One pixel more or less keeps the joint counts' meaning. Assumes nothing.
-use mathlib.Core.Path.{_≡_, refl, sym, ap, ap₂, _∙_, subst}
+use mathlib.Core.Path.{_≡_, refl, sym, ap, ap₂, _∙_}
 use mathlib.Core.Logic.{_⊎_, inl, inr, ⊎-elim}
 use mathlib.Core.Bool.{Bool, true, false}
 use mathlib.Core.List.{List}
@@ -8,13 +8,13 @@ use native.Mathlib.Omega.{arith}
 use lib.Arith.{digits-div, digits-mod}
 use lib.ListN.{length, getD, set}
 use lib.Seq.{getD-set-same, getD-set-other}
-use lib.IntN.{ℤ, _+ℤ_, _-ℤ_}
 use borrow.Author.Tests.{eq-eqb, ne-eqb, lt-ltb, le-ltb}
+use Rattle.ints.specs.Order.{eq-or-ne}
 use Rattle.joint.specs.Bit.{bit, withBit, withoutBit}
 use Rattle.pixels.specs.Additive.{changed}
 use Rattle.pixels.proofs.AdditiveLaws.{changed-none}
-use Rattle.joint.specs.Store.{cellAt, wordAt, wordsPer, countIn, Takes, changedℤ, changedWord, changedCounts, changedWords, hit, Rep}
-use Rattle.joint.proofs.BitLaws.{eq-or-ne, set-here, set-other, clear-here, clear-other}
+use Rattle.joint.specs.Store.{cellAt, wordAt, wordsPer, countIn, changedWord, changedCounts, changedWords, hit, Rep}
+use Rattle.joint.proofs.BitLaws.{set-here, set-other, clear-here, clear-other}
 
 -- ---- two places: the same, or not
 abbrev pub Apart : ℕ → ℕ → ℕ → ℕ → Type 0
@@ -83,20 +83,6 @@ module _ (w : Bool) (m i f : ℕ) (xs ws : List ℕ) where
   pub leaves-words : w ≡ false → changedWords w m i f xs ws ≡ set ws (wordAt m i f) (withoutBit (getD ws (wordAt m i f) 0) (f % 64) (1 - (getD xs (cellAt m i f) 0 - 1)))
   unfolding changedWords changedWord
   leaves-words e = rw e refl
-
-pub enters-room : (w : Bool) (a : ℕ) → w ≡ true → Takes w a → a < 65535
-enters-room w a e h = subst (λ (q : Bool). Takes q a) e h
-
-pub leaves-some : (w : Bool) (a : ℕ) → w ≡ false → Takes w a → 0 < a
-leaves-some w a e h = subst (λ (q : Bool). Takes q a) e h
-
-pub enters-side : (w : Bool) (x y : ℤ) → w ≡ true → x +ℤ y ≡ changedℤ w x y
-unfolding changedℤ
-enters-side w x y e = rw e refl
-
-pub leaves-side : (w : Bool) (x y : ℤ) → w ≡ false → x -ℤ y ≡ changedℤ w x y
-unfolding changedℤ
-leaves-side w x y e = rw e refl
 
 word-here : (w : Bool) (word b n : ℕ) → b < 64 → bit word b ≡ min 1 n → bit (changedWord w word b n) b ≡ min 1 (changed w n 1)
 unfolding changedWord changed

@@ -2,16 +2,13 @@
 -- Assumes nothing.
 use mathlib.Core.Path.{_≡_, refl, sym}
 use mathlib.Core.Bool.{Bool, true, false}
-use Prim.Native.Nat.{ℕ, _+_, _≤_, _<_}
-use native.Mathlib.Nat.{le-refl}
+use Prim.Native.Nat.{ℕ, _≤_, _<_}
 use native.Mathlib.Omega.{arith}
 use lib.Dec.{leb, eqb}
-use lib.IntN.{ℤ, pos, negsuc, natAbs, _+ℤ_, +ℤ-idr, +ℤ-assoc}
+use lib.IntN.{ℤ, pos, negsuc, natAbs, _+ℤ_, _-ℤ_}
 use borrow.Author.Tests.{eq-eqb, ne-eqb, le-leb, lt-leb}
-use Rattle.ints.specs.Bound.{abs-add-le, abs-sub-le}
-use Rattle.ints.specs.Polynomial.{Expr, Equation, _⊕_, _⊖_, _≐_, solve3}
 use Rattle.spec.specs.Base.{if_then_else_}
-use Rattle.joint.specs.Store.{changedℤ}
+use Rattle.pixels.specs.Additive.{changedℤ}
 use Rattle.joint.specs.Side.{side, sideOf}
 
 -- ---- sides
@@ -31,17 +28,6 @@ pub side-away : (c i f g : ℕ) → (f ≡ g → ⊥) → sideOf c f i g ≡ pos
 unfolding sideOf
 side-away c i f g n = rw (ne-eqb g f (λ e. n (sym e)))
 
--- ---- changes of a cell, one after the other
-pub changed-noneℤ : (w : Bool) (x : ℤ) → changedℤ w x (pos 0) ≡ x
-unfolding changedℤ
-changed-noneℤ true x = +ℤ-idr x
-changed-noneℤ false x = +ℤ-idr x
-
-pub changed-nextℤ : (w : Bool) (x y e : ℤ) → changedℤ w (changedℤ w x y) e ≡ changedℤ w x (y +ℤ e)
-unfolding changedℤ
-changed-nextℤ true x y e = +ℤ-assoc x y e
-changed-nextℤ false x y e = solve3 (λ x s e. (x ⊖ s) ⊖ e ≐ x ⊖ (s ⊕ e)) refl x y e
-
 pub side-abs : (c f i g : ℕ) → natAbs (sideOf c f i g) ≤ 1
 unfolding sideOf side
 side-abs c f i g = go (eqb g f) (leb i c)
@@ -51,7 +37,11 @@ side-abs c f i g = go (eqb g f) (leb i c)
     go true false = omega arith
     go false q = omega arith
 
-pub changed-abs : (w : Bool) (x y : ℤ) → natAbs y ≤ 1 → natAbs (changedℤ w x y) ≤ natAbs x + 1
+-- ---- a cell's change, as the code has it
+pub enters-side : (w : Bool) (x y : ℤ) → w ≡ true → x +ℤ y ≡ changedℤ w x y
 unfolding changedℤ
-changed-abs true x y h = abs-add-le x y (le-refl (natAbs x)) h
-changed-abs false x y h = abs-sub-le x y (le-refl (natAbs x)) h
+enters-side w x y e = rw e refl
+
+pub leaves-side : (w : Bool) (x y : ℤ) → w ≡ false → x -ℤ y ≡ changedℤ w x y
+unfolding changedℤ
+leaves-side w x y e = rw e refl

@@ -13,27 +13,27 @@ use lib.ListN.{length, getD, set, drop, replicate, length-append, length-replica
 use lib.Seq.{drop-cons, set-at, append-snoc, drop-at}
 use lib.IntN.{ℤ, pos, _+ℤ_}
 use Rattle.spec.specs.declared.Plan.{Plan}
-use Rattle.spec.specs.Base.{sum, sumℤ}
 use Rattle.spec.specs.Frame.{frameOf}
 use Rattle.spec.specs.Checks.{Planned}
 use Rattle.spec.specs.Window.{span, count}
 use Rattle.spec.proofs.Plans.{pixel-of}
 use Rattle.spec.proofs.Levels.{cell}
 use Rattle.window.specs.declared.line.Line.{Line}
-use Rattle.window.specs.Line.{columnLine, InPlanes, lineFold}
+use Rattle.window.specs.Line.{columnLine, InPlanes}
 use Rattle.window.proofs.PixelLaws.{plan-limits, guides-high, levels-high}
-use Rattle.window.proofs.LineLaws.{fold-none, fold-more, columns-law, column-in}
+use Rattle.window.proofs.LineLaws.{column-in, span-high}
 use Rattle.joint.specs.Bit.{bit}
-use Rattle.pixels.specs.Pixels.{countOf, LinePixels}
-use Rattle.pixels.specs.Additive.{changed}
-use Rattle.joint.specs.Store.{cellAt, wordAt, wordsPer, changedℤ, countIn, hit}
-use Rattle.joint.specs.Side.{side, sideOf}
-use Rattle.joint.specs.List.{listCount, Countable, BoxRoom, RestKept, CountsPassed, BoxPassed}
+use Rattle.pixels.specs.Pixels.{countOf, pixelFold, columnsFold, LinePixels}
+use Rattle.pixels.specs.Additive.{changed, changedℤ}
+use Rattle.pixels.proofs.AdditiveLaws.{columns-none, columns-more, columns-window}
+use Rattle.joint.specs.Store.{cellAt, wordAt, wordsPer, countIn, hit}
+use Rattle.joint.specs.Side.{sideOf}
+use Rattle.joint.specs.List.{listCount, boxAt, Countable, BoxRoom, RestKept, CountsPassed, BoxPassed}
 use Rattle.joint.specs.Window.{JointAt, Fresh, Columns, Filled}
 use Rattle.joint.proofs.BitLaws.{bit-high}
 use Rattle.joint.proofs.RepLaws.{rep-eq, count-in}
 use Rattle.joint.proofs.ListLaws.{rep-own, rep-self}
-use Rattle.joint.proofs.WindowLaws.{plan-cells, plan-words, joint-of}
+use Rattle.joint.proofs.WindowLaws.{cell-sum, plan-cells, plan-words, joint-of}
 use Rattle.joint.proofs.PixelLaws.{list-le, list-abs}
 
 -- ---- zeros
@@ -72,13 +72,6 @@ module _ {b : List ℕ} {z : Plan} (pl : Planned b z) where
   abbrev K : ℕ
   K = wordsPer (z .guides)
 
-  -- of the columns from x on, k of them: the pixels of level i and guide f, and what they add to cell f
-  abbrev columnsCount : ℕ → ℕ → ℕ → ℕ → ℕ → ℕ
-  columnsCount x t k i f = sum (λ a. lineFold _+_ 0 b (columnLine z a t) (λ v g. hit v g i f)) x k
-
-  abbrev columnsSide : ℕ → ℕ → ℕ → ℕ → ℕ → ℤ
-  columnsSide x t c k f = sumℤ (λ a. lineFold _+ℤ_ (pos 0) b (columnLine z a t) (sideOf c f)) x k
-
   -- after the zeros nothing is held
   pub cleared : (x t c : ℕ) {xs ws xs₁ ws₁ : List ℕ} → L * M ≤ length xs → L * K ≤ length ws → xs₁ ≡ replicate (L * M) 0 ++ drop (L * M) xs → ws₁ ≡ replicate (L * K) 0 ++ drop (L * K) ws
       → (Filled b z x t c 0 xs₁ ws₁ xs₁ ws₁ (replicate 256 (pos 0))) × RestKept (z .levels) (z .guides) xs ws xs₁ ws₁
@@ -92,14 +85,14 @@ module _ {b : List ℕ} {z : Plan} (pl : Planned b z) where
           words = rw lw hw;
           kept = record { long = refl; long-words = refl; rest = refl; rest-words = refl };
           held = record {
-            outside = λ i g u h. fold-none _+_ 0 _ x;
-            cells = λ i f h k. cell0 i f h k ∙ sym (fold-none _+_ 0 _ x);
+            outside = λ i g u h. columns-none _+_ 0 b z x t (λ v f. hit v f i g);
+            cells = λ i f h k. cell0 i f h k ∙ sym (columns-none _+_ 0 b z x t (λ v g. hit v g i f));
             marks = λ i g h k. mark i g (word0 i (g / 64) h (omega arith));
           };
           low = λ i f h k. omega (arith, cell0 i f h k);
           box-long = length-replicate 256 (pos 0);
           box-low = λ f. rw (zero-box f) (omega arith);
-          box = λ f. zero-box f ∙ sym (fold-none _+ℤ_ (pos 0) _ x);
+          box = λ f. zero-box f ∙ sym (columns-none _+ℤ_ (pos 0) b z x t (sideOf c f));
         },
         record {
           long = lx;
@@ -109,8 +102,8 @@ module _ {b : List ℕ} {z : Plan} (pl : Planned b z) where
         },
       )
     where
-      mark : (i g : ℕ) → getD ws₁ (wordAt M i g) 0 ≡ 0 → bit (getD ws₁ (wordAt M i g) 0) (g % 64) ≡ min 1 (columnsCount x t 0 i g)
-      mark i g e = rw (e, fold-none _+_ 0 (λ a. lineFold _+_ 0 b (columnLine z a t) (λ v f. hit v f i g)) x) (bit-high 0 0 (g % 64) (lit< tt) (omega arith))
+      mark : (i g : ℕ) → getD ws₁ (wordAt M i g) 0 ≡ 0 → bit (getD ws₁ (wordAt M i g) 0) (g % 64) ≡ min 1 (columnsFold _+_ 0 b z x t (λ v f. hit v f i g) 0)
+      mark i g e = rw (e, columns-none _+_ 0 b z x t (λ v f. hit v f i g)) (bit-high 0 0 (g % 64) (lit< tt) (omega arith))
 
   -- one column more
   module _ {x n t c k : ℕ} {xs ws xs₁ ws₁ : List ℕ} {bx₁ : List ℤ} {d : Line} (co : Columns z x n t) (h : k < n) (fl : Filled b z x t c k xs ws xs₁ ws₁ bx₁) (ed : d ≡ columnLine z (x + k) t) where
@@ -148,23 +141,25 @@ module _ {b : List ℕ} {z : Plan} (pl : Planned b z) where
         held = rep-eq _ _ _ _ xs₂ ws₂ (λ i f l. more i f l) (g .held);
         low = λ i f hi hf. omega (arith, g .held .cells i f hi hf, count-in M i f xs₁ hf, list-le p (countOf p) i f, fl .low i f hi hf, r .below .few);
         box-long = u .long ∙ fl .box-long;
-        box-low = λ f. rw (u .cells f) (omega (arith, list-abs true c p (countOf p) f (getD bx₁ f (pos 0)), fl .box-low f, r .below .few));
-        box = λ f. u .cells f ∙ ap₂ (λ (y v : ℤ). y +ℤ v) (fl .box f) (r .sumℤ (sideOf c f) ∙ ap (λ (q : Line). lineFold _+ℤ_ (pos 0) b q (sideOf c f)) ed) ∙ sym (fold-more _+ℤ_ (pos 0) _ x k);
+        box-low = λ f. rw (u .passed .cells f) (omega (arith, list-abs true c p (countOf p) f (boxAt bx₁ f), fl .box-low f, r .below .few));
+        box = λ f.
+            u .passed .cells f ∙ ap (λ (y : ℤ). y +ℤ pixelFold _+ℤ_ (pos 0) p (sideOf c f)) (fl .box f)
+            ∙ sym (columns-more _+ℤ_ (pos 0) b z x t (sideOf c f) k p ed (r .sumℤ (sideOf c f)));
       }
         where
-          more : (i f : ℕ) → i < L → countIn M xs₁ i f + listCount p (countOf p) i f ≡ columnsCount x t (k + 1) i f
+          more : (i f : ℕ) → i < L → countIn M xs₁ i f + listCount p (countOf p) i f ≡ columnsFold _+_ 0 b z x t (λ v g. hit v g i f) (k + 1)
           more i f l =
-              ap₂ (λ (y v : ℕ). y + v) (sym (rep-own _ _ _ xs₁ ws₁ (fl .held) i f l)) (r .sum (λ v g. hit v g i f) ∙ ap (λ (q : Line). lineFold _+_ 0 b q (λ v g. hit v g i f)) ed)
-              ∙ sym (fold-more _+_ 0 _ x k)
+              ap (λ (y : ℕ). y + listCount p (countOf p) i f) (sym (rep-own _ _ _ xs₁ ws₁ (fl .held) i f l))
+              ∙ sym (columns-more _+_ 0 b z x t (λ v g. hit v g i f) k p ed (r .sum (λ v g. hit v g i f)))
 
   -- all columns are the window
-  window-count : (s t i f : ℕ) → columnsCount (s - z .radius) t (span (z .radius) s (z .width)) i f ≡ count (frameOf b) s t i f
-  unfolding count hit
-  window-count s t i f = sym (columns-law _+_ 0 pl (λ v g. hit v g i f) s t)
+  module _ (s t : ℕ) {x n : ℕ} (ex : x ≡ s - z .radius) (en : n ≡ span (z .radius) s (z .width)) where
+    window-count : (i f : ℕ) → columnsFold _+_ 0 b z x t (λ v g. hit v g i f) n ≡ count (frameOf b) s t i f
+    unfolding count hit
+    window-count i f = columns-window _+_ 0 b z x t (λ v g. hit v g i f) pl s ex en
 
-  window-cell : (s t c f : ℕ) → columnsSide (s - z .radius) t c (span (z .radius) s (z .width)) f ≡ cell (frameOf b) s t c f
-  unfolding cell sideOf side
-  window-cell s t c f = sym (columns-law _+ℤ_ (pos 0) pl (sideOf c f) s t)
+    window-cell : (c f : ℕ) → columnsFold _+ℤ_ (pos 0) b z x t (sideOf c f) n ≡ cell (frameOf b) s t c f
+    window-cell c f = columns-window _+ℤ_ (pos 0) b z x t (sideOf c f) pl s ex en ∙ sym (cell-sum (frameOf b) s t c f)
 
   pub cells-small : L * M ≤ 262144
   cells-small = mul-le-mul {n₂ = 1024} (levels-high pl) (guides-high pl)
@@ -175,9 +170,9 @@ module _ {b : List ℕ} {z : Plan} (pl : Planned b z) where
       mul-le-mul {n₂ = 1024} (levels-high pl) m
 
 -- ---- the whole start
-few : (r s w : ℕ) → r ≤ 15 → s < w → (s - r + span r s w ≤ w) × (span r s w ≤ 31)
+columns-wide : (r s w : ℕ) → s < w → s - r + span r s w ≤ w
 unfolding span
-few r s w h k = (omega arith, omega arith)
+columns-wide r s w k = omega arith
 
 module _ {b : List ℕ} {z : Plan} {s t c x n : ℕ} {xs ws xs₁ ws₁ : List ℕ} (fr : Fresh b z s t xs ws)
     (ex : xs₁ ≡ replicate (z .levels * z .guides) 0 ++ drop (z .levels * z .guides) xs)
@@ -188,8 +183,8 @@ module _ {b : List ℕ} {z : Plan} {s t c x n : ℕ} {xs ws xs₁ ws₁ : List �
 
   pub build-asks : (Planned b z × Columns z x n t) × Filled b z x t c 0 xs₁ ws₁ xs₁ ws₁ (replicate 256 (pos 0))
   build-asks =
-      let r = few (z .radius) s (z .width) (plan-limits (fr .planned) .radius) (fr .column) in
-      ((fr .planned, record { wide = rw (e, d) (r .0); few = rw d (r .1); row = fr .row }), zeros .0)
+      let few = span-high (z .radius) s (z .width) (plan-limits (fr .planned) .radius) in
+      ((fr .planned, record { wide = rw (e, d) (columns-wide (z .radius) s (z .width) (fr .column)); few = rw d few; row = fr .row }), zeros .0)
 
   pub built : {xs₂ ws₂ : List ℕ} {bx₂ : List ℤ} → ((k : ℕ) → getD ws₂ k 0 < 2 ^ 64) → Filled b z x t c n xs₁ ws₁ xs₂ ws₂ bx₂ → JointAt (frameOf b) s t c xs ws xs₂ ws₂ bx₂
   built {xs₂} {ws₂} fit fl =
@@ -202,5 +197,5 @@ module _ {b : List ℕ} {z : Plan} {s t c x n : ℕ} {xs ws xs₁ ws₁ : List �
         rest-words = fl .kept .rest-words ∙ kp .rest-words;
       })
       (fr .cells) (fr .words)
-      (rep-eq _ _ _ (count (frameOf b) s t) xs₂ ws₂ (λ i f u. rw (e, d) (window-count (fr .planned) s t i f)) (fl .held)) fit
-      (fl .box-long) (λ f h. fl .box f ∙ rw (e, d) (window-cell (fr .planned) s t c f))
+      (rep-eq _ _ _ (count (frameOf b) s t) xs₂ ws₂ (λ i f u. window-count (fr .planned) s t e d i f) (fl .held)) fit
+      (fl .box-long) (λ f h. fl .box f ∙ window-cell (fr .planned) s t e d c f)

@@ -1,13 +1,14 @@
 -- From lists to windows: stores that represent a window's counts are the window's lists.
 -- Assumes nothing.
-use mathlib.Core.Path.{_≡_, sym, ap, ap₂, _∙_, subst}
+use mathlib.Core.Path.{_≡_, refl, sym, ap, ap₂, _∙_, subst}
 use mathlib.Core.Logic.{⊎-elim}
 use mathlib.Core.List.{List, _++_}
 use Prim.Native.Nat.{ℕ, _*_, _^_, _≤_, _<_}
 use native.Mathlib.Omega.{arith}
 use lib.ListN.{length, getD, drop, List·getD-eq-default}
 use lib.Seq.{ext-getD, drop-at}
-use lib.IntN.{ℤ, pos, natAbs}
+use lib.IntN.{ℤ, pos, natAbs, _+ℤ_}
+use Rattle.ints.specs.Order.{lt-or-le}
 use Rattle.spec.specs.declared.Plan.{Plan}
 use Rattle.spec.specs.Frame.{Frame, frameOf}
 use Rattle.spec.specs.Checks.{Planned}
@@ -18,13 +19,18 @@ use Rattle.spec.proofs.Limits.{Pixel}
 use Rattle.spec.proofs.Plans.{facts, pixel-of}
 use Rattle.spec.proofs.Levels.{cell, box-cell}
 use Rattle.spec.proofs.Bounds.{cell-abs}
+use Rattle.pixels.specs.Additive.{windowSum}
 use Rattle.joint.specs.Store.{wordsPer, Rep}
+use Rattle.joint.specs.Side.{side, sideOf}
 use Rattle.joint.specs.List.{RestKept}
 use Rattle.joint.specs.Window.{cellCount, wordCount, JointAt, Held}
-use Rattle.joint.proofs.BitLaws.{lt-or-le}
 use Rattle.joint.proofs.ListLaws.{begun-long, lists-rep, rep-counts, rep-bits, counts-long, bits-long}
 
 -- ---- the box
+pub cell-sum : (p : Frame) (s t c f : ℕ) → cell p s t c f ≡ windowSum _+ℤ_ (pos 0) (sideOf c) p s t f
+unfolding cell sideOf side
+cell-sum p s t c f = refl
+
 pub box-long : (p : Frame) (s t c : ℕ) → length (balanceBox p s t c) ≡ 256
 unfolding balanceBox
 box-long p s t c = length-tabulate 256 _

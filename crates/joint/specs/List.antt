@@ -6,18 +6,19 @@ use mathlib.Core.Bool.{Bool, true}
 use mathlib.Core.List.{List}
 use Prim.Native.Nat.{ℕ, _+_, _-_, _*_, _^_, _≤_, _<_}
 use lib.ListN.{length, getD, drop}
-use lib.IntN.{ℤ, pos, natAbs, _+ℤ_, _-ℤ_}
+use lib.IntN.{ℤ, pos, natAbs, _+ℤ_}
 use Rattle.pixels.specs.Pixels.{pixelFoldTo, pixelFold, PixelsBelow}
-use Rattle.pixels.specs.Additive.{changed, Fits}
-use Rattle.joint.specs.Store.{cellAt, wordsPer, changedℤ, countIn, hit, Rep}
+use Rattle.pixels.specs.Additive.{changed, changedℤ, Fits, PassedTo, Exchanged}
+use Rattle.joint.specs.Store.{cellAt, wordsPer, countIn, hit, Rep}
 use Rattle.joint.specs.Side.{sideOf}
 
--- of a list's first n pixels: those of level i and guide f, and what they add to cell f of the box at the cut point c
+-- of a list's first n pixels: those of level i and guide f
 abbrev pub listCount : List ℕ → ℕ → ℕ → ℕ → ℕ
 listCount p n i f = pixelFoldTo _+_ 0 p (λ v g. hit v g i f) n
 
-abbrev pub listSide : List ℕ → ℕ → ℕ → ℕ → ℤ
-listSide p c n f = pixelFoldTo _+ℤ_ (pos 0) p (sideOf c f) n
+-- cell f of the box
+abbrev pub boxAt : List ℤ → ℕ → ℤ
+boxAt bx f = getD bx f (pos 0)
 
 -- stores of some number of levels and m guides, whose bits are those of their counts, and a list of such pixels with room for it, or with it to lose
 pub record Countable (w : Bool) (m : ℕ) (p xs ws : List ℕ) : Type 0 where
@@ -33,7 +34,7 @@ pub record Countable (w : Bool) (m : ℕ) (p xs ws : List ℕ) : Type 0 where
 -- the box has 256 cells, each with room for n pixels
 pub record BoxRoom (n : ℕ) (bx : List ℤ) : Type 0 where
   pub long : length bx ≡ 256
-  pub room : (f : ℕ) → natAbs (getD bx f (pos 0)) + n ≤ 32767
+  pub room : (f : ℕ) → natAbs (boxAt bx f) + n ≤ 32767
 
 -- stores of l levels and m guides that differ in the stated part alone
 pub record RestKept (l m : ℕ) (xs ws xs′ ws′ : List ℕ) : Type 0 where
@@ -50,7 +51,7 @@ pub record CountsPassed (w : Bool) (l m : ℕ) (p : List ℕ) (n : ℕ) (xs ws x
 -- and the box at the cut point c
 pub record BoxPassed (w : Bool) (c : ℕ) (p : List ℕ) (n : ℕ) (bx bx′ : List ℤ) : Type 0 where
   pub long : length bx′ ≡ length bx
-  pub cells : (f : ℕ) → getD bx′ f (pos 0) ≡ changedℤ w (getD bx f (pos 0)) (listSide p c n f)
+  pub passed : PassedTo _+ℤ_ (pos 0) (sideOf c) changedℤ w p n (boxAt bx) (boxAt bx′)
 
 -- ---- one list in, another out
 
@@ -68,4 +69,4 @@ pub record CountsExchanged (n m : ℕ) (e l xs ws xs′ ws′ : List ℕ) : Type
 
 pub record BoxExchanged (c : ℕ) (e l : List ℕ) (bx bx′ : List ℤ) : Type 0 where
   pub long : length bx′ ≡ length bx
-  pub cells : (f : ℕ) → getD bx′ f (pos 0) ≡ getD bx f (pos 0) +ℤ pixelFold _+ℤ_ (pos 0) e (sideOf c f) -ℤ pixelFold _+ℤ_ (pos 0) l (sideOf c f)
+  pub exchanged : Exchanged _+ℤ_ (pos 0) (sideOf c) e l (boxAt bx) (boxAt bx′)

@@ -7,7 +7,6 @@ use mathlib.Core.List.{List}
 use Prim.Native.Nat.{ℕ, _+_, _-_, _*_, _/_, _%_, _≤_, _<_, min}
 use lib.ListN.{length, getD, set}
 use lib.Dec.{eqb, ltb}
-use lib.IntN.{ℤ, _+ℤ_, _-ℤ_}
 use Rattle.spec.specs.Base.{if_then_else_, indicator}
 use Rattle.pixels.specs.Additive.{changed}
 use Rattle.joint.specs.Bit.{bit, withBit, withoutBit}
@@ -34,16 +33,6 @@ pub record Place (m i f : ℕ) (xs ws : List ℕ) : Type 0 where
   pub word : wordAt m i f < length ws
 
 -- ---- a pixel that enters the window (true) or leaves it (false)
-
--- what that does to a cell of the box
-unfoldable pub changedℤ : Bool → ℤ → ℤ → ℤ
-changedℤ true a x = a +ℤ x
-changedℤ false a x = a -ℤ x
-
--- a cell that holds a has room for one pixel that enters, or has it to lose
-abbrev pub Takes : Bool → ℕ → Type 0
-Takes true a = a < 65535
-Takes false a = 0 < a
 
 -- the word, of whose bit b the cell held n: the bit is set; or cleared exactly where the cell falls to 0
 unfoldable pub changedWord : Bool → ℕ → ℕ → ℕ → ℕ

@@ -6,14 +6,13 @@ use Prim.Native.Nat.{ℕ, _+_, _*_, _≤_, _<_}
 use lib.ListN.{length, getD, drop}
 use lib.IntN.{ℤ, pos, natAbs, _+ℤ_}
 use Rattle.spec.specs.declared.Plan.{Plan}
-use Rattle.spec.specs.Base.{sum, sumℤ}
 use Rattle.spec.specs.Frame.{Frame, frameOf}
 use Rattle.spec.specs.Checks.{Planned}
 use Rattle.spec.specs.Joint.{jointCounts, wordsPerLevel, occupancyWords, balanceBox}
-use Rattle.window.specs.Line.{columnLine, lineFold}
+use Rattle.pixels.specs.Pixels.{columnsFold}
 use Rattle.joint.specs.Store.{cellAt, wordsPer, hit, Rep}
 use Rattle.joint.specs.Side.{sideOf}
-use Rattle.joint.specs.List.{RestKept}
+use Rattle.joint.specs.List.{boxAt, RestKept}
 
 -- how many counts, and how many words
 abbrev pub cellCount : Frame → ℕ
@@ -54,8 +53,8 @@ pub record Filled (b : List ℕ) (z : Plan) (x t c k : ℕ) (xs ws xs′ ws′ :
   pub cells : z .levels * z .guides ≤ length xs
   pub words : z .levels * wordsPer (z .guides) ≤ length ws
   pub kept : RestKept (z .levels) (z .guides) xs ws xs′ ws′
-  pub held : Rep (z .levels) (z .guides) (λ i f. sum (λ a. lineFold _+_ 0 b (columnLine z a t) (λ v g. hit v g i f)) x k) xs′ ws′
+  pub held : Rep (z .levels) (z .guides) (λ i f. columnsFold _+_ 0 b z x t (λ v g. hit v g i f) k) xs′ ws′
   pub low : (i f : ℕ) → i < z .levels → f < z .guides → getD xs′ (cellAt (z .guides) i f) 0 ≤ 31 * k
   pub box-long : length bx′ ≡ 256
-  pub box-low : (f : ℕ) → natAbs (getD bx′ f (pos 0)) ≤ 31 * k
-  pub box : (f : ℕ) → getD bx′ f (pos 0) ≡ sumℤ (λ a. lineFold _+ℤ_ (pos 0) b (columnLine z a t) (sideOf c f)) x k
+  pub box-low : (f : ℕ) → natAbs (boxAt bx′ f) ≤ 31 * k
+  pub box : (f : ℕ) → boxAt bx′ f ≡ columnsFold _+ℤ_ (pos 0) b z x t (sideOf c f) k

@@ -3,9 +3,10 @@ use crate::bits;
 use spec::Guide;
 use spec::Level;
 ghost use mathlib.Core.Path.{_≡_};
-ghost use Prim.Native.Nat.{_-_, _%_, _<_, _≤_};
+ghost use Prim.Native.Nat.{_-_, _%_, _≤_};
 ghost use lib.ListN.{getD};
-ghost use Rattle.joint.specs.Store.{cellAt, wordAt, Place, Takes, changedCounts, changedWords};
+ghost use Rattle.pixels.specs.Additive.{Fits};
+ghost use Rattle.joint.specs.Store.{cellAt, wordAt, Place, changedCounts, changedWords};
 
 // The place of the cell of a level and a guide, of m guides.
 pub fn cell_at(level: Level, guide: Guide, m: usize) -> usize
@@ -48,7 +49,7 @@ pub fn change_pixel(
     words: &mut [u64],
 )
     requires { ⌜ Place m (level .0) (guide .0) (now counts) (now words) ⌝ }
-    requires { ⌜ Takes enters (getD (now counts) (cellAt m (level .0) (guide .0)) 0) ⌝ }
+    requires { ⌜ Fits 65536 enters (getD (now counts) (cellAt m (level .0) (guide .0)) 0) 1 ⌝ }
     ensures { λ _. ⌜ now (counts .exit) ≡ changedCounts enters m (level .0) (guide .0) (now (counts .entry)) ⌝ }
     ensures { λ _. ⌜ now (words .exit) ≡ changedWords enters m (level .0) (guide .0) (now (counts .entry)) (now (words .entry)) ⌝ }
 {

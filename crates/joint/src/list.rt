@@ -1,5 +1,5 @@
-// A list of pixels that enters the window or leaves it: counts and occupancy words, alone or with the balance box at the cut point. One loop does
-// both, because a move in kind 2 takes 3 % longer with two.
+// A list of pixels that enters the window or leaves it: counts and occupancy words, and the balance box at the cut point. One loop does both,
+// because a move in kind 2 takes 3 % longer with two.
 use crate::cell;
 use crate::side::side_changed;
 use spec::Guide;
@@ -8,24 +8,7 @@ ghost use Prim.Native.Nat.{_+_};
 ghost use Rattle.pixels.specs.Pixels.{countOf};
 ghost use Rattle.joint.specs.List.{Countable, BoxRoom, CountsPassed, BoxPassed, Exchangeable, CountsExchanged, BoxExchanged};
 
-// The counts and the words; m is the number of guides.
-pub fn change_counts(p: &[u16], m: usize, enters: bool, counts: &mut [u16], words: &mut [u64])
-    requires { ⌜ Countable enters m (now p) (now counts) (now words) ⌝ }
-    ensures { λ _. ⌜ ((a : Countable enters m (now (p .entry)) (now (counts .entry)) (now (words .entry)))
-        → CountsPassed enters (a .levels) m (now (p .entry)) (countOf (now (p .entry))) (now (counts .entry)) (now (words .entry)) (now
-        (counts .exit)) (now (words .exit))) ⌝ }
-{
-    let n = p.len() / 2;
-    let mut k = 0;
-    while k < n {
-        let at = 2 * k;
-        let next = at + 1;
-        cell::change_pixel(Level(p[at]), Guide(p[next]), m, enters, counts, words);
-        k += 1;
-    }
-}
-
-// The same, and the box.
+// Counts, words and box; m is the number of guides.
 pub fn change_pixels(
     p: &[u16],
     m: usize,

@@ -3,7 +3,7 @@ use spec::Level;
 ghost use mathlib.Core.Path.{_≡_};
 ghost use Prim.Native.Nat.{_≤_};
 ghost use lib.IntN.{natAbs, _+ℤ_, _-ℤ_};
-ghost use Rattle.joint.specs.Store.{changedℤ};
+ghost use Rattle.pixels.specs.Additive.{changedℤ};
 ghost use Rattle.joint.specs.Side.{side};
 
 // A cell of the box, with a pixel of the level more.

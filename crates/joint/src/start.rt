@@ -39,7 +39,7 @@ pub fn clear_words(s: &mut [u64], n: usize)
 // Adds n columns from column x of the windows of row t to stores and a box that hold no pixel.
 pub fn fill(
     file: &[u8],
-    z: Plan,
+    plan: Plan,
     x: usize,
     n: usize,
     t: usize,
@@ -48,17 +48,17 @@ pub fn fill(
     counts: &mut [u16],
     words: &mut [u64],
 )
-    requires { ⌜ (Planned (now file) z) × (Columns z x n t) ⌝ }
-    requires { ⌜ Filled (now file) z x t (cut .0) 0 (now counts) (now words) (now counts) (now words) (now cells) ⌝ }
-    ensures { λ _. ⌜ Filled (now (file .entry)) z x t (cut .0) n (now (counts .entry)) (now (words .entry)) (now (counts .exit))
+    requires { ⌜ (Planned (now file) plan) × (Columns plan x n t) ⌝ }
+    requires { ⌜ Filled (now file) plan x t (cut .0) 0 (now counts) (now words) (now counts) (now words) (now cells) ⌝ }
+    ensures { λ _. ⌜ Filled (now (file .entry)) plan x t (cut .0) n (now (counts .entry)) (now (words .entry)) (now (counts .exit))
         (now (words .exit)) (now (cells .exit)) ⌝ }
 {
     let mut k = 0;
     while k < n {
         let mut places = [0u16; 62];
-        let d = column_line(z, x + k, t);
-        let p = pixels::read(file, z, d, &mut places);
-        list::change_pixels(&places[0..p], z.guides, true, cut, cells, counts, words);
+        let line = column_line(plan, x + k, t);
+        let p = pixels::read(file, plan, line, &mut places);
+        list::change_pixels(&places[0..p], plan.guides, true, cut, cells, counts, words);
         k += 1;
     }
 }
@@ -66,7 +66,7 @@ pub fn fill(
 // The stores and the box of the window at (s, t), at the cut point.
 pub fn build(
     file: &[u8],
-    z: Plan,
+    plan: Plan,
     s: usize,
     t: usize,
     cut: Level,
@@ -74,16 +74,16 @@ pub fn build(
     counts: &mut [u16],
     words: &mut [u64],
 )
-    requires { ⌜ Fresh (now file) z s t (now counts) (now words) ⌝ }
+    requires { ⌜ Fresh (now file) plan s t (now counts) (now words) ⌝ }
     ensures { λ _. ⌜ JointAt (frameOf (now (file .entry))) s t (cut .0) (now (counts .entry)) (now (words .entry)) (now (counts .exit))
         (now (words .exit)) (now (cells .exit)) ⌝ }
 {
-    let l = z.levels;
-    let m = z.guides;
+    let l = plan.levels;
+    let m = plan.guides;
     clear_counts(counts, l * m);
     clear_words(words, l * ((m + 63) / 64));
     *cells = [0i16; 256];
-    let x = low(s, z.radius);
-    let n = span_of(s, z.radius, z.width);
-    fill(file, z, x, n, t, cut, cells, counts, words);
+    let x = low(s, plan.radius);
+    let n = span_of(s, plan.radius, plan.width);
+    fill(file, plan, x, n, t, cut, cells, counts, words);
 }

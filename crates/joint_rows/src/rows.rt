@@ -1,5 +1,4 @@
 // The weights of a window's pixels as a row of numbers, and the window's formula over it.
-use frame::weight;
 use joint_search::formula::Formula;
 use spec::Guide;
 use spec::Plan;
@@ -30,10 +29,10 @@ pub fn mirror(out: &mut [u16])
     requires { ⌜ 511 ≤ length (now out) ⌝ }
     ensures { λ _. ⌜ Mirror (now (out .exit)) ⌝ }
 {
-    let built = weight::constants();
+    let built = frame_weights::constants();
     let mut k: u16 = 0;
     while k < 511 {
-        out[k as usize] = built[weight::apart(Guide(255), Guide(k)) as usize];
+        out[k as usize] = built[frame_weights::apart(Guide(255), Guide(k)) as usize];
         k += 1;
     }
 }

@@ -1,13 +1,12 @@
 // A weight of a frame's table, built-in or its own. An inner layer: the caller has made sure that the file is accepted.
 use big_endian::be16;
-use frame::weight;
 use spec::Guide;
 use spec::Plan;
 ghost use mathlib.Core.Path.{_≡_};
 ghost use Prim.Native.Nat.{_<_};
 ghost use Rattle.spec.specs.Frame.{table, frameOf};
 ghost use Rattle.spec.specs.Checks.{Planned};
-ghost use Rattle.frame.specs.Weights.{builtInList};
+ghost use Rattle.frame_weights.specs.Weights.{builtInList};
 
 // What a pixel of guide g weighs in a window whose centre has guide f. The caller has bound the constants once.
 pub fn weight_at(built: &[u16; 256], file: &[u8], z: Plan, f: Guide, g: Guide) -> u16
@@ -15,7 +14,7 @@ pub fn weight_at(built: &[u16; 256], file: &[u8], z: Plan, f: Guide, g: Guide) -
     ensures { λ r. ⌜ r ≡ table (frameOf (now (file .entry))) (f .0) (g .0) ⌝ }
 {
     if z.weights == 0 {
-        return built[weight::apart(f, g) as usize];
+        return built[frame_weights::apart(f, g) as usize];
     }
     let k = (f.0 as usize) * z.guides + (g.0 as usize);
     be16(file, z.table + 2 * k)

@@ -14,8 +14,8 @@ use mir.Facts.{toZ-ofZ}
 use Rattle.ints.specs.Bound.{abs-add-le, abs-mul-le}
 use Rattle.ints.specs.Machine.{read-bounded}
 use Rattle.spec.specs.Base.{fold}
-use Rattle.joint_search.specs.Scan.{Row}
-use Rattle.joint_search.specs.Box.{BoxLow, Part, boxPart, boxDot, boxSize}
+use Rattle.joint_search.specs.Scan.{RowFits}
+use Rattle.joint_search.specs.Box.{BoxInBounds, PartFits, boxPart, boxDot, boxSize}
 use Rattle.joint_search.proofs.ScanLaws.{sum-next}
 
 module _ (bx : List ℤ) (row : List ℕ) (at : ℕ) where
@@ -59,25 +59,25 @@ back v h = read-bounded w32 {z = v} 62979135 h tt
 
 -- ---- parts of a row's products
 module _ {at : ℕ} {bx : List ℤ} {row : List ℕ} where
-  part-size : (f n : ℕ) → Part n f at bx row → natAbs (boxPart bx row at f n) + boxSize bx f * 65535 ≤ boxSize bx (f + n) * 65535
+  part-size : (f n : ℕ) → PartFits n f at bx row → natAbs (boxPart bx row at f n) + boxSize bx f * 65535 ≤ boxSize bx (f + n) * 65535
   part-size f zero p = rw (part-none bx row at f, add-zero f) (omega arith)
   part-size f (suc n) p =
-      let shorter : Part n f at bx row = record { low = p .low; inside = omega (arith, p .inside); start = p .start; long = omega (arith, p .long); weights = λ k a b. p .weights k a (omega arith) } in
+      let shorter : PartFits n f at bx row = record { low = p .low; inside = omega (arith, p .inside); start = p .start; long = omega (arith, p .long); weights = λ k a b. p .weights k a (omega arith) } in
       let light : getD row (at + (f + n)) 0 ≤ 65535 = le-trans (p .weights (f + n) (omega arith) (omega arith)) (omega arith) in
       let x : ℤ = getD bx (f + n) (pos 0) in
       rw (part-next bx row at f n, add-suc f n, size-next bx (f + n))
       (omega (arith, abs-add-le (boxPart bx row at f n) (x *ℤ pos (getD row (at + (f + n)) 0)) (le-refl _) (abs-mul-le x (pos (getD row (at + (f + n)) 0)) {A = natAbs x} {B = 65535} (le-refl _) light), part-size f n shorter))
 
-  pub part-low : {f n : ℕ} → Part n f at bx row → natAbs (boxPart bx row at f n) ≤ 62979135
+  pub part-low : {f n : ℕ} → PartFits n f at bx row → natAbs (boxPart bx row at f n) ≤ 62979135
   part-low {f} {n} p = omega (arith, part-size f n p, p .low .few (f + n) (p .inside))
 
-  pub first-half : {f n : ℕ} → Part (n + n) f at bx row → Part n f at bx row
+  pub first-half : {f n : ℕ} → PartFits (n + n) f at bx row → PartFits n f at bx row
   first-half p = record { low = p .low; inside = omega (arith, p .inside); start = p .start; long = omega (arith, p .long); weights = λ k a b. p .weights k a (omega arith) }
 
-  pub second-half : {f n : ℕ} → Part (n + n) f at bx row → Part n (f + n) at bx row
+  pub second-half : {f n : ℕ} → PartFits (n + n) f at bx row → PartFits n (f + n) at bx row
   second-half p = record { low = p .low; inside = omega (arith, p .inside); start = p .start; long = omega (arith, p .long); weights = λ k a b. p .weights k (omega arith) (omega arith) }
 
-  module _ {f : ℕ} (n : ℕ) (p : Part (n + n) f at bx row) {r q : ℤ} (er : r ≡ boxPart bx row at f n) (eq : q ≡ boxPart bx row at (f + n) n) where
+  module _ {f : ℕ} (n : ℕ) (p : PartFits (n + n) f at bx row) {r q : ℤ} (er : r ≡ boxPart bx row at f n) (eq : q ≡ boxPart bx row at (f + n) n) where
     pub halves-asks : (natAbs (toZ w32 (ofZ w32 r)) ≤ 62979135) × (natAbs (toZ w32 (ofZ w32 q)) ≤ 62979135)
     halves-asks =
         let a : natAbs r ≤ 62979135 = rw er (part-low (first-half {n = n} p)) in
@@ -91,8 +91,8 @@ module _ {at : ℕ} {bx : List ℤ} {row : List ℕ} where
         toZ-ofZ (record { sfits = s }) ∙ e ∙ ap₂ (λ (x y : ℤ). x +ℤ y) (back r a ∙ er) (back q b ∙ eq) ∙ sym (part-join bx row at f n n)
 
 -- ---- the row's products, part after part
-module _ {m at : ℕ} {row : List ℕ} {bx : List ℤ} (hm : m ≤ 256) (r : Row m at row) (lo : BoxLow bx) where
-  pub part-of : {f : ℕ} (n : ℕ) → f + n ≤ m → Part n f at bx row
+module _ {m at : ℕ} {row : List ℕ} {bx : List ℤ} (hm : m ≤ 256) (r : RowFits m at row) (lo : BoxInBounds bx) where
+  pub part-of : {f : ℕ} (n : ℕ) → f + n ≤ m → PartFits n f at bx row
   part-of n h = record { low = lo; inside = omega arith; start = r .start; long = omega (arith, r .inside); weights = λ k a b. r .low k (omega arith) }
 
   pub dot-low : (n : ℕ) → n ≤ m → natAbs (boxDot bx row at n) ≤ 62979135

@@ -11,17 +11,17 @@ use mir.Val.{SFits, hbits, toZ, ofZ}
 use mir.Facts.{toZ-ofZ, toZ-pos}
 use Rattle.ints.specs.Bound.{sfits-abs}
 use Rattle.ints.specs.Machine.{read-bounded}
-use Rattle.joint_search.specs.Scan.{Marked, Row, cellSum, cellDot}
+use Rattle.joint_search.specs.Scan.{Marked, RowFits, cellSum, cellDot}
 use Rattle.joint_search.specs.declared.formula.Formula.{Formula}
-use Rattle.joint_search.specs.Formula.{Small}
+use Rattle.joint_search.specs.Formula.{FormulaInBounds}
 use Rattle.joint_search.proofs.ScanLaws.{sums-low}
 
 -- a level's sums fit
-pub level-low : {m i at : ℕ} {cs ws row : List ℕ} → Marked m i cs ws → Row m at row → (x y : ℕ) → x ≡ cellSum m i cs m → y ≡ cellDot m i at cs row m → (x ≤ 961) × (y ≤ 62979135)
+pub level-low : {m i at : ℕ} {cs ws row : List ℕ} → Marked m i cs ws → RowFits m at row → (x y : ℕ) → x ≡ cellSum m i cs m → y ≡ cellDot m i at cs row m → (x ≤ 961) × (y ≤ 62979135)
 unfolding cellSum cellDot
 level-low {m} ok r x y ex ey = let e : min m m ≡ m = omega arith in sums-low ok r m x y (rw e ex) (rw e ey)
 
-module _ (w : Formula) (sm : Small w) where
+module _ (w : Formula) (sm : FormulaInBounds w) where
   slope-back : toZ w64 (ofZ w64 (w .slope)) ≡ w .slope
   slope-back = read-bounded w64 {z = w .slope} 235497855 (sm .slope) tt
 

@@ -2,5 +2,6 @@ pub mod ScanLaws
 pub mod ShiftLaws
 pub mod BoxLaws
 pub mod FormulaLaws
-pub mod FewLaws
+pub mod LevelsLaws
 pub mod SearchLaws
+pub mod WindowLaws

@@ -18,7 +18,7 @@ use Rattle.joint.specs.Store.{cellAt, wordsPer}
 use Rattle.joint.proofs.BitLaws.{lt-or-le, bit-zero, bit-suc, bit-and, bit-high, tz-found, tz-below}
 use Rattle.joint.proofs.RepLaws.{count-in, count-out}
 use Rattle.joint_search.specs.declared.scan.Scan.{Scan}
-use Rattle.joint_search.specs.Scan.{NextGuide, placeOf, Scans, Follows, Marked, Row, cellSum}
+use Rattle.joint_search.specs.Scan.{NextGuide, placeOf, Scans, Follows, Marked, RowFits, cellSum}
 
 -- ---- the lowest bit of a word
 no-bit : (j : ℕ) → bit 0 j ≡ 0
@@ -205,7 +205,7 @@ pub sum-next : (F : ℕ → ℕ) (a : ℕ) → sum F 0 (suc a) ≡ sum F 0 a + F
 unfolding fold
 sum-next F a = ap (λ (q : ℕ). sum F 0 a + F q) (zero-add a)
 
-sum-upto : (F : ℕ → ℕ) (a n : ℕ) → a ≤ n → sum F 0 a ≤ sum F 0 n
+pub sum-upto : (F : ℕ → ℕ) (a n : ℕ) → a ≤ n → sum F 0 a ≤ sum F 0 n
 sum-upto F a n h = let e : a + (n - a) ≡ n = omega arith in subst (λ (q : ℕ). sum F 0 a ≤ sum F 0 q) e (go (n - a))
   where
     go : (k : ℕ) → sum F 0 a ≤ sum F 0 (a + k)
@@ -231,9 +231,6 @@ module _ {m i : ℕ} {cs ws : List ℕ} (ok : Marked m i cs ws) where
       let r : placeOf c % 64 ≡ trailingZeros 64 (c .rest) = omega (arith, e, t .1) in
       let one : bit (getD ws (i * wordsPer m + placeOf c / 64) 0) (placeOf c % 64) ≡ 1 = rw (q, r) (sym (sc .agrees (trailingZeros 64 (c .rest)) (t .1) (omega arith) n) ∙ t .0) in
       ⊎-elim (λ l. l) (λ l. absurd (omega (arith, one, ok .marks (placeOf c) (omega (arith, e, t .1, w)), count-out m i (placeOf c) cs l))) (lt-or-le (placeOf c) m)
-
-  pub place-below : {c : Scan} → Scans ws (i * wordsPer m) (wordsPer m) c → (c .rest ≡ 0 → ⊥) → placeOf c < 256
-  place-below sc n = omega (arith, place-low sc n, ok .guides)
 
   pub place-ended : (c : Scan) → c .rest ≡ 0 → m ≤ placeOf c
   place-ended c e = omega (arith, place-none c e, ok .guides)
@@ -272,7 +269,7 @@ module _ {m i : ℕ} {cs ws : List ℕ} (ok : Marked m i cs ws) where
   pub cell-low : (f : ℕ) → f < m → getD cs (cellAt m i f) 0 ≤ 961
   cell-low f h = omega (arith, sum-next (λ f. getD cs (cellAt m i f) 0) f, cells-mono (suc f) (omega arith))
 
-  module _ {at : ℕ} {row : List ℕ} (rw′ : Row m at row) where
+  module _ {at : ℕ} {row : List ℕ} (rw′ : RowFits m at row) where
     abbrev pub term : ℕ → ℕ
     term f = getD cs (cellAt m i f) 0 * getD row (at + f) 0
 
@@ -282,7 +279,7 @@ module _ {m i : ℕ} {cs ws : List ℕ} (ok : Marked m i cs ws) where
     term-low : (f : ℕ) → f < m → term f ≤ getD cs (cellAt m i f) 0 * 65535
     term-low f h = mul-le-mul {n₂ = getD cs (cellAt m i f) 0} (le-refl _) (le-trans (rw′ .low f h) (omega arith))
 
-    dot-low : (n : ℕ) → n ≤ m → sum term 0 n ≤ sum (λ f. getD cs (cellAt m i f) 0) 0 n * 65535
+    pub dot-low : (n : ℕ) → n ≤ m → sum term 0 n ≤ sum (λ f. getD cs (cellAt m i f) 0) 0 n * 65535
     dot-low zero h = omega (arith, sum-none term)
     dot-low (suc n) h = omega (arith, sum-next term n, sum-next (λ f. getD cs (cellAt m i f) 0) n, dot-low n (omega arith), term-low n (omega arith))
 

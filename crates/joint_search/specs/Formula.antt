@@ -7,10 +7,11 @@ use lib.ListN.{getD}
 use lib.IntN.{ℤ, pos, natAbs, _+ℤ_, _*ℤ_}
 use Rattle.spec.specs.Frame.{Frame}
 use Rattle.spec.specs.Weight.{weight}
-use Rattle.joint_search.specs.Scan.{Row}
+use Rattle.joint_search.specs.Scan.{RowFits}
 use Rattle.joint_search.specs.declared.formula.Formula.{Formula}
 
-pub record Small (w : Formula) : Type 0 where
+-- the coefficients are small enough for every sum of a window
+pub record FormulaInBounds (w : Formula) : Type 0 where
   pub slope : natAbs (w .slope) ≤ 235497855
   pub offset : natAbs (w .offset) ≤ 180155859075
 
@@ -20,6 +21,6 @@ weightBy row w f = w .slope *ℤ pos (getD row (w .row + f) 0) +ℤ w .offset
 
 -- they give the weights of the window at (s, t)
 pub record Weighs (p : Frame) (s t : ℕ) (row : List ℕ) (w : Formula) : Type 0 where
-  pub in-row : Row (p .set .guides) (w .row) row
-  pub small : Small w
+  pub in-row : RowFits (p .set .guides) (w .row) row
+  pub small : FormulaInBounds w
   pub is : (f : ℕ) → f < p .set .guides → weight p s t f ≡ weightBy row w f

@@ -50,7 +50,7 @@ pub record Marked (m i : ℕ) (cs ws : List ℕ) : Type 0 where
   pub few : cellSum m i cs m ≤ 961
 
 -- m numbers of 15 bits from a place of the weights: as signed 16-bit numbers they multiply a cell of the box in one instruction
-pub record Row (m at : ℕ) (row : List ℕ) : Type 0 where
+pub record RowFits (m at : ℕ) (row : List ℕ) : Type 0 where
   pub inside : at + m ≤ length row
   pub start : at ≤ 65536
   pub low : (f : ℕ) → f < m → getD row (at + f) 0 ≤ 32767

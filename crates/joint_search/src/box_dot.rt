@@ -3,8 +3,8 @@
 ghost use mathlib.Core.Path.{_≡_};
 ghost use Prim.Native.Nat.{_≤_};
 ghost use lib.IntN.{pos, natAbs, _+ℤ_, _*ℤ_};
-ghost use Rattle.joint_search.specs.Scan.{Row};
-ghost use Rattle.joint_search.specs.Box.{BoxLow, Part, boxPart, boxDot};
+ghost use Rattle.joint_search.specs.Scan.{RowFits};
+ghost use Rattle.joint_search.specs.Box.{BoxInBounds, PartFits, boxPart, boxDot};
 
 // The weight is taken as a signed number: pairs of those are multiplied and added in one instruction.
 fn product(x: i16, n: u16) -> i32
@@ -24,14 +24,14 @@ fn add(a: i32, b: i32) -> i32
 
 // The products from cell f on: one, two, and so on.
 fn one(cells: &[i16; 256], weights: &[u16], at: usize, f: usize) -> i32
-    requires { ⌜ Part 1 f at (now cells) (now weights) ⌝ }
+    requires { ⌜ PartFits 1 f at (now cells) (now weights) ⌝ }
     ensures { λ r. ⌜ r ≡ boxPart (now (cells .entry)) (now (weights .entry)) at f 1 ⌝ }
 {
     product(cells[f], weights[at + f])
 }
 
 fn two(cells: &[i16; 256], weights: &[u16], at: usize, f: usize) -> i32
-    requires { ⌜ Part 2 f at (now cells) (now weights) ⌝ }
+    requires { ⌜ PartFits 2 f at (now cells) (now weights) ⌝ }
     ensures { λ r. ⌜ r ≡ boxPart (now (cells .entry)) (now (weights .entry)) at f 2 ⌝ }
 {
     let a = one(cells, weights, at, f);
@@ -40,7 +40,7 @@ fn two(cells: &[i16; 256], weights: &[u16], at: usize, f: usize) -> i32
 }
 
 fn four(cells: &[i16; 256], weights: &[u16], at: usize, f: usize) -> i32
-    requires { ⌜ Part 4 f at (now cells) (now weights) ⌝ }
+    requires { ⌜ PartFits 4 f at (now cells) (now weights) ⌝ }
     ensures { λ r. ⌜ r ≡ boxPart (now (cells .entry)) (now (weights .entry)) at f 4 ⌝ }
 {
     let a = two(cells, weights, at, f);
@@ -49,7 +49,7 @@ fn four(cells: &[i16; 256], weights: &[u16], at: usize, f: usize) -> i32
 }
 
 fn eight(cells: &[i16; 256], weights: &[u16], at: usize, f: usize) -> i32
-    requires { ⌜ Part 8 f at (now cells) (now weights) ⌝ }
+    requires { ⌜ PartFits 8 f at (now cells) (now weights) ⌝ }
     ensures { λ r. ⌜ r ≡ boxPart (now (cells .entry)) (now (weights .entry)) at f 8 ⌝ }
 {
     let a = four(cells, weights, at, f);
@@ -58,7 +58,7 @@ fn eight(cells: &[i16; 256], weights: &[u16], at: usize, f: usize) -> i32
 }
 
 fn sixteen(cells: &[i16; 256], weights: &[u16], at: usize, f: usize) -> i32
-    requires { ⌜ Part 16 f at (now cells) (now weights) ⌝ }
+    requires { ⌜ PartFits 16 f at (now cells) (now weights) ⌝ }
     ensures { λ r. ⌜ r ≡ boxPart (now (cells .entry)) (now (weights .entry)) at f 16 ⌝ }
 {
     let a = eight(cells, weights, at, f);
@@ -68,7 +68,7 @@ fn sixteen(cells: &[i16; 256], weights: &[u16], at: usize, f: usize) -> i32
 
 // The cells from one on, added to the sum of those before it.
 fn rest(cells: &[i16; 256], weights: &[u16], at: usize, m: usize, from: usize, sum: i32) -> i32
-    requires { ⌜ (m ≤ 256) × (Row m at (now weights)) × (BoxLow (now cells)) ⌝ }
+    requires { ⌜ (m ≤ 256) × (RowFits m at (now weights)) × (BoxInBounds (now cells)) ⌝ }
     requires { ⌜ (from ≤ m) × (sum ≡ boxDot (now cells) (now weights) at from) ⌝ }
     ensures { λ r. ⌜ r ≡ boxDot (now (cells .entry)) (now (weights .entry)) at m ⌝ }
 {
@@ -83,7 +83,7 @@ fn rest(cells: &[i16; 256], weights: &[u16], at: usize, m: usize, from: usize, s
 
 // Over the first m cells.
 pub fn box_dot(cells: &[i16; 256], weights: &[u16], at: usize, m: usize) -> i32
-    requires { ⌜ (m ≤ 256) × (Row m at (now weights)) × (BoxLow (now cells)) ⌝ }
+    requires { ⌜ (m ≤ 256) × (RowFits m at (now weights)) × (BoxInBounds (now cells)) ⌝ }
     ensures { λ r. ⌜ r ≡ boxDot (now (cells .entry)) (now (weights .entry)) at m ⌝ }
 {
     let mut dot: i32 = 0;

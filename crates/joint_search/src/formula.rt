@@ -6,9 +6,9 @@ use spec::Level;
 ghost use mathlib.Core.Path.{_≡_};
 ghost use Prim.Native.Nat.{_≤_};
 ghost use lib.IntN.{pos, natAbs, _+ℤ_, _*ℤ_};
-ghost use Rattle.joint_search.specs.Scan.{Marked, Row, cellSum, cellDot};
-ghost use Rattle.joint_search.specs.Box.{BoxLow, boxAll, boxDot};
-ghost use Rattle.joint_search.specs.Formula.{Small};
+ghost use Rattle.joint_search.specs.Scan.{Marked, RowFits};
+ghost use Rattle.joint_search.specs.Box.{BoxInBounds, boxAll, boxDot};
+ghost use Rattle.joint_search.specs.Search.{FormulaFits, levelWeightIn};
 
 // A window's weights as a row of numbers, which begins at a place of those lent, times a slope plus an offset.
 pub struct Formula {
@@ -33,9 +33,8 @@ pub fn level_weight(
     counts: &[u16],
     words: &[u64],
 ) -> i64
-    requires { ⌜ (Marked m (level .0) (now counts) (now words)) × (Row m (w .row) (now weights)) × (Small w) ⌝ }
-    ensures { λ r. ⌜ r ≡ w .slope *ℤ pos (cellDot m (level .0) (w .row) (now (counts .entry)) (now (weights .entry)) m)
-        +ℤ w .offset *ℤ pos (cellSum m (level .0) (now (counts .entry)) m) ⌝ }
+    requires { ⌜ (Marked m (level .0) (now counts) (now words)) × (FormulaFits m (now weights) w) ⌝ }
+    ensures { λ r. ⌜ r ≡ levelWeightIn m (now (counts .entry)) (now (weights .entry)) w (level .0) ⌝ }
 {
     let e = level::level_sums(weights, w.row, level, m, counts, words);
     combine(w.slope, w.offset, e.dot as i64, e.pixels as i64)
@@ -43,7 +42,7 @@ pub fn level_weight(
 
 // The balance at the box's cut point, by a row of the table.
 pub fn box_balance(cells: &[i16; 256], weights: &[u16], w: Formula, m: usize) -> i64
-    requires { ⌜ (m ≤ 256) × (Row m (w .row) (now weights)) × (BoxLow (now cells)) × (w .slope ≡ pos 1) × (w .offset ≡ pos 0) ⌝ }
+    requires { ⌜ (m ≤ 256) × (RowFits m (w .row) (now weights)) × (BoxInBounds (now cells)) × (w .slope ≡ pos 1) × (w .offset ≡ pos 0) ⌝ }
     ensures { λ r. ⌜ r ≡ w .slope *ℤ boxDot (now (cells .entry)) (now (weights .entry)) (w .row) m +ℤ w .offset *ℤ boxAll (now (cells .entry)) m ⌝ }
 {
     box_dot::box_dot(cells, weights, w.row, m) as i64
@@ -51,7 +50,7 @@ pub fn box_balance(cells: &[i16; 256], weights: &[u16], w: Formula, m: usize) ->
 
 // A balance with a level's weight more or less on both sides: by is 2 or -2.
 pub fn step_balance(x: i64, by: i64, y: i64) -> i64
-    requires { ⌜ (natAbs x ≤ 173129780571075) × (natAbs by ≤ 2) × (natAbs y ≤ 173129780571075) ⌝ }
+    requires { ⌜ (natAbs x ≤ 15004580982826500) × (natAbs by ≤ 2) × (natAbs y ≤ 15004580982826500) ⌝ }
     ensures { λ r. ⌜ r ≡ x +ℤ by *ℤ y ⌝ }
 {
     x + by * y

@@ -2,7 +2,7 @@
 use crate::scan;
 use spec::Level;
 ghost use mathlib.Core.Path.{_≡_};
-ghost use Rattle.joint_search.specs.Scan.{Marked, Row, cellSum, cellDot};
+ghost use Rattle.joint_search.specs.Scan.{Marked, RowFits, cellSum, cellDot};
 
 // A level's pixels, and their numbers of the row of weights added up.
 pub struct LevelSums {
@@ -19,7 +19,7 @@ pub fn level_sums(
     words: &[u64],
 ) -> LevelSums
     requires { ⌜ Marked m (level .0) (now counts) (now words) ⌝ }
-    requires { ⌜ Row m at (now weights) ⌝ }
+    requires { ⌜ RowFits m at (now weights) ⌝ }
     ensures { λ r. ⌜ (r .pixels ≡ cellSum m (level .0) (now (counts .entry)) m)
         × (r .dot ≡ cellDot m (level .0) at (now (counts .entry)) (now (weights .entry)) m) ⌝ }
 {

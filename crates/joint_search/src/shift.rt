@@ -5,7 +5,7 @@ ghost use mathlib.Core.Path.{_≡_};
 ghost use Prim.Native.Nat.{_≤_};
 ghost use lib.IntN.{pos, natAbs, _+ℤ_, _*ℤ_};
 ghost use Rattle.joint_search.specs.Scan.{Marked};
-ghost use Rattle.joint_search.specs.Box.{BoxLow, Shifted};
+ghost use Rattle.joint_search.specs.Box.{BoxInBounds, CountsAdded};
 
 // x and by times n.
 pub fn plus_times(x: i16, by: i16, n: u16) -> i16
@@ -25,8 +25,8 @@ pub fn shift_level(
     words: &[u64],
 )
     requires { ⌜ Marked m (level .0) (now counts) (now words) ⌝ }
-    requires { ⌜ (natAbs by ≤ 2) × (BoxLow (now cells)) ⌝ }
-    ensures { λ _. ⌜ Shifted m (level .0) by (now (counts .entry)) m (now (cells .entry)) (now (cells .exit)) ⌝ }
+    requires { ⌜ (natAbs by ≤ 2) × (BoxInBounds (now cells)) ⌝ }
+    ensures { λ _. ⌜ CountsAdded m (level .0) by (now (counts .entry)) m (now (cells .entry)) (now (cells .exit)) ⌝ }
 {
     let i = level.0 as usize;
     let k = (m + 63) / 64;

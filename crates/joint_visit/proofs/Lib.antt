@@ -1,3 +1,2 @@
-pub mod WeightlessLaws
 pub mod ArriveLaws
 pub mod VisitLaws

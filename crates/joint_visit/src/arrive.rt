@@ -8,43 +8,31 @@ use spec::Level;
 use spec::Plan;
 use window::pixel;
 ghost use mathlib.Core.Path.{_≡_};
-ghost use mathlib.Core.Bool.{true};
 ghost use Prim.Native.Nat.{_<_};
 ghost use lib.IntN.{pos};
 ghost use Rattle.spec.specs.Frame.{frameOf};
-ghost use Rattle.spec.specs.Weight.{monotone};
-ghost use Rattle.spec.specs.Median.{balance, weightless};
 ghost use Rattle.spec.specs.Joint.{balanceBox};
-ghost use Rattle.joint_search.specs.Search.{Counted, Ready};
+ghost use Rattle.joint_search.specs.Search.{weightlessIn, boxIn, Searchable, FormulaFits, NoneNegative};
+ghost use Rattle.joint_search.specs.Window.{Counted};
 ghost use Rattle.joint_rows.specs.Rows.{WeightRows};
-ghost use Rattle.joint_visit.specs.Arrive.{Arrives};
+ghost use Rattle.joint_visit.specs.Arrive.{arrivalIn, Arrives};
 
-pub struct Arrival {
+pub struct TableArrival {
     pub answer: Level,
     pub cut: Level,
     pub shifts: u64,
 }
 
 // Whether no level weighs anything.
-pub fn none_weighs(
-    file: &[u8],
-    z: Plan,
-    weights: &[u16],
-    w: Formula,
-    s: usize,
-    t: usize,
-    counts: &[u16],
-    words: &[u64],
-) -> bool
-    requires { ⌜ Ready (now file) z s t (now counts) (now words) (now weights) w ⌝ }
-    requires { ⌜ monotone (frameOf (now file)) s t ≡ true ⌝ }
-    ensures { λ r. ⌜ r ≡ weightless (frameOf (now (file .entry))) s t ⌝ }
+pub fn none_weighs(plan: Plan, weights: &[u16], w: Formula, counts: &[u16], words: &[u64]) -> bool
+    requires { ⌜ (Searchable plan (now counts) (now words)) × (FormulaFits (plan .guides) (now weights) w)
+        × (NoneNegative (plan .guides) (now weights) w) ⌝ }
+    ensures { λ r. ⌜ r ≡ weightlessIn plan (now (counts .entry)) (now (weights .entry)) w ⌝ }
 {
-    let m = z.guides;
-    let l = z.levels as u16;
+    let l = plan.levels as u16;
     let mut i: u16 = 0;
     while i < l {
-        let v = formula::level_weight(weights, w, Level(i), m, counts, words);
+        let v = formula::level_weight(weights, w, Level(i), plan.guides, counts, words);
         if 0 < v {
             return false;
         }
@@ -53,78 +41,36 @@ pub fn none_weighs(
     true
 }
 
-// The same where the balance at the cut point is known: only where it is 0 are the levels looked at.
-pub fn is_weightless(
-    file: &[u8],
-    z: Plan,
-    weights: &[u16],
-    w: Formula,
-    s: usize,
-    t: usize,
-    cut: Level,
-    bal: i64,
-    counts: &[u16],
-    words: &[u64],
-) -> bool
-    requires { ⌜ Ready (now file) z s t (now counts) (now words) (now weights) w ⌝ }
-    requires { ⌜ (monotone (frameOf (now file)) s t ≡ true) × (bal ≡ balance (frameOf (now file)) s t (cut .0))
-        × (cut .0 < frameOf (now file) .set .levels) ⌝ }
-    ensures { λ r. ⌜ r ≡ weightless (frameOf (now (file .entry))) s t ⌝ }
-{
-    if bal < 0 {
-        return false;
-    }
-    if 0 < bal {
-        return false;
-    }
-    none_weighs(file, z, weights, w, s, t, counts, words)
-}
-
-// The arrival, by a row that weighs the window.
+// The arrival, by a row of the table; own is the centre's own level. Only where the balance at the cut point is 0 can the window be without weight,
+// and only there are the levels looked at.
 pub fn arrive_by(
-    file: &[u8],
-    z: Plan,
+    plan: Plan,
     weights: &[u16],
     w: Formula,
-    s: usize,
-    t: usize,
+    own: Level,
     cut: Level,
     shifts: u64,
     cells: &mut [i16; 256],
     counts: &[u16],
     words: &[u64],
-) -> Arrival
-    requires { ⌜ (Ready (now file) z s t (now counts) (now words) (now weights) w) × (z .kind ≡ 1) × (w .slope ≡ pos 1) × (w .offset ≡ pos 0) ⌝ }
-    requires { ⌜ (cut .0 < frameOf (now file) .set .levels) × (shifts < 1099511627776)
-        × (now cells ≡ balanceBox (frameOf (now file)) s t (cut .0)) ⌝ }
-    ensures { λ r. ⌜ Arrives (frameOf (now (file .entry))) s t (cut .0) shifts r (now (cells .exit)) ⌝ }
+) -> TableArrival
+    requires { ⌜ (Searchable plan (now counts) (now words)) × (FormulaFits (plan .guides) (now weights) w) × (w .slope ≡ pos 1)
+        × (w .offset ≡ pos 0) ⌝ }
+    requires { ⌜ (cut .0 < plan .levels) × (shifts < 1099511627776) × (now cells ≡ boxIn plan (now counts) (cut .0)) ⌝ }
+    ensures { λ r. ⌜ (r ≡ arrivalIn plan (now (counts .entry)) (now (weights .entry)) w (own .0) (cut .0) shifts)
+        × (now (cells .exit) ≡ boxIn plan (now (counts .entry)) (r .cut .0)) ⌝ }
 {
-    let m = z.guides;
-    let bal = formula::box_balance(cells, weights, w, m);
-    if is_weightless(file, z, weights, w, s, t, cut, bal, counts, words) {
-        let own = pixel::level_at(file, z, t * z.width + s);
-        return Arrival {
+    let bal = formula::box_balance(cells, weights, w, plan.guides);
+    if bal == 0 && none_weighs(plan, weights, w, counts, words) {
+        return TableArrival {
             answer: own,
             cut: cut,
             shifts: shifts,
         };
     }
-    let found = answer::from_cut(
-        file,
-        z,
-        weights,
-        w,
-        s,
-        t,
-        cut,
-        bal,
-        shifts,
-        cells,
-        counts,
-        words,
-    );
+    let found = answer::from_cut(plan, weights, w, cut, bal, shifts, cells, counts, words);
     let level = found.level;
-    Arrival {
+    TableArrival {
         answer: level,
         cut: level,
         shifts: found.shifts,
@@ -134,7 +80,7 @@ pub fn arrive_by(
 // The arrival: by the built-in weights, or by the file's own row of the centre's guide.
 pub fn arrive_table(
     file: &[u8],
-    z: Plan,
+    plan: Plan,
     weights: &[u16],
     s: usize,
     t: usize,
@@ -143,21 +89,20 @@ pub fn arrive_table(
     cells: &mut [i16; 256],
     counts: &[u16],
     words: &[u64],
-) -> Arrival
-    requires { ⌜ (Counted (now file) z s t (now counts) (now words)) × (WeightRows z (now weights)) × (z .kind ≡ 1) ⌝ }
-    requires { ⌜ (cut .0 < frameOf (now file) .set .levels) × (shifts < 1099511627776) × (now cells ≡ balanceBox (frameOf (now file)) s t
-        (cut .0)) ⌝ }
+) -> TableArrival
+    requires { ⌜ (Counted (now file) plan s t (now counts) (now words)) × (WeightRows plan (now weights)) × (plan .kind ≡ 1) ⌝ }
+    requires { ⌜ (cut .0 < plan .levels) × (shifts < 1099511627776) × (now cells ≡ balanceBox (frameOf (now file)) s t (cut .0)) ⌝ }
     ensures { λ r. ⌜ Arrives (frameOf (now (file .entry))) s t (cut .0) shifts r (now (cells .exit)) ⌝ }
 {
-    if z.weights == 0 {
-        let built = rows::built_formula(file, z, weights, s, t);
+    let place = t * plan.width + s;
+    let level = pixel::level_at(file, plan, place);
+    if plan.weights == 0 {
+        let built = rows::built_formula(file, plan, weights, s, t);
         return arrive_by(
-            file,
-            z,
+            plan,
             weights,
             built,
-            s,
-            t,
+            level,
             cut,
             shifts,
             cells,
@@ -165,12 +110,12 @@ pub fn arrive_table(
             words,
         );
     }
-    let centre = pixel::guide_at(file, z, t * z.width + s);
-    let row = rows::own_row(file, z, centre);
+    let centre = pixel::guide_at(file, plan, place);
+    let row = rows::own_row(file, plan, centre);
     let own = Formula {
         row: 0,
         slope: 1,
         offset: 0,
     };
-    arrive_by(file, z, &row, own, s, t, cut, shifts, cells, counts, words)
+    arrive_by(plan, &row, own, level, cut, shifts, cells, counts, words)
 }

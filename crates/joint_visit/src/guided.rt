@@ -1,44 +1,45 @@
 // Kind 2: a window's part in a walk. Its weights can be negative, so that most windows are searched from level 0: the search goes by the window's
 // histogram of levels, two numbers a level, and the box is moved to the answer once that is known.
-use crate::visit::Visit;
+use chain_nodes::FreeList;
 use joint_search::find;
+use level_search::Tally;
+use level_search::search;
 use levels::answer;
-use levels::search;
 use levels::tally;
-use levels::tally::Tally;
+use pixels::sums;
 use spec::Level;
 use spec::Plan;
+use visit::Running;
+use visit::Visit;
 use window::coefficients;
-use window::sums;
 use window::sums::Sums;
 ghost use mathlib.Core.Path.{_≡_};
 ghost use Prim.Native.Nat.{_+_, _<_, _≤_};
+ghost use lib.ListN.{length};
 ghost use Rattle.spec.specs.Frame.{frameOf};
-ghost use Rattle.spec.specs.Checks.{Planned};
 ghost use Rattle.spec.specs.Joint.{balanceBox};
 ghost use Rattle.window.specs.Sums.{SumsAt};
-ghost use Rattle.levels.specs.Tally.{BelowAt};
+ghost use Rattle.level_search.specs.Search.{LevelCells, TallyTo};
 ghost use Rattle.levels.specs.ListTally.{Carries};
 ghost use Rattle.histogram.specs.Histogram.{Blank, Histogram};
-ghost use Rattle.joint_search.specs.Search.{Counted};
-ghost use Rattle.joint_visit.specs.Arrive.{Guided, Answers};
+ghost use Rattle.joint_search.specs.Window.{Counted};
+ghost use Rattle.joint_visit.specs.Arrive.{countsIn, guideSumsIn, Answers};
 
-// The tally of the levels below the end; file, s and t say which window's histogram it is.
-pub fn tally_below(file: &[u8], z: Plan, numbers: &[u32], s: usize, t: usize, end: usize) -> Tally
-    requires { ⌜ (Planned (now file) z) × (s < z .width) × (t < z .height) × (end ≤ z .levels) ⌝ }
-    requires { ⌜ Histogram (frameOf (now file)) s t (now numbers) ⌝ }
-    ensures { λ a. ⌜ BelowAt (frameOf (now (file .entry))) s t end a ⌝ }
+// The tally of the levels below the end, by a histogram: the counts of its levels, and behind them the guide sums.
+pub fn tally_below(numbers: &[u32], levels: usize, end: usize) -> Tally
+    requires { ⌜ (levels + levels ≤ length (now numbers)) × (LevelCells (countsIn levels (now numbers)) (guideSumsIn levels (now numbers)))
+        × (end ≤ levels) ⌝ }
+    ensures { λ a. ⌜ TallyTo (countsIn levels (now (numbers .entry))) (guideSumsIn levels (now (numbers .entry))) end a ⌝ }
 {
-    let l = z.levels;
-    let last = l + l;
-    search::gather(&numbers[0..l], &numbers[l..last], end)
+    let last = levels + levels;
+    search::gather(&numbers[0..levels], &numbers[levels..last], end)
 }
 
 // The window's answer, and the box moved to it; before is the tally of the window that the two lists lead from. Only a monotone window needs it, and
 // it is carried there alone.
 pub fn arrive(
     file: &[u8],
-    z: Plan,
+    plan: Plan,
     a: Sums,
     before: Tally,
     entering: &[u16],
@@ -52,21 +53,21 @@ pub fn arrive(
     words: &[u64],
     numbers: &[u32],
 ) -> Visit
-    requires { ⌜ (Counted (now file) z s t (now counts) (now words)) × (z .kind ≡ 2) × (Histogram (frameOf (now file)) s t (now numbers)) ⌝ }
+    requires { ⌜ (Counted (now file) plan s t (now counts) (now words)) × (plan .kind ≡ 2) × (Histogram (frameOf (now file)) s t (now numbers)) ⌝ }
     requires { ⌜ (SumsAt (frameOf (now file)) s t a) × (Carries (frameOf (now file)) (now entering) (now leaving) s t (cut .0 + 1) before) ⌝ }
-    requires { ⌜ (cut .0 < z .levels) × (shifts ≤ 4294967296) × (now cells ≡ balanceBox (frameOf (now file)) s t (cut .0)) ⌝ }
+    requires { ⌜ (cut .0 < plan .levels) × (shifts ≤ 4294967296) × (now cells ≡ balanceBox (frameOf (now file)) s t (cut .0)) ⌝ }
     ensures { λ r. ⌜ Answers (frameOf (now (file .entry))) s t (cut .0) shifts r (now (cells .exit)) (now (numbers .entry)) ⌝ }
 {
-    let l = z.levels;
+    let l = plan.levels;
     let last = l + l;
-    let k = answer::coefficients_at(file, z, a, s, t);
-    let monotone = coefficients::monotone(z, k);
+    let k = coefficients::of_window(file, plan, a, s, t);
+    let monotone = coefficients::monotone(plan, k);
     let below = tally::carried_where(monotone, before, entering, leaving, cut.0 as usize + 1);
     let r = answer::answer(
         &numbers[0..l],
         &numbers[l..last],
         k,
-        z.guides,
+        plan.guides,
         monotone,
         below,
         cut,
@@ -74,49 +75,47 @@ pub fn arrive(
     );
     let level = r.level;
     let tally = r.tally;
-    find::move_to(file, z, s, t, cut, level, cells, counts, words);
-    Visit {
+    find::move_to(plan, cut, level, cells, counts, words);
+    let free = FreeList { head: 0, count: 0 };
+    let running = Running {
         sums: a,
         below: tally,
-        cut: level,
-        shifts: r.shifts,
-        answer: level,
-    }
+        free,
+    };
+    visit::answered(s, t, level, r.shifts, running)
 }
 
-// The window at (s, t), its stores and its box being made.
+// A walk's first window at (s, t), its stores and its box being made.
 pub fn enter(
     file: &[u8],
-    z: Plan,
+    plan: Plan,
     s: usize,
     t: usize,
-    cut: Level,
-    shifts: u64,
     cells: &mut [i16; 256],
     counts: &[u16],
     words: &[u64],
     numbers: &mut [u32],
 ) -> Visit
-    requires { ⌜ (Counted (now file) z s t (now counts) (now words)) × (z .kind ≡ 2) × (Blank (z .levels) (now numbers)) ⌝ }
-    requires { ⌜ (cut .0 < z .levels) × (shifts ≤ 4294967296) × (now cells ≡ balanceBox (frameOf (now file)) s t (cut .0)) ⌝ }
-    ensures { λ r. ⌜ Answers (frameOf (now (file .entry))) s t (cut .0) shifts r (now (cells .exit)) (now (numbers .exit)) ⌝ }
+    requires { ⌜ (Counted (now file) plan s t (now counts) (now words)) × (plan .kind ≡ 2) × (Blank (plan .levels) (now numbers)) ⌝ }
+    requires { ⌜ now cells ≡ balanceBox (frameOf (now file)) s t 0 ⌝ }
+    ensures { λ r. ⌜ Answers (frameOf (now (file .entry))) s t 0 0 r (now (cells .exit)) (now (numbers .exit)) ⌝ }
 {
-    histogram::start(file, z, s, t, numbers);
-    let a = sums::start(file, z, s, t);
-    let below = tally_below(file, z, numbers, s, t, cut.0 as usize + 1);
+    histogram::start(file, plan, s, t, numbers);
+    let a = sums::start(file, plan, s, t);
+    let below = tally_below(numbers, plan.levels, 1);
     let entering = [0u16; 2];
     let leaving = [0u16; 2];
     arrive(
         file,
-        z,
+        plan,
         a,
         below,
         &entering[0..0],
         &leaving[0..0],
         s,
         t,
-        cut,
-        shifts,
+        Level(0),
+        0,
         cells,
         counts,
         words,

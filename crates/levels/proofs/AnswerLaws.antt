@@ -34,17 +34,17 @@ use Rattle.spec.proofs.Totals.{le-leZ, leZ-le, le-balance, balance-le, median-f
 use Rattle.spec.proofs.Monotone.{monotone-none, balance-mono}
 use Rattle.spec.proofs.Climb.{cumulativeBelow, cumulativeBelow-zero, cumulativeBelow-suc, cumulativeBelow-next, guided-full}
 use Rattle.window.specs.declared.coefficients.Coefficients.{Coefficients}
-use Rattle.window.specs.Coefficients.{WeighsAt, CoefficientsSmall, endsNotNegative}
+use Rattle.window.specs.Coefficients.{WeighsAt, CoefficientsSmall, endsNotNegative, weightOf, reachesHalf}
 use Rattle.window.proofs.PixelLaws.{guides-high, guide-low}
 use Rattle.window.proofs.CoefficientLaws.{ends-monotone}
-use Rattle.levels.specs.declared.tally.Tally.{Tally}
-use Rattle.levels.specs.declared.search.Found.{Found}
+use Rattle.level_search.specs.declared.Tally.{Tally}
+use Rattle.level_search.specs.declared.search.Found.{Found}
 use Rattle.levels.specs.Tally.{belowSum, BelowAt}
-use Rattle.levels.specs.Search.{sumTo, TallyTo, weightOf, passes, firstLevel, LevelCells, Searchable, Rising, FoundAt}
-use Rattle.levels.specs.Block.{EndsBelow, Heaviest}
+use Rattle.level_search.specs.Search.{sumTo, TallyTo, passes, firstLevel, LevelCells, Searchable, Rising, FoundAt}
+use Rattle.level_search.specs.Block.{EndsBelow, Heaviest}
 use Rattle.levels.specs.Answer.{Profiled, Answerable, Answered}
-use Rattle.levels.proofs.SearchLaws.{sumTo-none, sumTo-more}
-use Rattle.levels.proofs.BlockLaws.{formula-below}
+use Rattle.level_search.proofs.SearchLaws.{sumTo-none, sumTo-more}
+use Rattle.level_search.proofs.BlockLaws.{formula-below}
 use Rattle.levels.proofs.TallyLaws.{below-count-high, below-guide-high}
 
 pub guided : {b : List ℕ} {z : Plan} → Planned b z → z .kind ≡ 2 → frameOf b .set .kind ≡ 2
@@ -118,7 +118,7 @@ module _ {p : Frame} {s t : ℕ} (q : Pixel p s t) {counts sums : List ℕ} (c :
   -- ---- the search is the definition's
   module _ (two : p .set .kind ≡ 2) {k : Coefficients} (w : WeighsAt p s t k) where
     pub passes-is : (i : ℕ) → i < p .set .levels → passes k counts sums i ≡ leZ (totalWeight p s t) (pos 2 *ℤ cumulative p s t i)
-    unfolding passes
+    unfolding passes reachesHalf
     passes-is i h =
         let e : weightOf k (sumTo counts (suc i)) (sumTo sums (suc i)) ≡ cumulative p s t i =
         rw (w .slope, w .offset, count-to (suc i) (omega arith), sum-to (suc i) (omega arith)) (below-linear p s t two (suc i)) ∙ cumulativeBelow-suc p s t i in

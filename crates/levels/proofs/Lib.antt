@@ -1,5 +1,3 @@
-pub mod SearchLaws
-pub mod BlockLaws
 pub mod TallyLaws
 pub mod AnswerLaws
 pub mod ListTallyLaws

@@ -19,7 +19,7 @@ use Rattle.window.proofs.FormLaws.{both-in}
 use Rattle.pixels.specs.Pixels.{countOf, levelIn, guideIn, pixelFold, PixelsBelow, LinePixels}
 use Rattle.pixels.proofs.SumLaws.{below-most}
 use Rattle.pixels.proofs.AdditiveLaws.{pixels-none, pixels-more, stepped}
-use Rattle.levels.specs.declared.tally.Tally.{Tally}
+use Rattle.level_search.specs.declared.Tally.{Tally}
 use Rattle.levels.specs.Tally.{belowSum, BelowAt, oneBelow, guideBelow}
 use Rattle.levels.specs.ListTally.{ListTally, Carriable, CarriedBy, Carries}
 use Rattle.levels.proofs.TallyLaws.{if-le, below-count-high, below-guide-high}

@@ -10,11 +10,11 @@ use Rattle.spec.specs.Frame.{Frame, guide}
 use Rattle.spec.specs.Window.{levelSum}
 use Rattle.spec.specs.Walk.{arrive}
 use Rattle.window.specs.declared.coefficients.Coefficients.{Coefficients}
-use Rattle.levels.specs.declared.tally.Tally.{Tally}
-use Rattle.levels.specs.declared.search.Found.{Found}
+use Rattle.level_search.specs.declared.Tally.{Tally}
+use Rattle.level_search.specs.declared.search.Found.{Found}
 use Rattle.levels.specs.Tally.{BelowAt}
-use Rattle.levels.specs.Search.{TallyTo, Searchable, Rising}
-use Rattle.levels.specs.Block.{EndsBelow, Heaviest}
+use Rattle.level_search.specs.Search.{TallyTo, Searchable, Rising}
+use Rattle.level_search.specs.Block.{EndsBelow, Heaviest}
 
 -- the two lists are those of the window at (s, t)
 pub record Profiled (p : Frame) (s t : ℕ) (counts sums : List ℕ) : Type 0 where

@@ -5,7 +5,7 @@ use mathlib.Core.List.{List}
 use Prim.Native.Nat.{ℕ, _+_, _*_, _≤_}
 use Rattle.spec.specs.Frame.{Frame}
 use Rattle.pixels.specs.Pixels.{pixelFoldTo, pixelFold, PixelsBelow}
-use Rattle.levels.specs.declared.tally.Tally.{Tally}
+use Rattle.level_search.specs.declared.Tally.{Tally}
 use Rattle.levels.specs.Tally.{BelowAt, oneBelow, guideBelow}
 
 -- of the first k pixels of a list

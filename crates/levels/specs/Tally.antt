@@ -6,7 +6,7 @@ use lib.Dec.{ltb}
 use Rattle.spec.specs.Base.{if_then_else_}
 use Rattle.spec.specs.Frame.{Frame, level, guide}
 use Rattle.spec.specs.Window.{Σ}
-use Rattle.levels.specs.declared.tally.Tally.{Tally}
+use Rattle.level_search.specs.declared.Tally.{Tally}
 
 -- the sum of f over the window's pixels of a level below n
 unfoldable pub belowSum : Frame → ℕ → ℕ → (ℕ → ℕ → ℕ) → ℕ → ℕ

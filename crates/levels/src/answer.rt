@@ -1,13 +1,12 @@
 // The window's answer from its counts and guide sums of each level. The two lists are the window's: how they are kept is the way's own.
-use crate::block;
-use crate::search;
-use crate::search::Found;
-use crate::tally::Tally;
+use level_search::Tally;
+use level_search::block;
+use level_search::search;
+use level_search::search::Found;
 use spec::Level;
 use spec::Plan;
 use window::coefficients;
 use window::coefficients::Coefficients;
-use window::pixel;
 use window::sums::Sums;
 ghost use mathlib.Core.Path.{_≡_};
 ghost use Prim.Native.Nat.{_+_, _<_};
@@ -16,7 +15,7 @@ ghost use Rattle.spec.specs.Checks.{Planned};
 ghost use Rattle.spec.specs.Frame.{frameOf};
 ghost use Rattle.window.specs.Sums.{SumsAt};
 ghost use Rattle.window.specs.Coefficients.{WeighsAt, CoefficientsSmall};
-ghost use Rattle.levels.specs.Search.{FoundAt};
+ghost use Rattle.level_search.specs.Search.{FoundAt};
 ghost use Rattle.levels.specs.Answer.{Answerable};
 
 // The coefficients of the window at (s, t), whose sums are a.
@@ -25,8 +24,7 @@ pub fn coefficients_at(file: &[u8], z: Plan, a: Sums, s: usize, t: usize) -> Coe
     requires { ⌜ (s < z .width) × (t < z .height) × (SumsAt (frameOf (now file)) s t a) ⌝ }
     ensures { λ k. ⌜ (WeighsAt (frameOf (now (file .entry))) s t k) × (CoefficientsSmall k) ⌝ }
 {
-    let centre = pixel::guide_at(file, z, t * z.width + s);
-    coefficients::from_sums(z, a, centre)
+    coefficients::of_window(file, z, a, s, t)
 }
 
 // By the coefficients k over so many guides: from the cut point where the window is monotone, with the tally of the levels up to it; else, and that

@@ -1,5 +1,4 @@
-// The search for a window's answer by its counts and guide sums of each level, for kind 2: what the ways that keep these two lists have in common.
+// A window's answer by its counts and guide sums of each level, for kind 2, and the tally that a walk carries: what the ways that keep these two
+// lists have in common.
 pub mod answer;
-pub mod block;
-pub mod search;
 pub mod tally;

@@ -1,4 +1,5 @@
 // The count and the guide sum of the window's pixels below a level, carried over a move by the pixels that leave and enter.
+use level_search::Tally;
 use spec::Level;
 ghost use mathlib.Core.Path.{_≡_};
 ghost use mathlib.Core.Bool.{true};
@@ -6,11 +7,6 @@ ghost use lib.Dec.{ltb};
 ghost use Rattle.spec.specs.Base.{if_then_else_};
 ghost use Rattle.pixels.specs.Pixels.{countOf, PixelsBelow};
 ghost use Rattle.levels.specs.ListTally.{ListTally, Carriable, CarriedBy};
-
-pub struct Tally {
-    pub count: usize,
-    pub sum: usize,
-}
 
 // f where the level is below the end, else 0.
 pub fn if_below(i: Level, end: usize, f: usize) -> usize

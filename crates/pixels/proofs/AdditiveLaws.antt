@@ -1,23 +1,28 @@
--- Laws of every store that adds up shares of pixels: one pixel more, room along a list, and a step of the window.
+-- Laws of every store that adds up shares of pixels: one pixel more, one column more, room along a list, and a step of the window.
 -- Assumes nothing.
 use mathlib.Core.Path.{_≡_, refl, sym, ap, _∙_, subst}
 use mathlib.Core.Bool.{Bool, true, false}
 use mathlib.Core.List.{List}
 use Prim.Native.Nat.{ℕ, zero, suc, _+_, _-_, _*_, _≤_, _<_}
-use native.Mathlib.Nat.{add-zero, add-suc, add-assoc, zero-add}
+use native.Mathlib.Nat.{add-zero, add-suc, add-assoc, zero-add, le-refl, le-trans, le-of-eq}
 use native.Mathlib.Numerals.{add-one}
 use native.Mathlib.Omega.{arith}
+use lib.IntN.{ℤ, pos, natAbs, _+ℤ_, _-ℤ_, +ℤ-idr, +ℤ-assoc}
+use Rattle.ints.specs.Bound.{abs-add, abs-sub-le}
+use Rattle.ints.specs.Polynomial.{_⊕_, _⊖_, _≐_, solve2, solve3}
 use Rattle.spec.specs.declared.Plan.{Plan}
 use Rattle.spec.specs.Base.{fold}
 use Rattle.spec.specs.Frame.{level, guide, frameOf}
 use Rattle.spec.specs.Checks.{Planned}
 use Rattle.spec.specs.Window.{span, over}
+use Rattle.spec.proofs.Ranges.{Sums, natSums, intSums}
+use Rattle.spec.proofs.Sums.{sum-abs, sum-const}
 use Rattle.window.specs.declared.line.Line.{Line}
 use Rattle.window.specs.declared.line.Step.{Step}
 use Rattle.window.specs.Line.{columnLine, Adjacent, stepOf, lineFold}
-use Rattle.window.proofs.LineLaws.{fold-none, fold-more, columns-law, step-sum}
+use Rattle.window.proofs.LineLaws.{fold-none, fold-more, columns-law, step-law}
 use Rattle.pixels.specs.Pixels.{countOf, levelIn, guideIn, pixelFoldTo, pixelFold, columnsFold, LinePixels}
-use Rattle.pixels.specs.Additive.{changed, Fits, PassedTo, Exchanged, Exchangeable, windowSum}
+use Rattle.pixels.specs.Additive.{changed, changedℤ, Fits, PassedTo, Exchanged, Exchangeable, windowSum}
 
 -- ---- a number that changes
 pub changed-none : (w : Bool) (a : ℕ) → changed w a 0 ≡ a
@@ -30,10 +35,54 @@ unfolding changed
 changed-next true a m n = add-assoc a m n
 changed-next false a m n = omega arith
 
+pub fits-up : (limit : ℕ) (w : Bool) (a n : ℕ) → w ≡ true → Fits limit w a n → a + n < limit
+fits-up limit w a n e h = rw e at h
+
+pub fits-down : (limit : ℕ) (w : Bool) (a n : ℕ) → w ≡ false → Fits limit w a n → n ≤ a
+fits-down limit w a n e h = rw e at h
+
 pub fits-next : (limit : ℕ) (w : Bool) (a m n l : ℕ) → Fits limit w a l → m + n ≤ l → Fits limit w (changed w a m) n
 unfolding changed
 fits-next limit true a m n l h k = omega arith
 fits-next limit false a m n l h k = omega arith
+
+pub changed-noneℤ : (w : Bool) (a : ℤ) → changedℤ w a (pos 0) ≡ a
+unfolding changedℤ
+changed-noneℤ true a = +ℤ-idr a
+changed-noneℤ false a = +ℤ-idr a
+
+pub changed-nextℤ : (w : Bool) (a m n : ℤ) → changedℤ w (changedℤ w a m) n ≡ changedℤ w a (m +ℤ n)
+unfolding changedℤ
+changed-nextℤ true a m n = +ℤ-assoc a m n
+changed-nextℤ false a m n = solve3 (λ a m n. (a ⊖ m) ⊖ n ≐ a ⊖ (m ⊕ n)) refl a m n
+
+pub changed-abs : (w : Bool) (a n : ℤ) → natAbs (changedℤ w a n) ≤ natAbs a + natAbs n
+unfolding changedℤ
+changed-abs true a n = abs-add a n
+changed-abs false a n = abs-sub-le a n (le-refl (natAbs a)) (le-refl (natAbs n))
+
+-- what the laws below need of the numbers
+module _ {A : Type 0} (_⊕_ : A → A → A) (o : A) (change : Bool → A → A → A) where
+  infixl 6 _⊕_
+  pub record Numbers : Type 0 where
+    pub sums : Sums _⊕_ o
+    pub none : (w : Bool) (a : A) → change w a o ≡ a
+    pub next : (w : Bool) (a m n : A) → change w (change w a m) n ≡ change w a (m ⊕ n)
+    pub cancel : (a b n : A) → a ⊕ n ≡ b ⊕ n → a ≡ b
+
+pub naturals : Numbers _+_ 0 changed
+naturals = record { sums = natSums; none = changed-none; next = changed-next; cancel = λ a b n e. omega arith }
+
+pub integers : Numbers _+ℤ_ (pos 0) changedℤ
+integers = record {
+  sums = intSums;
+  none = changed-noneℤ;
+  next = changed-nextℤ;
+  cancel = λ a b n e. sym (less-back a n) ∙ ap (λ (q : ℤ). q -ℤ n) e ∙ less-back b n;
+}
+  where
+    less-back : (a n : ℤ) → (a +ℤ n) -ℤ n ≡ a
+    less-back a n = solve2 (λ a n. (a ⊕ n) ⊖ n ≐ a) refl a n
 
 -- ---- along a list, for any operation
 module _ {A : Type 0} (_⊕_ : A → A → A) (o : A) (p : List ℕ) (h : ℕ → ℕ → A) where
@@ -84,44 +133,72 @@ module _ (p : List ℕ) (h : ℕ → ℕ → ℕ) where
     high zero l = rw (pixels-none _+_ 0 p h) (omega arith)
     high (suc m) l = rw (native.Mathlib.Nat.suc-mul m top) (omega (arith, high m (omega arith), pixels-next _+_ 0 p h m, low m l))
 
+-- ---- for integers: n pixels with at most top each
+pub high-abs : (p : List ℕ) (h : ℕ → ℕ → ℤ) (top n : ℕ) → ((k : ℕ) → k < n → natAbs (h (levelIn p k) (guideIn p k)) ≤ top) → natAbs (pixelFoldTo _+ℤ_ (pos 0) p h n) ≤ n * top
+unfolding pixelFoldTo
+high-abs p h top n low = le-trans (sum-abs _ (λ k. top) 0 n (λ k x y. low k (omega arith))) (le-of-eq (sum-const top 0 n))
+
 -- ---- the store
+module _ {A : Type 0} {_⊕_ : A → A → A} {o : A} {change : Bool → A → A → A} (laws : Numbers _⊕_ o change) {Q : Type 0} (share : Q → ℕ → ℕ → A) where
+  infixl 6 _⊕_
+  pub passed-none : (w : Bool) (p : List ℕ) (c : Q → A) → PassedTo _⊕_ o share change w p 0 c c
+  passed-none w p c = record { cells = λ q. sym (ap (change w (c q)) (pixels-none _⊕_ o p (share q)) ∙ laws .none w (c q)) }
+
+  pub passed-next : {w : Bool} {p : List ℕ} {k : ℕ} {c c₁ c₂ : Q → A} → PassedTo _⊕_ o share change w p k c c₁
+      → ((q : Q) → c₂ q ≡ change w (c₁ q) (share q (levelIn p k) (guideIn p k))) → PassedTo _⊕_ o share change w p (k + 1) c c₂
+  passed-next {w} {p} {k} {c} g e = record {
+    cells = λ q. e q ∙ ap (λ (a : A). change w a (share q (levelIn p k) (guideIn p k))) (g .cells q) ∙ laws .next w (c q) _ _
+        ∙ ap (change w (c q)) (sym (pixels-more _⊕_ o p (share q) k));
+  }
+
+  -- ---- a step of the window, whose lines were read into the lists e and l
+  module _ {b : List ℕ} {z : Plan} (pl : Planned b z) {s t s′ t′ : ℕ} (adj : Adjacent z s t s′ t′) {d : Step} (ed : d ≡ stepOf z s t s′ t′) (e l : List ℕ)
+      (re : (h : ℕ → ℕ → A) → pixelFold _⊕_ o e h ≡ lineFold _⊕_ o b (d .entering) h) (rl : (h : ℕ → ℕ → A) → pixelFold _⊕_ o l h ≡ lineFold _⊕_ o b (d .leaving) h) where
+    pub window-step : (q : Q) → windowSum _⊕_ o share (frameOf b) s′ t′ q ⊕ pixelFold _⊕_ o l (share q) ≡ windowSum _⊕_ o share (frameOf b) s t q ⊕ pixelFold _⊕_ o e (share q)
+    window-step q =
+        ap (λ (y : A). windowSum _⊕_ o share (frameOf b) s′ t′ q ⊕ y) (rl (share q))
+        ∙ (rw ed (step-law _⊕_ o pl (share q) (laws .sums) adj))
+        ∙ ap (λ (y : A). windowSum _⊕_ o share (frameOf b) s t q ⊕ y) (sym (re (share q)))
+
+    -- a number that was the old window's is the new one's
+    pub slid : {c c′ : Q → A} → Exchanged _⊕_ o share e l c c′ → (q : Q) → c q ≡ windowSum _⊕_ o share (frameOf b) s t q → c′ q ≡ windowSum _⊕_ o share (frameOf b) s′ t′ q
+    slid x q here =
+        laws .cancel _ _ (pixelFold _⊕_ o l (share q)) (x .cells q ∙ ap (λ (y : A). y ⊕ pixelFold _⊕_ o e (share q)) here ∙ sym (window-step q))
+
+-- ---- natural numbers: room
 module _ {Q : Type 0} (share : Q → ℕ → ℕ → ℕ) where
-  pub passed-none : (w : Bool) (p : List ℕ) (c : Q → ℕ) → PassedTo share w p 0 c c
-  passed-none w p c = record { cells = λ q. sym (ap (changed w (c q)) (pixels-none _+_ 0 p (share q)) ∙ changed-none w (c q)) }
+  -- a number that has room for all the list's pixels, or has them to lose, has it for the next one
+  pub room-next : {w : Bool} {p : List ℕ} {k : ℕ} {c c₁ : Q → ℕ} → PassedTo _+_ 0 share changed w p k c c₁ → (limit : ℕ) → k < countOf p → (q : Q)
+      → Fits limit w (c q) (pixelFold _+_ 0 p (share q)) → Fits limit w (c₁ q) (share q (levelIn p k) (guideIn p k))
+  room-next {w} {p} {k} {c} g limit l q h =
+      subst (λ (a : ℕ). Fits limit w a (share q (levelIn p k) (guideIn p k))) (sym (g .cells q))
+      (fits-next limit w (c q) _ _ _ h (omega (arith, pixels-next _+_ 0 p (share q) k, upto p (share q) (suc k) (countOf p) l)))
 
-  module _ {w : Bool} {p : List ℕ} {k : ℕ} {c c₁ : Q → ℕ} (g : PassedTo share w p k c c₁) where
-    pub passed-next : {c₂ : Q → ℕ} → ((q : Q) → c₂ q ≡ changed w (c₁ q) (share q (levelIn p k) (guideIn p k))) → PassedTo share w p (k + 1) c c₂
-    passed-next e = record {
-      cells = λ q. e q ∙ ap (λ (a : ℕ). changed w a (share q (levelIn p k) (guideIn p k))) (g .cells q) ∙ changed-next w (c q) _ _
-          ∙ ap (changed w (c q)) (sym (pixels-more _+_ 0 p (share q) k));
-    }
-
-    -- a number that has room for all the list's pixels, or has them to lose, has it for the next one
-    pub room-next : (limit : ℕ) → k < countOf p → (q : Q) → Fits limit w (c q) (pixelFold _+_ 0 p (share q)) → Fits limit w (c₁ q) (share q (levelIn p k) (guideIn p k))
-    room-next limit l q h =
-        subst (λ (a : ℕ). Fits limit w a (share q (levelIn p k) (guideIn p k))) (sym (g .cells q))
-        (fits-next limit w (c q) _ _ _ h (omega (arith, pixels-next _+_ 0 p (share q) k, upto p (share q) (suc k) (countOf p) l)))
-
-  -- ---- one list in, another out
-  module _ {limit : ℕ} {e l : List ℕ} {c : Q → ℕ} (x : Exchangeable share limit e l c) {c₁ : Q → ℕ} (g : PassedTo share true e (countOf e) c c₁) where
+  -- one list in, another out
+  module _ {limit : ℕ} {e l : List ℕ} {c : Q → ℕ} (x : Exchangeable share limit e l c) {c₁ : Q → ℕ} (g : PassedTo _+_ 0 share changed true e (countOf e) c c₁) where
     pub leave-fits : (q : Q) → Fits limit false (c₁ q) (pixelFold _+_ 0 l (share q))
     unfolding changed
     leave-fits q = omega (arith, g .cells q, x .there q)
 
-    pub exchanged : {c₂ : Q → ℕ} → PassedTo share false l (countOf l) c₁ c₂ → Exchanged share e l c c₂
+    pub exchanged : {c₂ : Q → ℕ} → PassedTo _+_ 0 share changed false l (countOf l) c₁ c₂ → Exchanged _+_ 0 share e l c c₂
     unfolding changed
     exchanged o = record { cells = λ q. omega (arith, o .cells q, g .cells q, x .there q) }
 
-  -- ---- a step of the window
   module _ {b : List ℕ} {z : Plan} (pl : Planned b z) {s t s′ t′ : ℕ} (adj : Adjacent z s t s′ t′) {d : Step} (ed : d ≡ stepOf z s t s′ t′)
       {e l : List ℕ} (re : LinePixels b z (d .entering) e) (rl : LinePixels b z (d .leaving) l) where
-    pub stepped : (q : Q) → windowSum share (frameOf b) s′ t′ q + pixelFold _+_ 0 l (share q) ≡ windowSum share (frameOf b) s t q + pixelFold _+_ 0 e (share q)
-    stepped q = omega (arith, re .sum (share q), rl .sum (share q), step-sum pl adj ed (share q))
+    pub stepped : (q : Q) → windowSum _+_ 0 share (frameOf b) s′ t′ q + pixelFold _+_ 0 l (share q) ≡ windowSum _+_ 0 share (frameOf b) s t q + pixelFold _+_ 0 e (share q)
+    stepped = window-step naturals share pl adj ed e l (re .sum) (rl .sum)
 
-    module _ {c : Q → ℕ} (here : (q : Q) → c q ≡ windowSum share (frameOf b) s t q) where
-      -- what leaves is there
-      pub leaving-there : (q : Q) → pixelFold _+_ 0 l (share q) ≤ c q + pixelFold _+_ 0 e (share q)
-      leaving-there q = omega (arith, here q, stepped q)
+    -- what leaves is there
+    pub leaving-there : {c : Q → ℕ} → ((q : Q) → c q ≡ windowSum _+_ 0 share (frameOf b) s t q) → (q : Q) → pixelFold _+_ 0 l (share q) ≤ c q + pixelFold _+_ 0 e (share q)
+    leaving-there here q = omega (arith, here q, stepped q)
 
-      pub slid : {c′ : Q → ℕ} → Exchanged share e l c c′ → (q : Q) → c′ q ≡ windowSum share (frameOf b) s′ t′ q
-      slid x q = omega (arith, x .cells q, here q, stepped q)
+-- ---- integers: one list in, another out
+pub exchangedℤ : {Q : Type 0} (share : Q → ℕ → ℕ → ℤ) {e l : List ℕ} {c c₁ c₂ : Q → ℤ} → PassedTo _+ℤ_ (pos 0) share changedℤ true e (countOf e) c c₁
+    → PassedTo _+ℤ_ (pos 0) share changedℤ false l (countOf l) c₁ c₂ → Exchanged _+ℤ_ (pos 0) share e l c c₂
+unfolding changedℤ
+exchangedℤ share {e} {l} {c} g o = record {
+  cells = λ q.
+      let n = pixelFold _+ℤ_ (pos 0) l (share q) in
+      ap (λ (y : ℤ). y +ℤ n) (o .cells q ∙ ap (λ (y : ℤ). y -ℤ n) (g .cells q)) ∙ solve2 (λ a n. (a ⊖ n) ⊕ n ≐ a) refl (c q +ℤ pixelFold _+ℤ_ (pos 0) e (share q)) n;
+}

@@ -1,18 +1,15 @@
 -- Laws of a line's pixels as a list: one pixel more, and the sums over the list are those over the line.
 -- Assumes nothing.
-use mathlib.Core.Path.{_≡_, refl, sym, ap, ap₂, _∙_}
-use mathlib.Core.Logic.{_⊎_, inl, inr, ⊎-elim}
-use mathlib.Core.Bool.{Bool, true, false}
+use mathlib.Core.Path.{_≡_, ap, ap₂, _∙_}
+use mathlib.Core.Logic.{⊎-elim}
 use mathlib.Core.List.{List}
-use Prim.Native.Nat.{ℕ, _+_, _-_, _*_, _/_, _≤_, _<_}
+use Prim.Native.Nat.{ℕ, _+_, _-_, _*_, _≤_, _<_}
 use native.Mathlib.Omega.{arith}
-use lib.Dec.{eqb}
-use lib.ListN.{length, getD, set, take, drop, length-set}
+use lib.ListN.{length, set, take, drop, length-set}
 use lib.IntN.{pos, _+ℤ_}
 use lib.Seq.{getD-set-same, getD-set-other, getD-take, length-take-le}
-use borrow.Author.Tests.{eqb-true, eqb-false}
+use Rattle.ints.specs.Order.{eq-or-ne}
 use Rattle.spec.specs.declared.Plan.{Plan}
-use Rattle.spec.specs.Base.{fold}
 use Rattle.spec.specs.Frame.{pixelLevel, pixelGuide}
 use Rattle.spec.specs.Checks.{Planned}
 use Rattle.spec.proofs.Ranges.{Sums, natSums, intSums, fold-same}
@@ -21,14 +18,7 @@ use Rattle.window.specs.declared.line.Step.{Step}
 use Rattle.window.specs.Line.{InPlanes, StepInPlanes, Adjacent, stepOf, pixelOf, lineFoldTo}
 use Rattle.window.proofs.PixelLaws.{plan-limits, level-low, guide-low}
 use Rattle.window.proofs.LineLaws.{lines-in}
-use Rattle.pixels.specs.Pixels.{countOf, levelIn, guideIn, pixelFoldTo, PixelsBelow, LinePixels}
-
-eq-or-ne : (a b : ℕ) → (a ≡ b) ⊎ (a ≡ b → ⊥)
-eq-or-ne a b = go (eqb a b) refl
-  where
-    go : (q : Bool) → eqb a b ≡ q → (a ≡ b) ⊎ (a ≡ b → ⊥)
-    go true e = inl (eqb-true a b e)
-    go false e = inr (eqb-false a b e)
+use Rattle.pixels.specs.Pixels.{countOf, levelIn, guideIn, pixelFoldTo, LinePixels}
 
 -- a pixel's two places are in the list
 pub places-in : (p : List ℕ) (k : ℕ) → k < countOf p → (2 * k < length p) × (2 * k + 1 < length p)

@@ -27,8 +27,9 @@ use Rattle.spec.proofs.Plans.{Facts, facts}
 use Rattle.text.specs.Text.{planeText, sizeText, wayText, refusalText}
 use Rattle.text.proofs.Rows.{plane-rows}
 use Rattle.text.proofs.Lengths.{rows-short, size-short, way-short, refusal-short}
-use Rattle.program.specs.Admitted.{longest, Admitted, guidedText}
-use Rattle.program.proofs.Admission.{pixels-few}
+use Rattle.program_checks.specs.Admitted.{Admitted}
+use Rattle.program.specs.Answer.{longest, guidedText}
+use Rattle.program_checks.proofs.Admission.{pixels-few}
 
 -- ---- refusals
 pub refused-text : (b : List ℕ) (n offset : ℕ) → refusalText n offset ≡ outputText b (refused n (if eqb n 7 then offset ∷ [] else []))

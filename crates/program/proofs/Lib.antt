@@ -1,4 +1,3 @@
 -- Assumes nothing.
-pub mod Admission
 pub mod Answering
 pub mod Serving

@@ -20,8 +20,9 @@ use Rattle.spec.specs.Chain.{nodeCount}
 use Rattle.spec.specs.Calls.{wayOf, roomOf, badWay, lacks, short, filterChecks, filterOutcome}
 use Rattle.spec.proofs.Limits.{FrameLimits}
 use Rattle.spec.proofs.Plans.{Facts, facts}
-use Rattle.program.specs.Admitted.{Admitted, Serving}
-use Rattle.program.proofs.Admission.{pixels-few}
+use Rattle.program_checks.specs.Admitted.{Admitted}
+use Rattle.program.specs.Answer.{Serving}
+use Rattle.program_checks.proofs.Admission.{pixels-few}
 
 -- the settings that the program takes
 record Small (k : Settings) : Type 0 where

@@ -1,2 +1,2 @@
 -- Assumes nothing.
-pub mod Admitted
+pub mod Answer

@@ -4,15 +4,15 @@ use spec::Plan;
 use text::put_rows;
 use text::put_size;
 use text::put_way;
-ghost use mathlib.Core.Path.{_≡_};
-ghost use Prim.Native.Nat.{_+_, _≤_};
+ghost use Prim.Native.Nat.{_≤_};
 ghost use lib.ListN.{length};
 ghost use Rattle.spec.specs.Refusal.{accepted};
 ghost use Rattle.spec.specs.Frame.{frameOf};
 ghost use Rattle.spec.specs.Filter.{filterEnd};
 ghost use Rattle.spec.specs.Program.{outputText};
 ghost use Rattle.text.specs.Text.{Room, Puts};
-ghost use Rattle.program.specs.Admitted.{longest, Admitted, Serving, Filtered, guidedText};
+ghost use Rattle.program_checks.specs.Admitted.{Admitted};
+ghost use Rattle.program.specs.Answer.{longest, Filterable, Filtered, guidedText};
 
 // The pixels that a file of 16,384 bytes can have: its planes may overlap, so that 28 bytes of trailer and 2 for each pixel are the least.
 const PIXELS: usize = 8192;
@@ -25,8 +25,8 @@ const WORDS: usize = 64;
 const NUMBERS: usize = 8320;
 
 // Filters by a way, with stores of its own; gives the shift count.
-fn filter_by(input: &[u8], z: Plan, way: u32, plane: &mut [u16; PIXELS]) -> u64
-    requires { ⌜ (Admitted (now input) z) × (Serving way z) ⌝ }
+fn filter_by(input: &[u8], way: u32, plane: &mut [u16; PIXELS]) -> u64
+    requires { ⌜ Filterable (now input) way ⌝ }
     ensures { λ r. ⌜ Filtered (now (input .entry)) (now (plane .entry)) (now (plane .exit)) r ⌝ }
 {
     let mut counts = [0u16; COUNTS];
@@ -37,30 +37,36 @@ fn filter_by(input: &[u8], z: Plan, way: u32, plane: &mut [u16; PIXELS]) -> u64
 }
 
 // The lines of the ways that serve kind 2 alone.
-fn put_guided(out: &mut [u8], at: usize, input: &[u8], z: Plan, plane: &mut [u16; PIXELS]) -> usize
-    requires { ⌜ Admitted (now input) z ⌝ }
-    requires { ⌜ Room (now out) at (guidedText (z .kind) (filterEnd (frameOf (now input)) .shifts)) ⌝ }
-    ensures { λ r. ⌜ Puts (now (out .entry)) (now (out .exit)) at r (guidedText (z .kind) (filterEnd (frameOf (now (input .entry))) .shifts)) ⌝ }
+fn put_guided(
+    out: &mut [u8],
+    at: usize,
+    input: &[u8],
+    plan: Plan,
+    plane: &mut [u16; PIXELS],
+) -> usize
+    requires { ⌜ Admitted (now input) plan ⌝ }
+    requires { ⌜ Room (now out) at (guidedText (plan .kind) (filterEnd (frameOf (now input)) .shifts)) ⌝ }
+    ensures { λ r. ⌜ Puts (now (out .entry)) (now (out .exit)) at r (guidedText (plan .kind) (filterEnd (frameOf (now (input .entry))) .shifts)) ⌝ }
 {
-    if z.kind != 2 {
+    if plan.kind != 2 {
         return at;
     }
-    let columns = filter_by(input, z, 2, plane);
+    let columns = filter_by(input, 2, plane);
     let next = put_way(out, at, b"columns ", columns);
-    let chain = filter_by(input, z, 3, plane);
+    let chain = filter_by(input, 3, plane);
     put_way(out, next, b"chain ", chain)
 }
 
 // The text of an accepted frame.
-pub fn put_answer(out: &mut [u8], input: &[u8], z: Plan) -> usize
-    requires { ⌜ Admitted (now input) z ⌝ }
+pub fn put_answer(out: &mut [u8], input: &[u8], plan: Plan) -> usize
+    requires { ⌜ Admitted (now input) plan ⌝ }
     requires { ⌜ longest ≤ length (now out) ⌝ }
     ensures { λ r. ⌜ Puts (now (out .entry)) (now (out .exit)) 0 r (outputText (now (input .entry)) accepted) ⌝ }
 {
     let mut plane = [0u16; PIXELS];
-    let joint = filter_by(input, z, 1, &mut plane);
-    let below = put_size(out, 0, z.width as u64, z.height as u64);
-    let ways = put_rows(out, below, &plane, z.width, z.height);
+    let joint = filter_by(input, 1, &mut plane);
+    let below = put_size(out, 0, plan.width as u64, plan.height as u64);
+    let ways = put_rows(out, below, &plane, plan.width, plan.height);
     let next = put_way(out, ways, b"joint ", joint);
-    put_guided(out, next, input, z, &mut plane)
+    put_guided(out, next, input, plan, &mut plane)
 }

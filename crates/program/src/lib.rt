@@ -1,13 +1,13 @@
 // The text that the program icemedian writes for the bytes that it read, put into a lent buffer. Any bytes are taken.
 mod answer;
-mod judge;
 
-use frame::check::stops;
 use frame::plan::open_plan;
+use program_checks::judge;
 use spec::Refusal;
 use spec::Verdict;
 use spec::number_of;
 use spec::offset_of;
+use spec::stops;
 use text::put_refusal;
 ghost use mathlib.Core.Path.{_≡_};
 ghost use mathlib.Core.Bool.{true};
@@ -17,7 +17,7 @@ ghost use lib.ListN.{length, drop};
 ghost use Rattle.spec.specs.Refusal.{fires, number, offsetOf, numbered};
 ghost use Rattle.spec.specs.Program.{outputText, printed};
 ghost use Rattle.text.specs.Text.{Puts, refusalText};
-ghost use Rattle.program.specs.Admitted.{longest};
+ghost use Rattle.program.specs.Answer.{longest};
 
 // The longest text, in bytes: the buffer's length.
 pub const ROOM: usize = 24704;
@@ -46,10 +46,10 @@ pub fn respond(input: &[u8], out: &mut [u8; ROOM]) -> usize
     ensures { λ r. ⌜ r ≡ length (printed (now (input .entry))) ⌝ }
     ensures { λ _. ⌜ now (out .exit) ≡ printed (now (input .entry)) ++ drop (length (printed (now (input .entry)))) (now (out .entry)) ⌝ }
 {
-    let v = judge::judge(input);
+    let v = judge(input);
     if stops(v) {
         return put_verdict(out, v);
     }
-    let z = open_plan(input).plan;
-    answer::put_answer(out, input, z)
+    let plan = open_plan(input).plan;
+    answer::put_answer(out, input, plan)
 }

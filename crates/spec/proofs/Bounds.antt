@@ -11,14 +11,14 @@ use lib.IntN.{ℤ, pos, negsuc, natAbs, _-ℤ_, _*ℤ_}
 use Rattle.ints.specs.Order.{add-parts, diff-parts, posPart-neg, negPart-neg, <-to-≤}
 use Rattle.ints.specs.Linear.{ints}
 use Rattle.ints.specs.Bound.{abs-add-le, abs-sub-le, abs-mul-le, abs-mul, abs-le, abs-le-nonneg}
-use Rattle.spec.specs.Base.{if_then_else_, indicator, sum, sumℤ}
+use Rattle.spec.specs.Base.{if_then_else_, indicator, sum}
 use Rattle.spec.specs.declared.Settings.{Settings}
 use Rattle.spec.specs.Frame.{Frame, level, guide}
 use Rattle.spec.specs.Window.{span, Σ, Σℤ, pixelCount, guideSum, squareSum, inCell, count, InWindow}
 use Rattle.spec.specs.Weight.{scaledVariance, guidedWeight, weight, variance, deviation, slope, offset}
 use Rattle.spec.specs.Median.{totalWeight, cumulative, balance}
 use Rattle.spec.specs.Window.{levelSum}
-use Rattle.spec.proofs.Sums.{over-le, over-abs, over-constant, pixelCount-is, sum-abs, sum-const}
+use Rattle.spec.proofs.Sums.{over-le, over-abs, over-constant, pixelCount-is}
 use Rattle.spec.specs.Checks.{SettingsLimits}
 use Rattle.spec.proofs.Limits.{FrameLimits, Pixel}
 use Rattle.spec.proofs.Levels.{levelWeight, weight-table, weight-guided, cell, balance-signed}
@@ -56,10 +56,6 @@ squareSum-high {p} k = over-high k (λ x y. guide p x y * guide p x y) 65025 (λ
 if-high : (b : Bool) (n B : ℕ) → n ≤ B → (if b then n else 0) ≤ B
 if-high true n B h = h
 if-high false n B h = omega arith
-
-pub levelCount-high : {p : Frame} {s t : ℕ} → Pixel p s t → (i : ℕ) → levelSum p s t (λ x y. 1) i ≤ 961
-unfolding levelSum
-levelCount-high {p} k i = over-high k _ 1 (λ x y h. if-high (eqb (level p x y) i) 1 1 (le-refl 1))
 
 pub guidesOf-high : {p : Frame} {s t : ℕ} → Pixel p s t → (i : ℕ) → levelSum p s t (guide p) i ≤ 245055
 unfolding levelSum
@@ -185,27 +181,3 @@ module _ {p : Frame} {s t : ℕ} (k : Pixel p s t) where
 
   pub balance-abs : (c : ℕ) → natAbs (balance p s t c) ≤ 173129780571075
   balance-abs c = omega (arith, balance-size p s t 180155859075 low c, pixelCount-high k)
-
--- ---- sums over the guides, as far as the code has come: below 2^56
-product-abs : {p : Frame} {s t : ℕ} → Pixel p s t → (a : ℕ → ℤ) → ((f : ℕ) → natAbs (a f) ≤ 961) → (n : ℕ) → n ≤ p .set .guides
-    → natAbs (sumℤ (λ f. a f *ℤ weight p s t f) 0 n) ≤ 44321223826195200
-product-abs {p} {s} {t} k a h n l =
-    let low : natAbs (sumℤ (λ f. a f *ℤ weight p s t f) 0 n) ≤ sum (λ f. 173129780571075) 0 n =
-    sum-abs (λ f. a f *ℤ weight p s t f) (λ f. 173129780571075) 0 n (λ f u v. abs-mul-le (a f) (weight p s t f) (h f) (weight-abs k f (omega arith))) in
-    omega (arith, sum-const 173129780571075 0 n, k .good .sound .guides-high)
-
-pub joint-part-abs : {p : Frame} {s t : ℕ} → Pixel p s t → (i n : ℕ) → n ≤ p .set .guides
-    → natAbs (sumℤ (λ f. pos (count p s t i f) *ℤ weight p s t f) 0 n) ≤ 44321223826195200
-joint-part-abs {p} {s} {t} k i n l = product-abs k (λ f. pos (count p s t i f)) (count-high k i) n l
-
-pub box-part-abs : {p : Frame} {s t : ℕ} → Pixel p s t → (c n : ℕ) → n ≤ p .set .guides
-    → natAbs (sumℤ (λ f. cell p s t c f *ℤ weight p s t f) 0 n) ≤ 44321223826195200
-box-part-abs {p} {s} {t} k c n l = product-abs k (cell p s t c) (cell-abs k c) n l
-
--- ---- the two products of a level's weight in kind 2: each, and their sum, below 2^53
-pub guides-part-abs : {p : Frame} {s t : ℕ} → Pixel p s t → (i : ℕ) → natAbs (slope p s t *ℤ pos (levelSum p s t (guide p) i)) ≤ 57709926857025
-guides-part-abs {p} {s} {t} k i = abs-mul-le (slope p s t) (pos (levelSum p s t (guide p) i)) (slope-abs k) (guidesOf-high k i)
-
-pub count-part-abs : {p : Frame} {s t : ℕ} → Pixel p s t → 1 ≤ p .set .smoothing → p .set .smoothing ≤ 65025 → (i : ℕ)
-    → natAbs (offset p s t *ℤ pos (levelSum p s t (λ x y. 1) i)) ≤ 173129780571075
-count-part-abs {p} {s} {t} k e h i = abs-mul-le (offset p s t) (pos (levelSum p s t (λ x y. 1) i)) (offset-abs k e h) (levelCount-high k i)

@@ -10,9 +10,9 @@ use native.Mathlib.Omega.{arith}
 use native.Mathlib.Decide.{decLt, ℕ-discrete}
 use lib.Dec.{eqb}
 use lib.IntN.{ℤ, pos, _+ℤ_, _*ℤ_, +ℤ-idr, +ℤ-idl}
-use lib.Signed.{_≤ℤ_, _<ℤ_, leZ, clashℤ}
+use lib.Signed.{_<ℤ_, leZ, clashℤ}
 use borrow.Author.Tests.{eqb-true}
-use Rattle.spec.specs.Base.{if_then_else_, distance}
+use Rattle.spec.specs.Base.{if_then_else_}
 use Rattle.spec.specs.declared.Settings.{Settings}
 use Rattle.spec.specs.Frame.{Frame, guide}
 use Rattle.spec.specs.Median.{totalWeight, cumulative, balance, weightless, median}
@@ -23,7 +23,6 @@ use Rattle.spec.proofs.Limits.{FrameLimits, Pixel}
 use Rattle.spec.specs.Weight.{slope, offset}
 use Rattle.spec.proofs.Levels.{levelWeight, cumulative-zero, cumulative-next, level-linear}
 use Rattle.spec.proofs.Totals.{leZ-le, leZ-lt, median-at, median-low, median-is, total-guided-pos, pos-weightless, le-balance, lt-balance, balance-lt}
-use Rattle.spec.proofs.Monotone.{median-down}
 use Rattle.spec.proofs.Present.{levelCount, absent-weight}
 
 -- kind 2 has no hollow window
@@ -33,17 +32,6 @@ guided-full {p} {s} {t} k two = go (k .good .sound .kinds)
     go : ((p .set .kind ≡ 1) × (p .set .smoothing ≡ 0)) ⊎ ((p .set .kind ≡ 2) × (1 ≤ p .set .smoothing) × (p .set .smoothing ≤ 65025)) → (pos 0 <ℤ totalWeight p s t) × (weightless p s t ≡ false)
     go (inl h) = absurd (omega (arith, h .0))
     go (inr h) = let q = total-guided-pos k two (h .1) in (q, pos-weightless p s t q)
-
--- ---- from the cut, in a steady window: at the answer or above it, it steps down (`Steady.half-down`, and `half-here` stops it); below it (`half-up`), it steps up
-pub cumulative-stops : (p : Frame) (s t c : ℕ) → c < median p s t → pos 0 ≤ℤ balance p s t (suc c) → median p s t ≡ suc c
-cumulative-stops p s t c h b = let q : median p s t ≤ suc c = median-down p s t (suc c) b in omega arith
-
--- one step counts one, so the steps from c are the distance
-pub dist-down : (c m : ℕ) → m < c → distance m c ≡ distance m (c - 1) + 1
-dist-down c m h = omega arith
-
-pub dist-up : (c m : ℕ) → c < m → distance m c ≡ distance m (c + 1) + 1
-dist-up c m h = omega arith
 
 -- ---- from level 0 upward: U below level a
 unfoldable pub cumulativeBelow : Frame → ℕ → ℕ → ℕ → ℤ

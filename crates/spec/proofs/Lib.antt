@@ -1,9 +1,11 @@
 pub mod Bench
+pub mod Lists
 pub mod Ranges
 pub mod First
 pub mod Steps
 pub mod Histogram
 pub mod Checks
+pub mod Outcomes
 pub mod Sums
 pub mod Limits
 pub mod Plans

@@ -11,7 +11,7 @@ use borrow.Author.Tests.{ltb-true, ltb-false, leb-true, leb-false}
 use lib.IntN.{pos, _+ℤ_, +ℤ-idl, +ℤ-idr, +ℤ-assoc, +ℤ-comm}
 use Rattle.spec.specs.Base.{if_then_else_, fold, foldRect}
 use Rattle.spec.specs.Frame.{Frame}
-use Rattle.spec.specs.Window.{span, over, inColumn, inRow, inCell, count}
+use Rattle.spec.specs.Window.{span, over, inColumn, inRow}
 
 module _ {A : Type 0} (_⊕_ : A → A → A) (z : A) where
   infixl 6 _⊕_
@@ -141,10 +141,3 @@ natSums = record { idl = zero-add; idr = add-zero; assoc = add-assoc; comm = add
 
 pub intSums : Sums _+ℤ_ (pos 0)
 intSums = record { idl = +ℤ-idl; idr = +ℤ-idr; assoc = +ℤ-assoc; comm = +ℤ-comm }
-
--- the pixels of level i and guide f: those of the window one to the right and of the column that left are those of the old window and of the column that entered
-pub count-right : (p : Frame) (s t i f : ℕ) → s + 1 < p .set .width
-    → count p (s + 1) t i f + lost _+_ 0 (inColumn _+_ 0 p t (inCell p i f)) (p .set .radius) s
-    ≡ count p s t i f + gained _+_ 0 (inColumn _+_ 0 p t (inCell p i f)) (p .set .radius) s (p .set .width)
-unfolding count
-count-right p s t i f h = over-right _+_ 0 natSums p s t (inCell p i f) h

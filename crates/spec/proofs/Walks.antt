@@ -102,9 +102,6 @@ pub record Held (p : Frame) (x : State) (n : ℕ) : Type 0 where
   pub cut-low : x .cut < p .set .levels
   pub shifts-low : x .shifts ≤ n * 1023
 
-pub spot-of : {p : Frame} {x : State} {n : ℕ} → Held p x n → Pixel p (x .column) (x .row)
-spot-of h = record { good = h .good; in-column = h .in-column; in-row = h .in-row }
-
 shift-low : (b : Bool) (m c l : ℕ) → m < l → c < l → l ≤ 1024 → (if b then distance m c else m) ≤ 1023
 shift-low true m c l h k z = omega arith
 shift-low false m c l h k z = omega arith

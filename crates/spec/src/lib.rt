@@ -1,7 +1,7 @@
 // The types that every contract speaks of. What they mean is in specs/, which uses these same types.
 ghost use mathlib.Core.Path.{_≡_};
 ghost use Rattle.spec.specs.Frame.{newSettings};
-ghost use Rattle.spec.specs.Refusal.{number, offsetOf};
+ghost use Rattle.spec.specs.Refusal.{number, offsetOf, numbered, fires};
 ghost use Rattle.spec.specs.Walk.{answerNumber};
 
 // A level index counts temperature steps.
@@ -160,5 +160,15 @@ pub fn offset_of(refusal: Refusal) -> usize
         Refusal::Moves => 0,
         Refusal::Room => 0,
         Refusal::Program => 0,
+    }
+}
+
+// Whether a verdict is a refusal.
+pub fn stops(v: Verdict) -> bool
+    ensures { λ r. ⌜ r ≡ fires (numbered v) ⌝ }
+{
+    match v {
+        Verdict::Accepted => false,
+        Verdict::Refused(_) => true,
     }
 }

@@ -3,18 +3,13 @@
 use Prim.Native.Nat.{ℕ, zero, suc, _+_, _-_, _≤_, _<_}
 use mathlib.Core.Path.{_≡_, refl, sym, ap, _∙_}
 use mathlib.Core.List.{List, [], _∷_, _++_}
-use native.Mathlib.Nat.{add-zero, zero-add, add-suc, suc-add}
+use native.Mathlib.Nat.{add-zero, zero-add}
 use native.Mathlib.Numerals.{add-one}
 use native.Mathlib.Omega.{arith}
 use lib.ListN.{length, getD, take, drop, set, length-append}
 use lib.Seq.{sets, length-sets, sets-eq, take-suc}
+use Rattle.spec.proofs.Lists.{sets-append}
 use Rattle.text.specs.Text.{Room, Puts, pieces}
-
-sets-append : (vs ws l : List ℕ) (i : ℕ) → sets (sets l i vs) (i + length vs) ws ≡ sets l i (vs ++ ws)
-sets-append [] ws l i = ap (λ (j : ℕ). sets l j ws) (add-zero i)
-sets-append (v ∷ vs) ws l i =
-    ap (λ (j : ℕ). sets (sets (set l i v) (suc i) vs) j ws) (add-suc i (length vs) ∙ sym (suc-add i (length vs)))
-    ∙ sets-append vs ws (set l i v) (suc i)
 
 -- no text, and one text behind another
 pub none : (l : List ℕ) (at : ℕ) → Puts l l at at []

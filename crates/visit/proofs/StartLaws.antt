@@ -13,10 +13,10 @@ use Rattle.spec.specs.Checks.{Planned}
 use Rattle.spec.proofs.Plans.{facts}
 use Rattle.window.specs.declared.coefficients.Coefficients.{Coefficients}
 use Rattle.window.specs.Coefficients.{WeighsAt, CoefficientsSmall, endsNotNegative}
-use Rattle.levels.specs.declared.tally.Tally.{Tally}
-use Rattle.levels.specs.declared.search.Found.{Found}
+use Rattle.level_search.specs.declared.Tally.{Tally}
+use Rattle.level_search.specs.declared.search.Found.{Found}
 use Rattle.levels.specs.Tally.{belowSum}
-use Rattle.levels.specs.Search.{FoundAt}
+use Rattle.level_search.specs.Search.{FoundAt}
 use Rattle.levels.specs.Answer.{Profiled, Answerable, Answered}
 use Rattle.levels.proofs.AnswerLaws.{answerable, answered-at}
 

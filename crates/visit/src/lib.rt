@@ -1,7 +1,7 @@
 // A walk at a window: one record for every way. A way takes it, moves its own store, and hands it on; the loops above read the state from it and know
 // no way.
-use chain::FreeList;
-use levels::tally::Tally;
+use chain_nodes::FreeList;
+use level_search::Tally;
 use spec::Answer;
 use spec::Level;
 use window::sums::Sums;

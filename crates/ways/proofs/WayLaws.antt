@@ -1,10 +1,10 @@
 -- What a way's own call asks is a part of what is known, and what it leaves is what every visit leaves: the stores that the call was not lent stay
 -- as they were.
 -- Assumes nothing.
-use Prim.Native.Nat.{ℕ, _≤_}
+use Prim.Native.Nat.{ℕ, _*_, _/_, _%_, _≤_, _<_}
 use mathlib.Core.Path.{_≡_, refl, sym, ap, subst, _∙_}
 use mathlib.Core.Logic.{_⊎_, inl, inr}
-use mathlib.Core.List.{List, [], _++_}
+use mathlib.Core.List.{List, _++_}
 use native.Mathlib.Omega.{arith}
 use lib.ListN.{length, take, drop, length-append, length-drop, take-append-drop}
 use lib.IntN.{ℤ}
@@ -16,13 +16,19 @@ use Rattle.spec.specs.declared.Way.{Way}
 use Rattle.spec.specs.declared.Way.the-variants.{Joint, Columns, Chain}
 use Rattle.spec.specs.Frame.{frameOf, settingsIn}
 use Rattle.spec.specs.Checks.{Planned}
+use Rattle.spec.specs.Window.{count}
+use Rattle.spec.specs.Joint.{jointCounts, wordsPerLevel, occupancyWord, occupancyWords}
 use Rattle.spec.specs.Columns.{columnStore}
 use Rattle.spec.specs.Walk.{State}
 use Rattle.spec.specs.Calls.{roomOf, countsOf, wordsOf, NumbersOf, boxOf, zeros}
+use Rattle.spec.proofs.First.{length-tabulate}
 use Rattle.spec.proofs.Plans.{facts}
+use Rattle.joint.specs.Window.{Fresh, Held}
+use Rattle.joint_visit.specs.Arrive as joint
 use Rattle.columns.proofs.ContentLaws.{length-columns}
 use Rattle.chain.specs.Moves.{Listed}
 use Rattle.visit.specs.declared.Visit.{Visit}
+use Rattle.visit.specs.Visit.{Within}
 use Rattle.columns_visit.specs.Visit.{ColumnsAt, ColumnsVisited}
 use Rattle.chain_visit.specs.Visit.{ChainAt, ChainVisited}
 use Rattle.ways.specs.Visit.{Stores, stores, KeptBeyond, Fit, Carried, Serves, AtWindow, Visited}
@@ -80,8 +86,14 @@ module _ (way : Way) (z : Plan) (s : Serves way z) where
 
 -- ---- what is asked, and what is left
 module _ (way : Way) {b : List ℕ} {z : Plan} (k : Planned b z) (cs ws ns : List ℕ) (f : Fit way (settingsIn z) (stores cs ws ns)) where
-  pub fit-joint : way ≡ Joint → (roomOf Joint (settingsIn z) .counts ≤ length cs) × (roomOf Joint (settingsIn z) .words ≤ length ws)
-  fit-joint e = let g : Fit Joint (settingsIn z) (stores cs ws ns) = rw e at f in (g .counts, g .words)
+  joint-room : way ≡ Joint → (roomOf Joint (frameOf b .set) .counts ≤ length cs) × (roomOf Joint (frameOf b .set) .words ≤ length ws)
+  joint-room e =
+      let g : Fit Joint (settingsIn z) (stores cs ws ns) = rw e at f in
+      (room-of k Joint (λ q. q .counts) (length cs) (g .counts), room-of k Joint (λ q. q .words) (length ws) (g .words))
+
+  pub fit-joint : (s t : ℕ) → way ≡ Joint → (s < z .width) × (t < z .height) → Fresh b z s t cs ws
+  unfolding roomOf
+  fit-joint s t e q = record { planned = k; column = q .0; row = q .1; cells = joint-room e .0; words = joint-room e .1 }
 
   pub fit-columns : way ≡ Columns → roomOf Columns (frameOf b .set) .numbers ≤ length ns
   fit-columns e = let g : Fit Columns (settingsIn z) (stores cs ws ns) = rw e at f in room-of k Columns (λ q. q .numbers) (length ns) (g .numbers)
@@ -90,6 +102,52 @@ module _ (way : Way) {b : List ℕ} {z : Plan} (k : Planned b z) (cs ws ns : Lis
   fit-chain e = let g : Fit Chain (settingsIn z) (stores cs ws ns) = rw e at f in room-of k Chain (λ q. q .numbers) (length ns) (g .numbers)
 
   module _ (hs : List ℕ) (d : List ℤ) (v : Visit) where
+    pub joint-at : way ≡ Joint → AtWindow way b (stores cs ws ns) hs d v → Within z v
+        → Held b z (v .column) (v .row) (v .cut .0) cs ws d × joint.Carried (frameOf b) (v .column) (v .row) (v .cut .0) (v .running .sums) (v .running .below) hs
+    unfolding roomOf countsOf wordsOf boxOf Carried
+    joint-at e h w =
+        let g : AtWindow Joint b (stores cs ws ns) hs d v = rw e at h in (
+          record {
+            planned = k;
+            column = w .column;
+            row = w .row;
+            joint = record {
+              counts = joined (roomOf Joint (frameOf b .set) .counts) (jointCounts (frameOf b) (v .column) (v .row)) cs (g .holds .counts);
+              words = joined (roomOf Joint (frameOf b .set) .words) (occupancyWords (frameOf b) (v .column) (v .row)) ws (g .holds .words);
+              box = g .holds .cells;
+            };
+          },
+          g .carried,
+        )
+
+    pub joint-visited : (x : State) (cs′ ws′ : List ℕ) → way ≡ Joint → joint.JointVisited (frameOf b) x v cs ws cs′ ws′ d hs
+        → Visited way b x (stores cs ws ns) (stores cs′ ws′ ns) hs d v
+    unfolding roomOf countsOf wordsOf NumbersOf boxOf Carried jointCounts occupancyWords
+    joint-visited x cs′ ws′ e h =
+        let p = frameOf b in
+        let s = v .column in
+        let t = v .row in
+        let cells = length-tabulate (p .set .levels * p .set .guides) (λ q. count p s t (q / p .set .guides) (q % p .set .guides)) in
+        let words = length-tabulate (p .set .levels * wordsPerLevel (p .set)) (λ q. occupancyWord p s t (q / wordsPerLevel (p .set)) (q % wordsPerLevel (p .set))) in
+        rw e
+        (record {
+          state = h .state;
+          here = record {
+            holds = record {
+              counts = front-of (p .set .levels * p .set .guides) (jointCounts p s t) cs cs′ cells (h .joint .counts);
+              words = front-of (p .set .levels * wordsPerLevel (p .set)) (occupancyWords p s t) ws ws′ words (h .joint .words);
+              numbers = tt;
+              cells = h .joint .box;
+            };
+            carried = h .carried;
+          };
+          kept = record {
+            counts = beyond-of (p .set .levels * p .set .guides) (jointCounts p s t) cs cs′ cells (h .joint .counts) (joint-room e .0);
+            words = beyond-of (p .set .levels * wordsPerLevel (p .set)) (occupancyWords p s t) ws ws′ words (h .joint .words) (joint-room e .1);
+            numbers = beyond-same 0 ns;
+          };
+        })
+
     pub columns-at : way ≡ Columns → AtWindow way b (stores cs ws ns) hs d v → ColumnsAt (frameOf b) v ns × (d ≡ zeros)
     unfolding NumbersOf boxOf Carried
     columns-at e h =
@@ -147,25 +205,3 @@ module _ (way : Way) {b : List ℕ} {z : Plan} (k : Planned b z) (cs ws ns : Lis
           };
           kept = record { counts = beyond-same 0 cs; words = beyond-same 0 ws; numbers = record { long = h .stored .long; beyond = h .stored .rest } };
         })
-
--- ---- joint, through its own record
-pub at-joint : (way : Way) (b cs ws ns hs : List ℕ) (d : List ℤ) (v : Visit) → AtWindow way b (stores cs ws ns) hs d v → way ≡ Joint
-    → AtWindow Joint b (stores cs ws []) hs d v
-unfolding NumbersOf Carried
-at-joint way b cs ws ns hs d v h e =
-    let g : AtWindow Joint b (stores cs ws ns) hs d v = rw e at h in
-    record { holds = record { counts = g .holds .counts; words = g .holds .words; numbers = tt; cells = g .holds .cells }; carried = g .carried }
-
-pub lift-joint : (way : Way) (b : List ℕ) (x : State) (cs ws ns hs : List ℕ) (d : List ℤ) (v : Visit) (cs′ ws′ : List ℕ) → way ≡ Joint
-    → Visited Joint b x (stores cs ws []) (stores cs′ ws′ []) hs d v → Visited way b x (stores cs ws ns) (stores cs′ ws′ ns) hs d v
-unfolding NumbersOf Carried
-lift-joint way b x cs ws ns hs d v cs′ ws′ e h =
-    rw e
-    (record {
-      state = h .state;
-      here = record {
-        holds = record { counts = h .here .holds .counts; words = h .here .holds .words; numbers = tt; cells = h .here .holds .cells };
-        carried = h .here .carried;
-      };
-      kept = record { counts = h .kept .counts; words = h .kept .words; numbers = beyond-same _ ns };
-    })

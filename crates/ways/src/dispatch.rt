@@ -1,5 +1,4 @@
 // Start and move by the way.
-use crate::each;
 use spec::Plan;
 use spec::Way;
 use visit::Visit;
@@ -39,16 +38,16 @@ pub fn enter(
         (now (histogram .exit)) (now («balance_box» .exit)) r ⌝ }
 {
     match way {
-        Way::Joint => each::joint_enter(
+        Way::Joint => joint_visit::enter(
             file,
             plan,
             weights,
             column,
             row,
             balance_box,
-            histogram,
             counts,
             words,
+            histogram,
         ),
         Way::Columns => columns_visit::enter(file, plan, column, row, numbers),
         Way::Chain => chain_visit::enter(file, plan, column, row, numbers),
@@ -81,7 +80,7 @@ pub fn slide(
         (now (histogram .exit)) (now («balance_box» .exit)) r ⌝ }
 {
     match way {
-        Way::Joint => each::joint_slide(
+        Way::Joint => joint_visit::slide(
             file,
             plan,
             weights,
@@ -89,9 +88,9 @@ pub fn slide(
             column,
             row,
             balance_box,
-            histogram,
             counts,
             words,
+            histogram,
         ),
         Way::Columns => columns_visit::slide(file, plan, from, column, row, numbers),
         Way::Chain => chain_visit::slide(file, plan, from, column, row, numbers),

@@ -63,10 +63,3 @@ both-in (right a e h k) = (omega arith, omega arith, omega arith, omega arith)
 both-in (left a e h k) = (omega arith, omega arith, omega arith, omega arith)
 both-in (down a e h k) = (omega arith, omega arith, omega arith, omega arith)
 both-in (up a e h k) = (omega arith, omega arith, omega arith, omega arith)
-
--- ---- there and back
-pub turned : {z : Plan} {s t s′ t′ : ℕ} → Adjacent z s t s′ t′ → Adjacent z s′ t′ s t
-turned (right a e h k) = left a (sym e) h (omega arith)
-turned (left a e h k) = right a (sym e) h (omega arith)
-turned (down a e h k) = up (sym a) e (omega arith) k
-turned (up a e h k) = down (sym a) e (omega arith) k

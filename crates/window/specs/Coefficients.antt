@@ -4,7 +4,7 @@ use mathlib.Core.Path.{_≡_}
 use mathlib.Core.Bool.{Bool, _&&_}
 use Prim.Native.Nat.{ℕ, _-_, _≤_}
 use lib.IntN.{ℤ, pos, natAbs, _+ℤ_, _-ℤ_, _*ℤ_}
-use lib.Signed.{nonNeg}
+use lib.Signed.{nonNeg, leZ}
 use Rattle.spec.specs.Frame.{Frame}
 use Rattle.spec.specs.Median.{totalWeight}
 use Rattle.spec.specs.Weight.{slope, offset}
@@ -42,3 +42,10 @@ pub record CoefficientsSmall (k : Coefficients) : Type 0 where
 -- whether neither end of the formula is negative, over so many guides
 unfoldable pub endsNotNegative : Coefficients → ℕ → Bool
 endsNotNegative k guides = nonNeg (k .offset) && nonNeg (k .slope *ℤ pos (guides - 1) +ℤ k .offset)
+
+-- what so many pixels with that guide sum weigh, and whether that is at least half of the window's weight sum
+abbrev pub weightOf : Coefficients → ℕ → ℕ → ℤ
+weightOf k count sum = k .slope *ℤ pos sum +ℤ k .offset *ℤ pos count
+
+unfoldable pub reachesHalf : Coefficients → ℕ → ℕ → Bool
+reachesHalf k count sum = leZ (k .total) (pos 2 *ℤ weightOf k count sum)

@@ -1,10 +1,15 @@
-// Kind 2's weight of a pixel is linear in its guide: the two coefficients, the window's weight sum, and whether no guide weighs less than 0.
+// Kind 2's weight of a pixel is linear in its guide: the two coefficients, the window's weight sum, whether no guide weighs less than 0, and whether
+// some of the window's pixels weigh half.
+use crate::pixel;
 use crate::sums::Sums;
 use spec::Guide;
 use spec::Plan;
 ghost use mathlib.Core.Path.{_≡_};
-ghost use Prim.Native.Nat.{_≤_};
-ghost use Rattle.window.specs.Coefficients.{SumsSmall, CoefficientsOf, CoefficientsSmall, endsNotNegative};
+ghost use Prim.Native.Nat.{_<_, _≤_};
+ghost use Rattle.spec.specs.Checks.{Planned};
+ghost use Rattle.spec.specs.Frame.{frameOf};
+ghost use Rattle.window.specs.Sums.{SumsAt};
+ghost use Rattle.window.specs.Coefficients.{SumsSmall, CoefficientsOf, CoefficientsSmall, WeighsAt, endsNotNegative, reachesHalf};
 
 // A pixel of guide g weighs slope·g + offset; the window's weights sum to total.
 pub struct Coefficients {
@@ -14,16 +19,16 @@ pub struct Coefficients {
 }
 
 // Of the window whose sums are a and whose centre has the guide.
-pub fn from_sums(z: Plan, a: Sums, centre: Guide) -> Coefficients
+pub fn from_sums(plan: Plan, a: Sums, centre: Guide) -> Coefficients
     requires { ⌜ SumsSmall a ⌝ }
-    requires { ⌜ (z .smoothing ≤ 65025) × (centre .0 ≤ 255) ⌝ }
-    ensures { λ k. ⌜ CoefficientsOf a (z .smoothing) (centre .0) k ⌝ }
+    requires { ⌜ (plan .smoothing ≤ 65025) × (centre .0 ≤ 255) ⌝ }
+    ensures { λ k. ⌜ CoefficientsOf a (plan .smoothing) (centre .0) k ⌝ }
 {
     let g = centre.0 as i64;
     let n = a.count as i64;
     let s = a.sum as i64;
     let q = a.squares as i64;
-    let e = z.smoothing as i64;
+    let e = plan.smoothing as i64;
     let deviation = n * g - s;
     let variance = n * q - s * s + n * n * e;
     Coefficients {
@@ -33,14 +38,24 @@ pub fn from_sums(z: Plan, a: Sums, centre: Guide) -> Coefficients
     }
 }
 
+// Of the window at (s, t), whose sums are a.
+pub fn of_window(file: &[u8], plan: Plan, a: Sums, s: usize, t: usize) -> Coefficients
+    requires { ⌜ (Planned (now file) plan) × (plan .kind ≡ 2) ⌝ }
+    requires { ⌜ (s < plan .width) × (t < plan .height) × (SumsAt (frameOf (now file)) s t a) ⌝ }
+    ensures { λ k. ⌜ (WeighsAt (frameOf (now (file .entry))) s t k) × (CoefficientsSmall k) ⌝ }
+{
+    let centre = pixel::guide_at(file, plan, t * plan.width + s);
+    from_sums(plan, a, centre)
+}
+
 // Document 01: steady. The weight formula at guide 0 and at the last guide.
-pub fn monotone(z: Plan, k: Coefficients) -> bool
-    requires { ⌜ (1 ≤ z .guides) × (z .guides ≤ 256) ⌝ }
+pub fn monotone(plan: Plan, k: Coefficients) -> bool
+    requires { ⌜ (1 ≤ plan .guides) × (plan .guides ≤ 256) ⌝ }
     requires { ⌜ CoefficientsSmall k ⌝ }
-    ensures { λ r. ⌜ r ≡ endsNotNegative k (z .guides) ⌝ }
+    ensures { λ r. ⌜ r ≡ endsNotNegative k (plan .guides) ⌝ }
 {
     let low = k.offset;
-    let high = k.slope * ((z.guides - 1) as i64) + k.offset;
+    let high = k.slope * ((plan.guides - 1) as i64) + k.offset;
     if low < 0 {
         return false;
     }
@@ -48,4 +63,13 @@ pub fn monotone(z: Plan, k: Coefficients) -> bool
         return false;
     }
     true
+}
+
+// Whether so many of the window's pixels, with that guide sum, weigh at least half of the total.
+pub fn reached(k: Coefficients, count: usize, sum: usize) -> bool
+    requires { ⌜ CoefficientsSmall k ⌝ }
+    requires { ⌜ (count ≤ 961) × (sum ≤ 245055) ⌝ }
+    ensures { λ r. ⌜ r ≡ reachesHalf k count sum ⌝ }
+{
+    k.total <= 2 * (k.slope * (sum as i64) + k.offset * (count as i64))
 }

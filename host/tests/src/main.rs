@@ -5,6 +5,7 @@
 //! feeds frames to the program's standard input. The same seed gives the same frames everywhere.
 
 mod buffers;
+mod damaged;
 mod frames;
 mod library;
 mod overlap;
@@ -79,6 +80,8 @@ fn run(options: &Options) -> Result<Tally, String> {
     failures.extend(wide.err().map(|message| format!("wide numbers: {message}")));
     let listed = frames::test_listed(&mut Random::new(options.seed), &mut tally);
     failures.extend(listed.err().map(|message| format!("listed: {message}")));
+    let damaged = damaged::test(&mut tally);
+    failures.extend(damaged.err().map(|message| format!("damaged: {message}")));
     let overlapping = frames::test_overlapping(&mut Random::new(options.seed), &mut tally);
     failures.extend(overlapping.err().map(|message| format!("overlapping: {message}")));
     let largest = frames::test_largest(&mut Random::new(options.seed), &mut tally);

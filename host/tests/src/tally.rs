@@ -29,6 +29,8 @@ pub struct Tally {
     pub written: u64,
     /// Calls refused by each number from 1 to 11; place 0 is not used.
     pub refusals: [u64; 12],
+    /// Files of the list of damaged ones.
+    pub damaged: u64,
     /// Calls with chosen numbers wider than a frame's, among the refused.
     pub wide: u64,
     pub programs: u64,
@@ -45,7 +47,7 @@ impl Tally {
             return None;
         }
         let Overlapping { same_start, even_apart, odd_apart } = self.overlapping;
-        let windows = [self.listed, self.marks, self.hollow, self.negative, self.unsteady];
+        let windows = [self.listed, self.damaged, self.marks, self.hollow, self.negative, self.unsteady];
         let frames = [self.frames[0], self.frames[1], same_start, even_apart, odd_apart];
         if self.refusals[1..].contains(&0) || windows.contains(&0) || frames.contains(&0) {
             return Some(format!("the run left something untried:\n{self}"));
@@ -85,6 +87,7 @@ impl fmt::Display for Tally {
         for (number, count) in self.refusals.iter().enumerate().skip(1) {
             write!(f, " {number}: {count}")?;
         }
+        write!(f, "\nfiles of the list of damaged ones: {}", self.damaged)?;
         write!(f, "\nrefused calls with chosen numbers wider than a frame's: {}", self.wide)?;
         write!(
             f,

@@ -7,14 +7,14 @@ use Rattle.joint_rows.proofs.RowLaws.{ramp-weighs}
 use Rattle.balance.proofs.guided_balance.Statement.{statement}
 use Rattle.balance.proofs.guided_balance.Tie as tie
 
-abbrev start : tie.After-coefficients-at → tie.Start
+abbrev start : tie.After-of-window → tie.Start
 start k = k .before .before .before
 
 start-requires : tie.Need-start-requires
 start-requires c κs = search needs
 
-coefficients-at-requires : tie.Need-coefficients-at-requires
-coefficients-at-requires c κs = let at = c .before .before in ((at .pre .0, at .pre .1), (at .pre .2, at .pre .3, c .start .ensures))
+of-window-requires : tie.Need-of-window-requires
+of-window-requires c κs = let at = c .before .before in ((at .pre .0, at .pre .1), (at .pre .2, at .pre .3, c .start .ensures))
 
 slice-aggregate-ramp : tie.Need-slice-aggregate-ramp
 slice-aggregate-ramp c = search needs
@@ -30,7 +30,7 @@ window-balance-requires c κs =
     let r = c .before .before .before in
     let k = r .before .before in
     let at = start k in
-    let known = k .coefficients-at .ensures in
+    let known = k .of-window .ensures in
     record {
       planned = at .pre .0;
       column = at .pre .2;
@@ -47,7 +47,7 @@ guided-balance-spec =
     tie.close
     (tie.spec
     start-requires
-    coefficients-at-requires
+    of-window-requires
     slice-aggregate-ramp
     ramp-requires
     slice-aggregate-window-balance

@@ -4,16 +4,17 @@ use borrow.Author.Needs.{needs}
 use Prim.Native.Nat.{_-_, _≤_}
 use Rattle.spec.specs.Frame.{frameOf}
 use Rattle.window.proofs.PixelLaws.{guides-high}
-use Rattle.balance.proofs.BalanceLaws.{Rowed, row-start, row-next}
+use Rattle.joint_rows.specs.Rows.{TableRow}
+use Rattle.balance.proofs.BalanceLaws.{row-start, row-next}
 use Rattle.balance.proofs.table_row.Statement.{statement}
 use Rattle.balance.proofs.table_row.Tie as tie
 
 abbrev Inv-loop : tie.InvT-loop
-Inv-loop file z f built m out₀ k₀ out k =
-    (k ≤ m) × Rowed (frameOf file) k (f .0) out
+Inv-loop file plan f built m out₀ k₀ out k =
+    (k ≤ m) × TableRow (frameOf file) k (f .0) out
 
 abbrev μ-loop : tie.MeasureT-loop
-μ-loop file z f built m out₀ k₀ out k = m - k
+μ-loop file plan f built m out₀ k₀ out k = m - k
 
 abbrev start : tie.At-loop Inv-loop μ-loop → tie.Start Inv-loop μ-loop
 start h = h .before .before .before

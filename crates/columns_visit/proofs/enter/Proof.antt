@@ -27,8 +27,8 @@ start-requires c κs =
 start-requires-2 : tie.Need-start-requires-2
 start-requires-2 c κs = let st = begin (c .before .before) in (st .pre .0 .0, st .pre .1 .0)
 
-coefficients-at-requires : tie.Need-coefficients-at-requires
-coefficients-at-requires c κs = let st = begin (c .before .before .before) in (st .pre .0, (st .pre .1 .0 .0, st .pre .1 .0 .1, c .start2 .ensures))
+of-window-requires : tie.Need-of-window-requires
+of-window-requires c κs = let st = begin (c .before .before .before) in (st .pre .0, (st .pre .1 .0 .0, st .pre .1 .0 .1, c .start2 .ensures))
 
 answer-from-requires : tie.Need-answer-from-requires
 answer-from-requires c κs =
@@ -37,7 +37,7 @@ answer-from-requires c κs =
     let st = begin m in
     let h = made-self (frameOf (st .args .file .now)) (st .args .column) (st .args .row) _ _ (m .start .ensures) in (
       store-places (st .pre .0 .0) (st .args .column) (st .args .row) _ h,
-      start-answerable (st .pre .0 .0) (st .pre .0 .1) (st .pre .1 .0 .0) (st .pre .1 .0 .1) (k .coefficients-at .ensures) (cells m) _,
+      start-answerable (st .pre .0 .0) (st .pre .0 .1) (st .pre .1 .0 .0) (st .pre .1 .0 .1) (k .of-window .ensures) (cells m) _,
     )
 
 answered-requires : tie.Need-answered-requires
@@ -55,8 +55,8 @@ returns c =
     let st = begin m in
     let e = f .answer-from .ensures in
     visited (frameOf (st .args .file .now)) (st .args .column) (st .args .row) 0 0 _ _ _ _ _ (c .answered .ensures) (a .start2 .ensures)
-    (start-answered (st .pre .0 .0) (st .pre .0 .1) (st .pre .1 .0 .0) (st .pre .1 .0 .1) (k .coefficients-at .ensures) (cells m) (e .0) (e .1)) (m .start .ensures)
+    (start-answered (st .pre .0 .0) (st .pre .0 .1) (st .pre .1 .0 .0) (st .pre .1 .0 .1) (k .of-window .ensures) (cells m) (e .0) (e .1)) (m .start .ensures)
 
 pub enter-spec : {M : Type 1} → statement M
 enter-spec =
-    tie.close (tie.spec start-requires start-requires-2 coefficients-at-requires answer-from-requires answered-requires same-length returns)
+    tie.close (tie.spec start-requires start-requires-2 of-window-requires answer-from-requires answered-requires same-length returns)

@@ -110,14 +110,14 @@ moved-requires c κs =
     let pl = at .pre .0 .0 in
     ((below-most pl (enters r .below), below-most pl (leaves r .below)), movable pl (at .pre .1 .0 .1) (d .step-to .ensures) (enters r) (leaves r) (at .pre .1 .1 .sums))
 
-coefficients-at-requires : tie.Need-coefficients-at-requires
-coefficients-at-requires c κs = let at = opened (stored c) in let i = both-in (at .pre .1 .0 .1) in (at .pre .0, (i .2, i .3, summed c))
+of-window-requires : tie.Need-of-window-requires
+of-window-requires c κs = let at = opened (stored c) in let i = both-in (at .pre .1 .0 .1) in (at .pre .0, (i .2, i .3, summed c))
 
 monotone-requires : tie.Need-monotone-requires
 monotone-requires c κs =
     let at = opened (stored (c .before)) in
     let i = both-in (at .pre .1 .0 .1) in
-    (guides-range (at .pre .0 .0) (at .pre .0 .1) (i .2) (i .3), c .coefficients-at .ensures .1)
+    (guides-range (at .pre .0 .0) (at .pre .0 .1) (i .2) (i .3), c .of-window .ensures .1)
 
 cast-end : tie.Need-cast-end
 cast-end c = search needs
@@ -164,7 +164,7 @@ answer-from-requires c κs =
     let i = both-in (at .pre .1 .0 .1) in
     let v = at .pre .1 .0 .0 in (
       store-places pl (at .args .column) (at .args .row) _ (made-self (frameOf (at .args .file .now)) (at .args .column) (at .args .row) _ _ (n .slide .ensures)),
-      answerable pl (at .pre .0 .1) (i .2) (i .3) (k .coefficients-at .ensures) (cells n) (m .monotone .ensures) (v .cut) (omega (arith, v .shifts))
+      answerable pl (at .pre .0 .1) (i .2) (i .3) (k .of-window .ensures) (cells n) (m .monotone .ensures) (v .cut) (omega (arith, v .shifts))
           (λ e. carried-below pl (at .pre .1 .0 .1) (d .step-to .ensures) (enters r) (leaves r) (at .pre .1 .1 .below) (w .carried-where .ensures e)),
     )
 
@@ -186,7 +186,7 @@ returns c =
     let i = both-in (at .pre .1 .0 .1) in
     let e = f .answer-from .ensures in
     visited (frameOf (at .args .file .now)) (at .args .column) (at .args .row) _ _ _ _ _ _ _ (c .answered .ensures) (summed a)
-    (answered-at (at .pre .0 .0) (at .pre .0 .1) (i .2) (i .3) (k .coefficients-at .ensures) (cells n) (m .monotone .ensures) (e .0) (e .1)) (n .slide .ensures)
+    (answered-at (at .pre .0 .0) (at .pre .0 .1) (i .2) (i .3) (k .of-window .ensures) (cells n) (m .monotone .ensures) (e .0) (e .1)) (n .slide .ensures)
 
 pub slide-spec : {M : Type 1} → statement M
 slide-spec =
@@ -205,7 +205,7 @@ slide-spec =
     part-moved-start-2
     part-moved-end-2
     moved-requires
-    coefficients-at-requires
+    of-window-requires
     monotone-requires
     cast-end
     add-end

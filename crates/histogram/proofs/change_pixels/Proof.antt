@@ -1,19 +1,19 @@
 -- `change_pixels` meets its contract: after k turns the first k pixels have entered or left. Assumes nothing.
 use native.Mathlib.Omega.{arith}
 use mathlib.Core.Path.{_≡_, refl, _∙_}
-use Prim.Native.Nat.{_-_, _≤_, _<_}
+use Prim.Native.Nat.{_+_, _-_, _≤_, _<_}
 use lib.ListN.{length}
 use Rattle.pixels.specs.Pixels.{countOf}
-use Rattle.pixels.specs.Additive.{PassedTo}
+use Rattle.pixels.specs.Additive.{changed, PassedTo}
 use Rattle.pixels.proofs.Laws.{places-in}
-use Rattle.pixels.proofs.AdditiveLaws.{passed-none}
+use Rattle.pixels.proofs.AdditiveLaws.{naturals, passed-none}
 use Rattle.histogram.specs.Places.{shareAt, numberAt}
 use Rattle.histogram.proofs.PixelLaws.{turn-asks, turn-next}
 use Rattle.histogram.proofs.change_pixels.Statement.{statement}
 use Rattle.histogram.proofs.change_pixels.Tie as tie
 
 abbrev Inv-loop : tie.InvT-loop
-Inv-loop p l enters numbers₀ n k₀ numbers k = (k ≤ n) × PassedTo (shareAt l) enters p k (numberAt l numbers₀) (numberAt l numbers) × (length numbers ≡ length numbers₀)
+Inv-loop p l enters numbers₀ n k₀ numbers k = (k ≤ n) × PassedTo _+_ 0 (shareAt l) changed enters p k (numberAt l numbers₀) (numberAt l numbers) × (length numbers ≡ length numbers₀)
 
 abbrev μ-loop : tie.MeasureT-loop
 μ-loop p l enters numbers₀ n k₀ numbers k = n - k
@@ -26,7 +26,7 @@ turn-low : (c : tie.In-loop Inv-loop μ-loop) → c .before .loop .k < 31
 turn-low c = omega (arith, c .loop-test .taken, start (c .before) .pre .0 .2 .few)
 
 loop-holds : tie.Need-loop-holds Inv-loop μ-loop
-loop-holds c = (omega arith, passed-none (shareAt (c .before .before .args .l)) _ _ _, refl)
+loop-holds c = (omega arith, passed-none naturals (shareAt (c .before .before .args .l)) _ _ _, refl)
 
 mul-at : tie.Need-mul-at Inv-loop μ-loop
 mul-at c = omega (arith, turn-low c)

@@ -5,8 +5,7 @@ use native.Mathlib.Omega.{arith}
 use borrow.Author.Needs.{needs}
 use Prim.Native.Nat.{ℕ, _+_, _-_, _≤_, _<_}
 use Rattle.window.proofs.PixelLaws.{plan-limits}
-use Rattle.window.proofs.LineLaws.{column-in}
-use Rattle.window.proofs.SumLaws.{in-span, few-columns}
+use Rattle.window.proofs.LineLaws.{column-in, span-in, span-high}
 use Rattle.pixels.specs.Pixels.{LinePixels}
 use Rattle.pixels.proofs.Laws.{line-part}
 use Rattle.histogram.specs.Histogram.{Filled}
@@ -15,26 +14,26 @@ use Rattle.histogram.proofs.start.Statement.{statement}
 use Rattle.histogram.proofs.start.Tie as tie
 
 abbrev Inv-loop : tie.InvT-loop
-Inv-loop file z s t numbers₀ x n k₀ numbers k = (k ≤ n) × Filled file z x t k numbers × (length numbers ≡ length numbers₀)
+Inv-loop file plan s t numbers₀ x n k₀ numbers k = (k ≤ n) × Filled file plan x t k numbers × (length numbers ≡ length numbers₀)
 
 abbrev μ-loop : tie.MeasureT-loop
-μ-loop file z s t numbers₀ x n k₀ numbers k = n - k
+μ-loop file plan s t numbers₀ x n k₀ numbers k = n - k
 
 abbrev begin : tie.At-loop Inv-loop μ-loop → tie.Start Inv-loop μ-loop
 begin h = h .before .before .before .before .before
 
 -- the column that a turn adds is in the picture, and the columns are few
-wide : (c : tie.In-loop Inv-loop μ-loop) → c .before .before .before .low .result + c .before .loop .k < (begin (c .before)) .args .z .width
+wide : (c : tie.In-loop Inv-loop μ-loop) → c .before .before .before .low .result + c .before .loop .k < (begin (c .before)) .args .plan .width
 wide c =
     let h = c .before in
     let at = begin h in
-    omega (arith, h .before .before .low .ensures, in-span (at .args .z) (at .args .s) (h .loop .k) (subst (λ (n : ℕ). h .loop .k < n) (h .before .span-of .ensures) (c .loop-test .taken)))
+    omega (arith, h .before .before .low .ensures, span-in (at .args .plan .radius) (at .args .s) (at .args .plan .width) (h .loop .k) (subst (λ (n : ℕ). h .loop .k < n) (h .before .span-of .ensures) (c .loop-test .taken)))
 
 few : (c : tie.In-loop Inv-loop μ-loop) → c .before .loop .k < 31
 few c =
     let h = c .before in
     let at = begin h in
-    omega (arith, c .loop-test .taken, few-columns (at .args .z) (plan-limits (at .pre .0 .0)) (at .args .s), h .before .span-of .ensures)
+    omega (arith, c .loop-test .taken, span-high (at .args .plan .radius) (at .args .s) (at .args .plan .width) (plan-limits (at .pre .0 .0) .radius), h .before .span-of .ensures)
 
 -- the places passed: the turn, its column, and the list that the column was read into
 abbrev line : tie.After-read Inv-loop μ-loop → tie.After-column-line Inv-loop μ-loop
@@ -43,7 +42,7 @@ line r = r .before .before
 abbrev turn : tie.After-read Inv-loop μ-loop → tie.In-loop Inv-loop μ-loop
 turn r = r .before .before .before
 
-listed : (r : tie.After-read Inv-loop μ-loop) → let at = begin (turn r .before) in LinePixels (at .args .file .now) (at .args .z) (line r .column-line .result)
+listed : (r : tie.After-read Inv-loop μ-loop) → let at = begin (turn r .before) in LinePixels (at .args .file .now) (at .args .plan) (line r .column-line .result)
     (take (r .read .result - 0) (drop 0 (r .read .last .1 .1 .1 .0)))
 listed r = line-part (r .read .result) (r .read .last .1 .1 .1 .0) (r .read .ensures .1)
 

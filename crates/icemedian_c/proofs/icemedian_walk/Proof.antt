@@ -1,5 +1,4 @@
-use native.Mathlib.Omega.{arith}
-use Rattle.icemedian_c.proofs.ExportLaws.{walk-stopped, walk-passed}
+use Rattle.icemedian_c.proofs.ExportLaws.{walk-called}
 use borrow.Author.Needs.{needs}
 use Rattle.icemedian_c.proofs.icemedian_walk.Statement.{statement}
 use Rattle.icemedian_c.proofs.icemedian_walk.Tie as tie
@@ -9,6 +8,9 @@ walk-requires c κs = search needs
 
 report-requires : tie.Need-report-requires
 report-requires c κs = search needs
+
+give-walk-requires : tie.Need-give-walk-requires
+give-walk-requires c κs = search needs
 
 same-length : tie.Need-same-length
 same-length c = search needs
@@ -23,23 +25,10 @@ same-length-4 : tie.Need-same-length-4
 same-length-4 c = search needs
 
 returns : tie.Need-returns
-returns c = walk-stopped (c .before .before .before .before .before .before .before .before .before .before .before .walk .ensures) (c .before .report .ensures) (omega arith)
-
-same-length-5 : tie.Need-same-length-5
-same-length-5 c = search needs
-
-same-length-6 : tie.Need-same-length-6
-same-length-6 c = search needs
-
-same-length-7 : tie.Need-same-length-7
-same-length-7 c = search needs
-
-same-length-8 : tie.Need-same-length-8
-same-length-8 c = search needs
-
-returns-2 : tie.Need-returns-2
-returns-2 c =
-    walk-passed (c .before .before .before .before .before .before .before .before .before .before .before .before .walk .ensures) (c .before .before .report .ensures) (omega arith) (omega arith) (omega arith) (search needs)
+returns c =
+    let reported = c .before .before .before .before .before in
+    let walked = reported .before .before .before .before .before .before .before .before .before .before in
+    walk-called (walked .walk .ensures) (reported .report .ensures) (c .give-walk .ensures .0) (c .give-walk .ensures .1) (c .give-walk .ensures .2)
 
 pub icemedian-walk-spec : {M : Type 1} → statement M
 icemedian-walk-spec =
@@ -47,13 +36,9 @@ icemedian-walk-spec =
     (tie.spec
     walk-requires
     report-requires
+    give-walk-requires
     same-length
     same-length-2
     same-length-3
     same-length-4
-    returns
-    same-length-5
-    same-length-6
-    same-length-7
-    same-length-8
-    returns-2)
+    returns)

@@ -1,6 +1,5 @@
 use native.Mathlib.Omega.{arith}
-use Rattle.icemedian_c.proofs.SettingsLaws.{writes-narrowed}
-use Rattle.icemedian_c.proofs.ExportLaws.{write-passed, write-stopped}
+use Rattle.icemedian_c.proofs.ExportLaws.{writes-narrowed, write-passed, write-stopped}
 use borrow.Author.Needs.{needs}
 use Rattle.icemedian_c.proofs.icemedian_write.Statement.{statement}
 use Rattle.icemedian_c.proofs.icemedian_write.Tie as tie

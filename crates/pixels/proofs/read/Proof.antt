@@ -9,11 +9,11 @@ use Rattle.pixels.proofs.read.Statement.{statement}
 use Rattle.pixels.proofs.read.Tie as tie
 
 abbrev Inv-loop : tie.InvT-loop
-Inv-loop file z places₀ first stride n k₀ places k =
+Inv-loop file plan places₀ first stride n k₀ places k =
     (k ≤ n) × Held file (record { first = first; stride = stride; count = n }) k places × (length places ≡ length places₀)
 
 abbrev μ-loop : tie.MeasureT-loop
-μ-loop file z places₀ first stride n k₀ places k = n - k
+μ-loop file plan places₀ first stride n k₀ places k = n - k
 
 abbrev start : tie.At-loop Inv-loop μ-loop → tie.Start Inv-loop μ-loop
 start h = h .before .before .before
@@ -78,7 +78,7 @@ returns : tie.Need-returns Inv-loop μ-loop
 returns c =
     let h = c .before in
     let at = start h in
-    let done : h .loop .k ≡ at .args .d .count = omega (arith, h .loop .inv .0, c .loop-test .left) in
+    let done : h .loop .k ≡ at .args .line .count = omega (arith, h .loop .inv .0, c .loop-test .left) in
     (omega (arith, at .pre .1 .few), line-pixels (at .pre .0) (at .pre .1) (rw done at (h .loop .inv .1)))
 
 pub read-spec : {M : Type 1} → statement M

@@ -7,11 +7,11 @@ use lib.ListN.{length}
 use Rattle.spec.specs.Refusal.{accepted}
 use Rattle.spec.specs.Frame.{planOf}
 use Rattle.spec.specs.Program.{programOutcome, printed}
-use Rattle.frame.proofs.Outcomes.{quiet}
+use Rattle.spec.proofs.Outcomes.{quiet}
 use Rattle.frame.proofs.Planning.{plan-opened}
 use Rattle.text.proofs.Putting.{called, from-start}
-use Rattle.program.specs.Admitted.{Admitted}
-use Rattle.program.proofs.Admission.{admitted}
+use Rattle.program_checks.specs.Admitted.{Admitted}
+use Rattle.program_checks.proofs.Admission.{admitted}
 use Rattle.program.proofs.Answering.{text-short, refusal-fits, printed-as}
 use borrow.Author.Needs.{needs}
 use Rattle.program.proofs.respond.Statement.{statement}

@@ -11,7 +11,7 @@ use Rattle.window.proofs.PixelLaws.{plan-limits}
 use Rattle.window.proofs.LineLaws.{span-in, span-high, column-in}
 use Rattle.pixels.specs.Pixels.{LinePixels}
 use Rattle.pixels.proofs.Laws.{line-part}
-use Rattle.chain.specs.Chain.{Beyond}
+use Rattle.chain_list.specs.Chain.{Beyond}
 use Rattle.chain.specs.Lines.{nodesOf}
 use Rattle.chain.proofs.MoveLaws.{ColumnsListed, store-size, columns-empty, columns-insertable, columns-beyond, columns-inserted, columns-listed, listed-stored}
 use Rattle.chain.proofs.moves.start.Statement.{statement}

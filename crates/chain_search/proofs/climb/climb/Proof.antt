@@ -61,8 +61,14 @@ shared-slice-read-sum c = omega (arith, node-in (state (c .before .before .befor
 add-sum : tie.Need-add-sum Inv-loop μ-loop
 add-sum c = omega (arith, node-sum (state (c .before .before .before)))
 
-reaches-requires : tie.Need-reaches-requires Inv-loop μ-loop
-reaches-requires c κs =
+cast-reached : tie.Need-cast-reached Inv-loop μ-loop
+cast-reached c = let s = state (c .before .before .before) in omega (arith, node-count s, node-sum s)
+
+cast-reached-2 : tie.Need-cast-reached-2 Inv-loop μ-loop
+cast-reached-2 c = let s = state (c .before .before .before) in omega (arith, node-count s, node-sum s)
+
+reached-requires : tie.Need-reached-requires Inv-loop μ-loop
+reached-requires c κs =
     let h = c .before .before .before in
     let s = state h in
     (start h .pre .1 .1 .0, (omega (arith, node-count s, node-sum s), omega (arith, node-count s, node-sum s)))
@@ -83,7 +89,7 @@ returns : tie.Need-returns Inv-loop μ-loop
 returns c =
     let r = c .before .before in
     let h = r .before .before .before .before in
-    λ a. node-here (h .loop .inv a) (sym (r .reaches .ensures)) (c .before .if1 .taken)
+    λ a. node-here (h .loop .inv a) (sym (r .reached .ensures)) (c .before .if1 .taken)
 
 place-requires-2 : tie.Need-place-requires-2 Inv-loop μ-loop
 place-requires-2 c κs = search needs
@@ -92,25 +98,25 @@ mul-next-2 : tie.Need-mul-next-2 Inv-loop μ-loop
 mul-next-2 c =
     let e = c .before in
     let h = e .before .before .before .before .before in
-    omega (arith, c .place2 .ensures, next-in (state h) (sym (e .before .reaches .ensures)) (e .if1 .left), start h .good)
+    omega (arith, c .place2 .ensures, next-in (state h) (sym (e .before .reached .ensures)) (e .if1 .left), start h .good)
 
 shared-slice-read-next-2 : tie.Need-shared-slice-read-next-2 Inv-loop μ-loop
 shared-slice-read-next-2 c =
     let e = c .before .before in
     let h = e .before .before .before .before .before in
-    omega (arith, c .before .place2 .ensures, next-in (state h) (sym (e .before .reaches .ensures)) (e .if1 .left))
+    omega (arith, c .before .place2 .ensures, next-in (state h) (sym (e .before .reached .ensures)) (e .if1 .left))
 
 loop-less : tie.Need-loop-less Inv-loop μ-loop
 loop-less c =
     let e = c .before .before in
     let h = e .before .before .before .before .before in
-    node-less (state h) (sym (e .before .reaches .ensures)) (e .if1 .left) (c .before .place2 .ensures)
+    node-less (state h) (sym (e .before .reached .ensures)) (e .if1 .left) (c .before .place2 .ensures)
 
 loop-again : tie.Need-loop-again Inv-loop μ-loop
 loop-again c =
     let e = c .before .before in
     let h = e .before .before .before .before .before in
-    λ a. node-next (h .loop .inv a) (sym (e .before .reaches .ensures)) (e .if1 .left) (c .before .place2 .ensures)
+    λ a. node-next (h .loop .inv a) (sym (e .before .reached .ensures)) (e .if1 .left) (c .before .place2 .ensures)
 
 sub-t10 : tie.Need-sub-t10 Inv-loop μ-loop
 sub-t10 c = omega (arith, node-from (state (c .before)))
@@ -146,7 +152,9 @@ climb-spec =
     mul-sum
     shared-slice-read-sum
     add-sum
-    reaches-requires
+    cast-reached
+    cast-reached-2
+    reached-requires
     sub-t19
     mul-t20
     shared-slice-read-t22

@@ -1,5 +1,5 @@
 -- `frame::check::check` meets its contract. Assumes nothing.
-use Rattle.frame.proofs.Outcomes.{stopped, quiet, past}
+use Rattle.spec.proofs.Outcomes.{stopped, quiet, past}
 use Rattle.spec.specs.Checks.{trailerOutcome, contents, verdict}
 use Rattle.spec.specs.Frame.{planOf}
 use Rattle.frame.proofs.Planning.{trailer-passed, parts-in-file}

@@ -14,7 +14,7 @@ use Rattle.ice.proofs.calls.balance.Statement.{statement}
 use Rattle.ice.proofs.calls.balance.Tie as tie
 use Rattle.ice.proofs.calls.balance.Reads as reads
 use Rattle.ice.proofs.calls.balance.Lts as lts
-use Rattle.frame.proofs.check.stops.Reads as stops-reads
+use Rattle.spec.proofs.stops.Reads as stops-reads
 use Rattle.frame.proofs.plan.open_plan.Reads as open-plan-reads
 use Rattle.checks.proofs.balance_verdict.Reads as balance-verdict-reads
 use Rattle.balance.proofs.balance_at.Reads as balance-at-reads

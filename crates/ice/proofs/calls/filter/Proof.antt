@@ -15,7 +15,7 @@ use Rattle.ice.proofs.calls.filter.Statement.{statement}
 use Rattle.ice.proofs.calls.filter.Tie as tie
 use Rattle.ice.proofs.calls.filter.Reads as reads
 use Rattle.ice.proofs.calls.filter.Lts as lts
-use Rattle.frame.proofs.check.stops.Reads as stops-reads
+use Rattle.spec.proofs.stops.Reads as stops-reads
 use Rattle.frame.proofs.plan.open_plan.Reads as open-plan-reads
 use Rattle.ice_walk.proofs.filter.sweep.Reads as sweep-reads
 use Rattle.ice.proofs.calls.refused.Reads as refused-reads

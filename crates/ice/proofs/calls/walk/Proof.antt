@@ -15,7 +15,7 @@ use Rattle.ice.proofs.calls.walk.Statement.{statement}
 use Rattle.ice.proofs.calls.walk.Tie as tie
 use Rattle.ice.proofs.calls.walk.Reads as reads
 use Rattle.ice.proofs.calls.walk.Lts as lts
-use Rattle.frame.proofs.check.stops.Reads as stops-reads
+use Rattle.spec.proofs.stops.Reads as stops-reads
 use Rattle.frame.proofs.plan.open_plan.Reads as open-plan-reads
 use Rattle.ice.proofs.calls.refused.Reads as refused-reads
 use Rattle.ice_walk.proofs.walk.travel.Reads as travel-reads

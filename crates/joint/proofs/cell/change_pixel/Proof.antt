@@ -4,8 +4,9 @@ use mathlib.Core.Path.{sym, ap, ap₂, _∙_}
 use Prim.Native.Nat.{ℕ, _+_, _-_, _%_}
 use lib.ListN.{getD, set}
 use native.Mathlib.Omega.{arith}
+use Rattle.pixels.proofs.AdditiveLaws.{fits-up, fits-down}
 use Rattle.joint.specs.Bit.{withBit, withoutBit}
-use Rattle.joint.proofs.RepLaws.{enters-counts, enters-words, leaves-counts, leaves-words, enters-room, leaves-some}
+use Rattle.joint.proofs.RepLaws.{enters-counts, enters-words, leaves-counts, leaves-words}
 use Rattle.joint.proofs.cell.change_pixel.Statement.{statement}
 use Rattle.joint.proofs.cell.change_pixel.Tie as tie
 
@@ -27,7 +28,7 @@ slice-read-counts c = search needs
 add-counts : tie.Need-add-counts
 add-counts c =
     let at = c .before .before .before .before .before .before .before in
-    rw (c .before .before .before .before .cell-at .ensures) (omega (arith, enters-room _ _ (c .before .if1 .taken) (at .pre .1)))
+    rw (c .before .before .before .before .cell-at .ensures) (omega (arith, fits-up _ _ _ _ (c .before .if1 .taken) (at .pre .1)))
 
 mul-counts-2 : tie.Need-mul-counts-2
 mul-counts-2 c = search needs
@@ -79,7 +80,7 @@ slice-read-left c = search needs
 sub-left : tie.Need-sub-left
 sub-left c =
     let at = c .before .before .before .before .before .before .before in
-    rw (c .before .before .before .before .cell-at .ensures) (omega (arith, leaves-some _ _ (c .before .if1 .left) (at .pre .1)))
+    rw (c .before .before .before .before .cell-at .ensures) (omega (arith, fits-down _ _ _ _ (c .before .if1 .left) (at .pre .1)))
 
 mul-counts-3 : tie.Need-mul-counts-3
 mul-counts-3 c = search needs

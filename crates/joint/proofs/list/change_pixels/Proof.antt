@@ -6,11 +6,11 @@ use lib.IntN.{pos, natAbs}
 use mir.Syntax.{w16}
 use mir.Val.{toZ, ofZ}
 use mir.Facts.{toZ-ofZ}
-use Prim.Native.Nat.{ℕ, _-_, _≤_, _<_}
+use Prim.Native.Nat.{_-_, _≤_, _<_}
 use Rattle.ints.specs.Machine.{read-bounded}
 use Rattle.pixels.specs.Pixels.{countOf, levelIn, guideIn}
 use Rattle.pixels.proofs.Laws.{places-in}
-use Rattle.joint.specs.Store.{changedℤ}
+use Rattle.pixels.specs.Additive.{changedℤ}
 use Rattle.joint.specs.Side.{side}
 use Rattle.joint.specs.List.{Countable, CountsPassed, BoxPassed}
 use Rattle.joint.proofs.PixelLaws.{counts-none, place-of, takes, counts-next, box-none, cell-room, box-next}

@@ -6,7 +6,7 @@ use mir.Syntax.{w16}
 use mir.Facts.{toZ-ofZ}
 use Rattle.ints.specs.Machine.{read-bounded}
 use Rattle.joint.specs.Side.{side}
-use Rattle.joint.proofs.RepLaws.{enters-side, leaves-side}
+use Rattle.joint.proofs.SideLaws.{enters-side, leaves-side}
 use Rattle.joint.proofs.side.side_changed.Statement.{statement}
 use Rattle.joint.proofs.side.side_changed.Tie as tie
 

@@ -13,11 +13,11 @@ use Rattle.joint.proofs.start.fill.Statement.{statement}
 use Rattle.joint.proofs.start.fill.Tie as tie
 
 abbrev Inv-loop : tie.InvT-loop
-Inv-loop file z x n t cut cells₀ counts₀ words₀ k₀ cells counts words k =
-    (k ≤ n) × Filled file z x t (cut .0) k counts₀ words₀ counts words cells
+Inv-loop file plan x n t cut cells₀ counts₀ words₀ k₀ cells counts words k =
+    (k ≤ n) × Filled file plan x t (cut .0) k counts₀ words₀ counts words cells
 
 abbrev μ-loop : tie.MeasureT-loop
-μ-loop file z x n t cut cells₀ counts₀ words₀ k₀ cells counts words k = n - k
+μ-loop file plan x n t cut cells₀ counts₀ words₀ k₀ cells counts words k = n - k
 
 abbrev start : tie.At-loop Inv-loop μ-loop → tie.Start Inv-loop μ-loop
 start h = h .before .before .before .before
@@ -29,7 +29,7 @@ line r = r .before .before
 abbrev turn : tie.After-read Inv-loop μ-loop → tie.In-loop Inv-loop μ-loop
 turn r = r .before .before .before
 
-listed : (r : tie.After-read Inv-loop μ-loop) → let at = start (turn r .before) in LinePixels (at .args .file .now) (at .args .z) (line r .column-line .result)
+listed : (r : tie.After-read Inv-loop μ-loop) → let at = start (turn r .before) in LinePixels (at .args .file .now) (at .args .plan) (line r .column-line .result)
     (take (r .read .result - 0) (drop 0 (r .read .last .1 .1 .1 .0)))
 listed r = line-part (r .read .result) (r .read .last .1 .1 .1 .0) (r .read .ensures .1)
 

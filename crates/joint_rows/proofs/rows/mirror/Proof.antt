@@ -3,7 +3,7 @@ use native.Mathlib.Omega.{arith}
 use borrow.Author.Needs.{needs}
 use Prim.Native.Nat.{_-_, _≤_}
 use Rattle.spec.specs.Frame.{builtIn}
-use Rattle.frame.proofs.Weights.{built-entry}
+use Rattle.frame_weights.proofs.Weights.{built-entry}
 use Rattle.joint_rows.proofs.RowLaws.{Made, made-start, made-next}
 use Rattle.joint_rows.proofs.rows.mirror.Statement.{statement}
 use Rattle.joint_rows.proofs.rows.mirror.Tie as tie

@@ -1,8 +1,8 @@
--- `joint_search::table::weight_at` meets its contract. Assumes nothing.
+-- `joint_rows::table::weight_at` meets its contract. Assumes nothing.
 use native.Mathlib.Omega.{arith}
 use mathlib.Core.Path.{_∙_, sym}
 use Rattle.spec.proofs.Plans.{table-own, table-built}
-use Rattle.frame.proofs.Weights.{built-entry}
+use Rattle.frame_weights.proofs.Weights.{built-entry}
 use Rattle.joint_rows.proofs.TableLaws.{apart-low, weight-place}
 use borrow.Author.Needs.{needs}
 use Rattle.joint_rows.proofs.table.weight_at.Statement.{statement}

@@ -3,63 +3,65 @@ use mathlib.Core.Path.{_≡_, refl, subst}
 use native.Mathlib.Omega.{arith}
 use Prim.Native.Nat.{ℕ, _+_, _-_, _≤_, _<_}
 use lib.IntN.{ℤ, pos, negsuc}
-use lib.Signed.{_≤ℤ_}
+use lib.Signed.{_≤ℤ_, _<ℤ_}
 use mir.Syntax.{w64}
 use mir.Val.{toZ, ofZ}
+use Rattle.ints.specs.Linear.{ints}
 use Rattle.ints.specs.Machine.{lt-true, lt-false}
-use Rattle.spec.specs.Frame.{frameOf}
-use Rattle.spec.specs.Median.{balance}
-use Rattle.spec.proofs.Levels.{levelWeight}
-use mathlib.Core.Path.{_∙_}
-use mir.Facts.{toZ-ofZ}
-use Rattle.joint_search.proofs.SearchLaws.{asks-level, level-is, asks-step, step-down, levels-1024, climb-start, from-below}
+use Rattle.joint_search.specs.Search.{balanceIn}
+use Rattle.joint_search.proofs.SearchLaws.{level-asks, balance-back, step-asks, step-down}
 use Rattle.joint_search.proofs.find.descend.Statement.{statement}
 use Rattle.joint_search.proofs.find.descend.Tie as tie
 
 abbrev Inv-loop : tie.InvT-loop
-Inv-loop file weights w s t bal shifts counts words m i₀ b₀ n₀ i b n =
-    (i ≤ i₀) × (toZ w64 b ≡ balance (frameOf file) s t i) × (pos 0 ≤ℤ balance (frameOf file) s t i) × (n + i ≡ n₀ + i₀)
+Inv-loop plan weights w bal shifts counts words i₀ b₀ n₀ i b n =
+    (i ≤ i₀) × (toZ w64 b ≡ balanceIn plan counts weights w i) × (pos 0 ≤ℤ balanceIn plan counts weights w i) × (n + i ≡ n₀ + i₀)
 
 abbrev μ-loop : tie.MeasureT-loop
-μ-loop file weights w s t bal shifts counts words m i₀ b₀ n₀ i b n = i
+μ-loop plan weights w bal shifts counts words i₀ b₀ n₀ i b n = i
 
 abbrev start : tie.At-loop Inv-loop μ-loop → tie.Start Inv-loop μ-loop
-start h = h .before .before .before .before .before
+start h = h .before .before .before .before
 
-inside : (c : tie.In-loop Inv-loop μ-loop) → c .before .loop .i < frameOf ((start (c .before)) .args .file .now) .set .levels
+-- the balance at level j, by the call's lists
+abbrev bal : tie.Start Inv-loop μ-loop → ℕ → ℤ
+bal at j = balanceIn (at .args .plan) (at .args .counts .now) (at .args .weights .now) (at .args .w) j
+
+inside : (c : tie.In-loop Inv-loop μ-loop) → c .before .loop .i < (start (c .before)) .args .plan .levels
 inside c = omega (arith, (start (c .before)) .pre .1 .0, c .before .loop .inv .0)
 
-weighed : (e : tie.After-level-weight Inv-loop μ-loop) → e .level-weight .result ≡ levelWeight (frameOf ((start (e .before .before)) .args .file .now)) ((start (e .before .before)) .args .s) ((start (e .before .before)) .args .t) (e .before .before .loop .i)
-weighed e = level-is ((start (e .before .before)) .pre .0) (e .before .before .loop .i) (e .level-weight .result) (inside (e .before)) (e .level-weight .ensures)
-
-lower : (v : tie.After-step-balance Inv-loop μ-loop) → toZ w64 (ofZ w64 (v .step-balance .result)) ≡ balance (frameOf ((start (v .before .before .before)) .args .file .now)) ((start (v .before .before .before)) .args .s) ((start (v .before .before .before)) .args .t) (v .before .before .before .loop .i - 1)
+lower : (v : tie.After-step-balance Inv-loop μ-loop) → toZ w64 (ofZ w64 (v .step-balance .result)) ≡ bal (start (v .before .before .before)) (v .before .before .before .loop .i - 1)
 lower v =
     let e = v .before in
     let h = e .before .before in
-    toZ-ofZ (record { sfits = v .step-balance .ok })
-    ∙ step-down ((start h) .pre .0 .counted) (h .loop .i) (toZ w64 (h .loop .b)) (e .level-weight .result) (v .step-balance .result) (e .before .loop-test .taken) (h .loop .inv .1) (weighed e) (v .step-balance .ensures)
+    let at = start h in
+    step-down (at .pre .0 .0) (at .pre .0 .1) (h .loop .i) (toZ w64 (h .loop .b)) (e .level-weight .result) (v .step-balance .result) (e .before .loop-test .taken) (inside (e .before)) (h .loop .inv .1) (e .level-weight .ensures) (v .step-balance .ok) (v .step-balance .ensures)
 
 loop-holds : tie.Need-loop-holds Inv-loop μ-loop
 loop-holds c =
-    let at = c .before .before .before .before in
-    (omega arith, climb-start (at .pre .0 .counted) (at .args .from .0) (at .args .bal) (at .pre .1 .1), subst (λ (q : ℤ). pos 0 ≤ℤ q) (at .pre .1 .1) (at .pre .1 .3), refl)
+    let at = c .before .before .before in
+    (omega arith, balance-back (at .pre .0 .0) (at .pre .0 .1) (at .args .from .0) (at .args .bal) (at .pre .1 .0) (at .pre .1 .1), subst (λ (q : ℤ). pos 0 ≤ℤ q) (at .pre .1 .1) (at .pre .1 .3), refl)
 
 level-weight-requires : tie.Need-level-weight-requires Inv-loop μ-loop
-level-weight-requires c κs = asks-level ((start (c .before)) .pre .0) (c .before .loop .i) (inside c)
+level-weight-requires c κs = let at = start (c .before) in level-asks (at .pre .0 .0) (at .pre .0 .1) (c .before .loop .i) (inside c)
 
 step-balance-requires : tie.Need-step-balance-requires Inv-loop μ-loop
 step-balance-requires c κs =
     let h = c .before .before in
-    asks-step ((start h) .pre .0 .counted) (h .loop .i) (h .loop .i) (toZ w64 (h .loop .b)) (c .level-weight .result) (negsuc 1) (h .loop .inv .1) (weighed c) (omega arith)
+    let at = start h in
+    step-asks (at .pre .0 .0) (at .pre .0 .1) (h .loop .i) (h .loop .i) (toZ w64 (h .loop .b)) (c .level-weight .result) (negsuc 1) (inside (c .before)) (inside (c .before)) (h .loop .inv .1) (c .level-weight .ensures) (omega arith)
+
+-- the balance below falls short
+short : (c : tie.Then1 Inv-loop μ-loop) → let h = c .before .before .before .before in bal (start h) (h .loop .i - 1) <ℤ pos 0
+short c = let less = lt-true (lower (c .before)) refl (c .if1 .taken) in omega (arith, ints, less)
 
 returns : tie.Need-returns Inv-loop μ-loop
 returns c =
-    let v = c .before in
-    let h = v .before .before .before in
+    let h = c .before .before .before .before in
     record {
       upto = h .loop .inv .0;
       here = h .loop .inv .2;
-      below = from-below ((start h) .pre .0 .counted) (h .loop .i) (v .before .before .loop-test .taken) (lt-true (lower v) refl (c .if1 .taken));
+      below = λ j e. let d : h .loop .i - 1 ≡ j = omega arith in subst (λ (q : ℕ). bal (start h) q <ℤ pos 0) d (short c);
       shifts = h .loop .inv .3;
     }
 
@@ -70,16 +72,20 @@ add-counted : tie.Need-add-counted Inv-loop μ-loop
 add-counted c =
     let h = c .before .before .before .before in
     let at = start h in
-    omega (arith, levels-1024 (at .pre .0 .counted), at .pre .1 .0, at .pre .1 .2, h .loop .inv .3)
+    omega (arith, at .pre .0 .0 .levels, at .pre .1 .0, at .pre .1 .2, h .loop .inv .3)
 
 loop-less : tie.Need-loop-less Inv-loop μ-loop
 loop-less c = omega (arith, c .before .before .before .loop-test .taken)
+
+-- the balance below is not negative
+enough : (c : tie.Else1 Inv-loop μ-loop) → let h = c .before .before .before .before in pos 0 ≤ℤ bal (start h) (h .loop .i - 1)
+enough c = let not-less = lt-false (lower (c .before)) refl (c .if1 .left) in omega (arith, ints, not-less)
 
 loop-again : tie.Need-loop-again Inv-loop μ-loop
 loop-again c =
     let v = c .before in
     let h = v .before .before .before in
-    (omega (arith, h .loop .inv .0), lower v, lt-false (lower v) refl (c .if1 .left), omega (arith, h .loop .inv .3, v .before .before .loop-test .taken))
+    (omega (arith, h .loop .inv .0), lower v, enough c, omega (arith, h .loop .inv .3, v .before .before .loop-test .taken))
 
 returns-2 : tie.Need-returns-2 Inv-loop μ-loop
 returns-2 c =
@@ -88,7 +94,7 @@ returns-2 c =
     let zero : h .loop .i ≡ 0 = omega (arith, c .loop-test .left) in
     record {
       upto = omega arith;
-      here = subst (λ (q : ℕ). pos 0 ≤ℤ balance (frameOf (at .args .file .now)) (at .args .s) (at .args .t) q) zero (h .loop .inv .2);
+      here = subst (λ (q : ℕ). pos 0 ≤ℤ bal at q) zero (h .loop .inv .2);
       below = λ j e. absurd (omega arith);
       shifts = omega (arith, h .loop .inv .3);
     }

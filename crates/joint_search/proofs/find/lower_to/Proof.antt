@@ -1,32 +1,31 @@
 -- `lower_to` meets its contract: the box is that of the cut point i. Assumes nothing.
-use mathlib.Core.Path.{_≡_, ap, _∙_}
+use mathlib.Core.Path.{_≡_, refl, sym, ap, _∙_}
 use native.Mathlib.Omega.{arith}
-use Prim.Native.Nat.{_≤_}
-use Rattle.spec.specs.Frame.{frameOf}
-use Rattle.spec.specs.Joint.{balanceBox}
-use lib.IntN.{negsuc}
-use Rattle.joint_search.proofs.SearchLaws.{asks-shift, lowered-at}
+use Prim.Native.Nat.{_+_, _-_, _≤_}
+use Rattle.joint_search.specs.Search.{boxIn}
+use Rattle.joint_search.proofs.SearchLaws.{box-bounds, lowered}
 use Rattle.joint_search.proofs.find.lower_to.Statement.{statement}
 use Rattle.joint_search.proofs.find.lower_to.Tie as tie
 
 abbrev Inv-loop : tie.InvT-loop
-Inv-loop file s t cells₀ counts words m last i₀ cells i =
-    (last ≤ i) × (i ≤ i₀) × (cells ≡ balanceBox (frameOf file) s t i)
+Inv-loop plan cells₀ counts words last i₀ cells i =
+    (last ≤ i) × (i ≤ i₀) × (cells ≡ boxIn plan counts i)
 
 abbrev μ-loop : tie.MeasureT-loop
-μ-loop file s t cells₀ counts words m last i₀ cells i = i
+μ-loop plan cells₀ counts words last i₀ cells i = i
 
 abbrev start : tie.At-loop Inv-loop μ-loop → tie.Start Inv-loop μ-loop
-start h = h .before .before .before .before
+start h = h .before .before .before
 
 loop-holds : tie.Need-loop-holds Inv-loop μ-loop
-loop-holds c = let at = c .before .before .before in (at .pre .1 .0, omega arith, at .pre .1 .2)
+loop-holds c = let at = c .before .before in (at .pre .1 .0, omega arith, at .pre .1 .2)
 
 shift-level-requires : tie.Need-shift-level-requires Inv-loop μ-loop
 shift-level-requires c κs =
     let h = c .before .before in
     let at = start h in
-    asks-shift (at .pre .0) (h .loop .i) (h .loop .i) (negsuc 1) _ (omega (arith, at .pre .1 .1, h .loop .inv .1)) (omega arith) (h .loop .inv .2)
+    let q = at .pre .0 in
+    (q .marked _ (omega (arith, at .pre .1 .1, h .loop .inv .1)), (omega arith, box-bounds q (h .loop .i) _ (omega (arith, at .pre .1 .1, h .loop .inv .1)) (h .loop .inv .2)))
 
 sub-i : tie.Need-sub-i Inv-loop μ-loop
 sub-i c = omega (arith, c .before .before .loop-test .taken)
@@ -38,10 +37,11 @@ loop-again : tie.Need-loop-again Inv-loop μ-loop
 loop-again c =
     let t = c .before .before in
     let h = t .before in
-    let at = start h in (
+    let at = start h in
+    let d : h .loop .i - 1 + 1 ≡ h .loop .i = omega (arith, t .loop-test .taken) in (
       omega (arith, t .loop-test .taken),
       omega (arith, h .loop .inv .1),
-      lowered-at (at .pre .0) (h .loop .i) _ _ (omega (arith, t .loop-test .taken)) (omega (arith, at .pre .1 .1, h .loop .inv .1)) (h .loop .inv .2) (c .shift-level .ensures),
+      lowered (at .args .plan) (at .args .counts .now) (h .loop .i - 1) _ _ _ _ (h .loop .inv .2 ∙ ap (boxIn (at .args .plan) (at .args .counts .now)) (sym d)) (c .shift-level .ensures) (omega (arith, d)) refl,
     )
 
 returns : tie.Need-returns Inv-loop μ-loop
@@ -49,7 +49,7 @@ returns c =
     let h = c .before in
     let at = start h in
     let done : h .loop .i ≡ at .args .to .0 = omega (arith, h .loop .inv .0, c .loop-test .left) in
-    h .loop .inv .2 ∙ ap (balanceBox (frameOf (at .args .file .now)) (at .args .s) (at .args .t)) done
+    h .loop .inv .2 ∙ ap (boxIn (at .args .plan) (at .args .counts .now)) done
 
 pub lower-to-spec : {M : Type 1} → statement M
 lower-to-spec =

@@ -8,7 +8,7 @@ use mir.Syntax.{w16}
 use mir.Val.{toZ, ofZ}
 use Rattle.ints.specs.Machine.{read-bounded}
 use Rattle.joint_search.specs.Scan.{placeOf, Scans}
-use Rattle.joint_search.specs.Box.{Shifted}
+use Rattle.joint_search.specs.Box.{CountsAdded}
 use Rattle.joint_search.proofs.ScanLaws.{first-low, base-low, scan-asks, place-low, place-ended}
 use Rattle.joint_search.proofs.ShiftLaws.{shift-asks, shift-stored, shift-low, shift-start, shift-again, shift-done}
 use Rattle.joint_search.proofs.shift.shift_level.Statement.{statement}
@@ -16,7 +16,7 @@ use Rattle.joint_search.proofs.shift.shift_level.Tie as tie
 
 abbrev Inv-loop : tie.InvT-loop
 Inv-loop m by cells₀ counts words i k first base c₀ cells c =
-    (placeOf c ≤ 256) × Scans words first k c × Shifted m i (toZ w16 by) counts (min (placeOf c) m) cells₀ cells
+    (placeOf c ≤ 256) × Scans words first k c × CountsAdded m i (toZ w16 by) counts (min (placeOf c) m) cells₀ cells
 
 abbrev μ-loop : tie.MeasureT-loop
 μ-loop m by cells₀ counts words i k first base c₀ cells c = 256 - placeOf c
@@ -35,10 +35,10 @@ guide-low : (g : tie.After-guide Inv-loop μ-loop) → g .guide .result .0 < (st
 guide-low g = omega (arith, g .guide .ensures, low (g .before))
 
 -- what is moved, at that guide
-moved : (g : tie.After-guide Inv-loop μ-loop) → Shifted ((start (head g)) .args .m) ((start (head g)) .args .level .0) (toZ w16 (ofZ w16 ((start (head g)) .args .by))) ((start (head g)) .args .counts .now) (min (g .guide .result .0) ((start (head g)) .args .m)) ((start (head g)) .args .cells .now) (head g .loop .cells)
+moved : (g : tie.After-guide Inv-loop μ-loop) → CountsAdded ((start (head g)) .args .m) ((start (head g)) .args .level .0) (toZ w16 (ofZ w16 ((start (head g)) .args .by))) ((start (head g)) .args .counts .now) (min (g .guide .result .0) ((start (head g)) .args .m)) ((start (head g)) .args .cells .now) (head g .loop .cells)
 moved g =
     let at = start (head g) in
-    subst (λ (q : ℕ). Shifted (at .args .m) (at .args .level .0) (toZ w16 (ofZ w16 (at .args .by))) (at .args .counts .now) (min q (at .args .m)) (at .args .cells .now) (head g .loop .cells)) (sym (g .guide .ensures))
+    subst (λ (q : ℕ). CountsAdded (at .args .m) (at .args .level .0) (toZ w16 (ofZ w16 (at .args .by))) (at .args .counts .now) (min q (at .args .m)) (at .args .cells .now) (head g .loop .cells)) (sym (g .guide .ensures))
     (head g .loop .inv .2)
 
 cast-i : tie.Need-cast-i Inv-loop μ-loop
@@ -127,7 +127,7 @@ returns : tie.Need-returns Inv-loop μ-loop
 returns c =
     let h = c .before .before in
     let at = start h in
-    subst (λ (q : ℤ). Shifted (at .args .m) (at .args .level .0) q (at .args .counts .now) (at .args .m) (at .args .cells .now) (h .loop .cells)) (read-bounded w16 2 (at .pre .1 .0) tt)
+    subst (λ (q : ℤ). CountsAdded (at .args .m) (at .args .level .0) q (at .args .counts .now) (at .args .m) (at .args .cells .now) (h .loop .cells)) (read-bounded w16 2 (at .pre .1 .0) tt)
     (shift-done (at .pre .0) _ _ (placeOf (h .loop .c)) _ (place-ended (at .pre .0) (h .loop .c) (c .if1 .left)) (h .loop .inv .2))
 
 pub shift-level-spec : {M : Type 1} → statement M

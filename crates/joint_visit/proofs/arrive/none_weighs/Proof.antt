@@ -3,53 +3,60 @@ use mathlib.Core.Path.{_≡_, refl, sym, _∙_, subst}
 use mathlib.Core.Logic.{⊎-elim}
 use native.Mathlib.Omega.{arith}
 use Prim.Native.Nat.{ℕ, _-_, _≤_, _<_}
-use lib.IntN.{pos}
+use lib.IntN.{ℤ, pos}
+use lib.Signed.{_≤ℤ_}
 use mir.Syntax.{w64}
 use mir.Val.{toZ, ofZ}
 use mir.Facts.{toZ-ofZ}
+use Rattle.ints.specs.Order.{≤-antisymm}
 use Rattle.ints.specs.Machine.{lt-true, lt-false}
-use Rattle.spec.specs.Frame.{frameOf}
-use Rattle.spec.proofs.Levels.{levelWeight}
 use Rattle.joint.proofs.BitLaws.{lt-or-le}
-use Rattle.joint_search.proofs.SearchLaws.{asks-level, level-is, levels-eq, levels-1024, spot}
-use Rattle.joint_visit.proofs.WeightlessLaws.{weightless-all, weightless-some, nothing}
+use Rattle.joint_search.specs.Search.{levelWeightIn}
+use Rattle.joint_search.proofs.LevelsLaws.{weightless-all, weightless-some}
+use Rattle.joint_search.proofs.SearchLaws.{level-asks, level-low}
 use Rattle.joint_visit.proofs.arrive.none_weighs.Statement.{statement}
 use Rattle.joint_visit.proofs.arrive.none_weighs.Tie as tie
 
 abbrev Inv-loop : tie.InvT-loop
-Inv-loop file weights w s t counts words m l i₀ i =
-    (i ≤ frameOf file .set .levels) × ((j : ℕ) → j < i → levelWeight (frameOf file) s t j ≡ pos 0)
+Inv-loop plan weights w counts words l i₀ i =
+    (i ≤ plan .levels) × ((j : ℕ) → j < i → levelWeightIn (plan .guides) counts weights w j ≡ pos 0)
 
 abbrev μ-loop : tie.MeasureT-loop
-μ-loop file weights w s t counts words m l i₀ i = frameOf file .set .levels - i
+μ-loop plan weights w counts words l i₀ i = plan .levels - i
 
 abbrev start : tie.At-loop Inv-loop μ-loop → tie.Start Inv-loop μ-loop
-start h = h .before .before .before .before .before .before
+start h = h .before .before .before .before .before
 
-inside : (t : tie.In-loop Inv-loop μ-loop) → t .before .loop .i < frameOf ((start (t .before)) .args .file .now) .set .levels
-inside t = omega (arith, t .loop-test .taken, levels-eq ((start (t .before)) .pre .0 .counted))
+-- the weight of level j, by the call's lists
+abbrev weight : tie.Start Inv-loop μ-loop → ℕ → ℤ
+weight at j = levelWeightIn (at .args .plan .guides) (at .args .counts .now) (at .args .weights .now) (at .args .w) j
 
-weighed : (e : tie.After-level-weight Inv-loop μ-loop) → toZ w64 (ofZ w64 (e .level-weight .result)) ≡ levelWeight (frameOf ((start (e .before .before)) .args .file .now)) ((start (e .before .before)) .args .s) ((start (e .before .before)) .args .t) (e .before .before .loop .i)
-weighed e = toZ-ofZ (record { sfits = e .level-weight .ok }) ∙ level-is ((start (e .before .before)) .pre .0) (e .before .before .loop .i) (e .level-weight .result) (inside (e .before)) (e .level-weight .ensures)
+low : (at : tie.Start Inv-loop μ-loop) (i : ℕ) → i < at .args .plan .levels → pos 0 ≤ℤ weight at i
+low at i h = level-low (at .pre .2) (at .args .counts .now) i
+
+inside : (t : tie.In-loop Inv-loop μ-loop) → t .before .loop .i < (start (t .before)) .args .plan .levels
+inside t = omega (arith, t .loop-test .taken)
+
+weighed : (e : tie.After-level-weight Inv-loop μ-loop) → toZ w64 (ofZ w64 (e .level-weight .result)) ≡ weight (start (e .before .before)) (e .before .before .loop .i)
+weighed e = toZ-ofZ (record { sfits = e .level-weight .ok }) ∙ e .level-weight .ensures
 
 cast-l : tie.Need-cast-l Inv-loop μ-loop
-cast-l c = let at = c .before .before .before .before .before in omega (arith, levels-eq (at .pre .0 .counted), levels-1024 (at .pre .0 .counted))
+cast-l c = let at = c .before .before .before .before in omega (arith, at .pre .0 .levels)
 
 loop-holds : tie.Need-loop-holds Inv-loop μ-loop
 loop-holds c = (omega arith, λ j h. absurd (omega arith))
 
 level-weight-requires : tie.Need-level-weight-requires Inv-loop μ-loop
-level-weight-requires c κs = asks-level ((start (c .before)) .pre .0) (c .before .loop .i) (inside c)
+level-weight-requires c κs = let at = start (c .before) in level-asks (at .pre .0) (at .pre .1) (c .before .loop .i) (inside c)
 
 returns : tie.Need-returns Inv-loop μ-loop
 returns c =
     let e = c .before in
     let h = e .before .before in
-    let at = start h in
-    weightless-some (spot (at .pre .0 .counted)) (at .pre .1) (h .loop .i) (inside (e .before)) (lt-true refl (weighed e) (c .if1 .taken))
+    weightless-some (low (start h)) (h .loop .i) (inside (e .before)) (lt-true refl (weighed e) (c .if1 .taken))
 
 add-i : tie.Need-add-i Inv-loop μ-loop
-add-i c = let t = c .before .before in omega (arith, inside t, levels-1024 ((start (t .before)) .pre .0 .counted))
+add-i c = let t = c .before .before in omega (arith, inside t, (start (t .before)) .pre .0 .levels)
 
 loop-less : tie.Need-loop-less Inv-loop μ-loop
 loop-less c = omega (arith, inside (c .before .before))
@@ -60,16 +67,13 @@ loop-again c =
     let t = e .before in
     let h = t .before in
     let at = start h in
-    let zero = nothing (spot (at .pre .0 .counted)) (at .pre .1) (h .loop .i) (lt-false refl (weighed e) (c .if1 .left)) in (
+    let zero = ≤-antisymm (lt-false refl (weighed e) (c .if1 .left)) (low at (h .loop .i) (inside t)) in (
       omega (arith, inside t),
-      λ j l. ⊎-elim (λ u. h .loop .inv .1 j u) (λ u. let d : j ≡ h .loop .i = omega arith in subst (λ (q : ℕ). levelWeight (frameOf (at .args .file .now)) (at .args .s) (at .args .t) q ≡ pos 0) (sym d) zero) (lt-or-le j (h .loop .i)),
+      λ j l. ⊎-elim (λ u. h .loop .inv .1 j u) (λ u. let d : j ≡ h .loop .i = omega arith in subst (λ (q : ℕ). weight at q ≡ pos 0) (sym d) zero) (lt-or-le j (h .loop .i)),
     )
 
 returns-2 : tie.Need-returns-2 Inv-loop μ-loop
-returns-2 c =
-    let h = c .before in
-    let at = start h in
-    weightless-all (spot (at .pre .0 .counted)) (λ j l. h .loop .inv .1 j (omega (arith, c .loop-test .left, levels-eq (at .pre .0 .counted))))
+returns-2 c = let h = c .before in weightless-all (λ j l. h .loop .inv .1 j (omega (arith, c .loop-test .left)))
 
 pub none-weighs-spec : {M : Type 1} → statement M
 none-weighs-spec =

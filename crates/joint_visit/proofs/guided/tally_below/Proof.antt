@@ -1,20 +1,17 @@
--- `tally_below` meets its contract. Assumes nothing.
-use Prim.Native.Nat.{_+_, _≤_}
+-- `tally_below` meets its contract: the two lists are lent to the sum. Assumes nothing.
 use mathlib.Core.Path.{refl}
 use native.Mathlib.Omega.{arith}
-use lib.ListN.{length}
-use Rattle.window.proofs.PixelLaws.{levels-high}
 use borrow.Author.Needs.{needs}
-use Rattle.levels.proofs.AnswerLaws.{gather-asks, gathered}
-use Rattle.joint_visit.proofs.VisitLaws.{numbers-long, profiled}
+use Prim.Native.Nat.{_≤_}
+use Rattle.joint_visit.proofs.VisitLaws.{first-part, second-part, counts-long}
 use Rattle.joint_visit.proofs.guided.tally_below.Statement.{statement}
 use Rattle.joint_visit.proofs.guided.tally_below.Tie as tie
 
-long : (at : tie.Start) → at .args .z .levels + at .args .z .levels ≤ length (at .args .numbers .now)
-long at = numbers-long (at .pre .0 .0) (at .pre .1) refl refl
+few : (at : tie.Start) → at .args .levels ≤ 1024
+few at = omega (arith, counts-long (at .args .levels) (at .args .numbers .now) (at .pre .0), at .pre .1 .levels)
 
 add-last : tie.Need-add-last
-add-last c = omega (arith, levels-high (c .before .before .pre .0 .0))
+add-last c = omega (arith, few (c .before))
 
 sub-gather : tie.Need-sub-gather
 sub-gather c = search needs
@@ -23,10 +20,10 @@ part-gather-start : tie.Need-part-gather-start
 part-gather-start c = search needs
 
 part-gather-end : tie.Need-part-gather-end
-part-gather-end c = omega (arith, long (c .before .before))
+part-gather-end c = omega (arith, c .before .pre .0)
 
 mul-gather : tie.Need-mul-gather
-mul-gather c = omega (arith, levels-high (c .before .before .before .pre .0 .0))
+mul-gather c = omega (arith, few (c .before .before))
 
 sub-gather-2 : tie.Need-sub-gather-2
 sub-gather-2 c = search needs
@@ -35,19 +32,21 @@ part-gather-start-2 : tie.Need-part-gather-start-2
 part-gather-start-2 c = search needs
 
 part-gather-end-2 : tie.Need-part-gather-end-2
-part-gather-end-2 c = long (c .before .before .before)
+part-gather-end-2 c = c .before .before .pre .0
 
 gather-requires : tie.Need-gather-requires
 gather-requires c κs =
-    let at = c .before .before .before .before in
-    let q = at .pre .0 in
-    gather-asks (q .0) (q .1) (q .2) (profiled (q .0) (at .pre .1) refl refl) (q .3)
+    let at = c .before .before .before in
+    let l = at .args .levels in
+    let ns = at .args .numbers .now in
+    rw (first-part l ns, second-part l _ ns refl) (at .pre .1, omega (arith, counts-long l ns (at .pre .0), at .pre .2))
 
 returns : tie.Need-returns
 returns c =
-    let at = c .before .before .before .before .before in
-    let q = at .pre .0 in
-    gathered (q .0) (q .1) (q .2) (profiled (q .0) (at .pre .1) refl refl) (q .3) (c .gather .ensures)
+    let at = c .before .before .before .before in
+    let l = at .args .levels in
+    let ns = at .args .numbers .now in
+    rw (first-part l ns, second-part l _ ns refl) at (c .gather .ensures)
 
 pub tally-below-spec : {M : Type 1} → statement M
 tally-below-spec =

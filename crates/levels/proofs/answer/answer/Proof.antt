@@ -1,8 +1,7 @@
 -- `levels::answer::answer` meets its contract: from the cut point where the window is monotone, else from level 0. Assumes nothing.
-use mathlib.Core.Path.{_∙_}
 use native.Mathlib.Omega.{arith}
-use Rattle.levels.proofs.SearchLaws.{tally-none, fail-none, fail-inside}
-use Rattle.levels.proofs.BlockLaws.{handed-on}
+use Rattle.level_search.proofs.SearchLaws.{tally-none, fail-none}
+use Rattle.level_search.proofs.BlockLaws.{handed-on}
 use Rattle.levels.proofs.answer.answer.Statement.{statement}
 use Rattle.levels.proofs.answer.answer.Tie as tie
 
@@ -26,7 +25,7 @@ ascend-requires : tie.Need-ascend-requires
 ascend-requires c κs =
     let h = c .before in
     let p = start h .pre in
-    ((p .search, handed-on (p .heaviest _ (h .heaviest .ensures))), ((fail-inside (p .search) fail-none, omega (arith, p .shifts)), (tally-none, fail-none)))
+    ((p .search, handed-on (p .heaviest _ (h .heaviest .ensures))), ((omega (arith, p .cut), omega (arith, p .shifts)), (tally-none, fail-none)))
 
 returns-2 : tie.Need-returns-2
 returns-2 c = rw (c .before .if1 .left) ((c .ascend .ensures .0, omega (arith, c .ascend .ensures .1)))

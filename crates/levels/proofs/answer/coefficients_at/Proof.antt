@@ -1,39 +1,13 @@
 -- `levels::answer::coefficients_at` meets its contract. Assumes nothing.
-use mathlib.Core.Path.{_∙_}
-use Prim.Native.Nat.{_+_, _*_, _<_}
-use native.Mathlib.Omega.{arith}
-use Rattle.spec.proofs.Plans.{facts, place-low}
-use Rattle.window.proofs.PixelLaws.{guides-high, guide-low, place-small}
-use Rattle.window.proofs.SumLaws.{sums-small}
-use Rattle.window.proofs.CoefficientLaws.{smoothing-high, weighs, coefficients-small}
+use borrow.Author.Needs.{needs}
 use Rattle.levels.proofs.answer.coefficients_at.Statement.{statement}
 use Rattle.levels.proofs.answer.coefficients_at.Tie as tie
 
-place : (c : tie.Start) → c .args .t * c .args .z .width + c .args .s < c .args .z .width * c .args .z .height
-place c = place-low (c .args .z) (c .args .s) (c .args .t) (c .pre .1 .0) (c .pre .1 .1)
-
-mul-guide-at : tie.Need-mul-guide-at
-mul-guide-at c = let st = c .before .before in omega (arith, place-small (st .pre .0 .0) (place st))
-
-add-guide-at : tie.Need-add-guide-at
-add-guide-at c = let st = c .before .before in omega (arith, place-small (st .pre .0 .0) (place st))
-
-guide-at-requires : tie.Need-guide-at-requires
-guide-at-requires c κs = let st = c .before .before in (st .pre .0 .0, place st)
-
-from-sums-requires : tie.Need-from-sums-requires
-from-sums-requires c κs =
-    let st = c .before .before .before in
-    let pl = st .pre .0 .0 in
-    (sums-small pl (st .pre .1 .0) (st .pre .1 .1) (st .pre .1 .2), (smoothing-high pl (st .pre .0 .1), omega (arith, c .guide-at .ensures, guide-low pl (place st), guides-high pl)))
+of-window-requires : tie.Need-of-window-requires
+of-window-requires c κs = search needs
 
 returns : tie.Need-returns
-returns c =
-    let st = c .before .before .before .before in
-    let pl = st .pre .0 .0 in
-    let w = weighs pl (st .pre .0 .1) (st .pre .1 .2) (c .before .guide-at .ensures ∙ facts pl .guide-at (st .args .s) (st .args .t)) (c .from-sums .ensures) in
-    (w, coefficients-small pl (st .pre .0 .1) w (st .pre .1 .0) (st .pre .1 .1))
+returns c = search needs
 
 pub coefficients-at-spec : {M : Type 1} → statement M
-coefficients-at-spec =
-    tie.close (tie.spec mul-guide-at add-guide-at guide-at-requires from-sums-requires returns)
+coefficients-at-spec = tie.close (tie.spec of-window-requires returns)

@@ -1,6 +1,6 @@
 -- `list_tally` meets its contract. Assumes nothing.
 use mathlib.Core.Path.{_≡_, refl, subst}
-use Prim.Native.Nat.{ℕ, _+_, _*_, _-_, _<_, _≤_}
+use Prim.Native.Nat.{ℕ, _-_, _<_, _≤_}
 use native.Mathlib.Omega.{arith}
 use Rattle.pixels.specs.Pixels.{countOf}
 use Rattle.pixels.proofs.Laws.{places-in}

@@ -1,6 +1,6 @@
 -- `list_sums` meets its contract. Assumes nothing.
 use mathlib.Core.Path.{_≡_, subst}
-use Prim.Native.Nat.{ℕ, _+_, _*_, _-_, _<_, _≤_}
+use Prim.Native.Nat.{ℕ, _*_, _-_, _<_, _≤_}
 use native.Mathlib.Omega.{arith}
 use Rattle.window.specs.declared.sums.Sums.{Sums}
 use Rattle.pixels.specs.Pixels.{countOf, guideIn}

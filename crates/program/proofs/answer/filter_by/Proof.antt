@@ -3,7 +3,7 @@
 use mathlib.Core.Path.{_≡_, refl, _∙_}
 use native.Mathlib.Omega.{arith}
 use lib.ListN.{length}
-use Rattle.program.specs.Admitted.{Filtered}
+use Rattle.program.specs.Answer.{Filterable, Filtered}
 use Rattle.program.proofs.Serving.{Lent, filter-passes}
 use Rattle.ice.specs.Contract.{Filters, Ended}
 use borrow.Author.Needs.{needs}
@@ -27,7 +27,7 @@ returns c =
     let s = c .before .before .before .before .before .before .before .before .before in
     let q = c .before .before .before .filter in
     let n : length (s .args .plane .now) ≡ 8192 = omega (arith, s .good) in
-    let l = filter-passes (s .args .way) _ _ (s .pre .0) (s .pre .1) (record { counts = refl; words = refl; numbers = refl; plane = n }) in
+    let l = filter-passes (s .args .way) _ _ (s .pre .admitted) (s .pre .serving) (record { counts = refl; words = refl; numbers = refl; plane = n }) in
     let e = q .ensures .filtered l in
     record { plane = e .answers; long = q .kept .1 .1 .1 .1 .1 .0 ∙ n; shifts = e .shifts }
 

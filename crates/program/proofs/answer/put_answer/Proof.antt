@@ -13,8 +13,9 @@ use Rattle.spec.specs.Program.{jointWord, rows}
 use Rattle.spec.proofs.Plans.{facts}
 use Rattle.text.specs.Text.{Room, Puts, sizeText, wayText}
 use Rattle.text.proofs.Putting.{joined, called, room-first, room-next}
-use Rattle.program.specs.Admitted.{Admitted, guidedText, Filtered}
-use Rattle.program.proofs.Admission.{pixels-few}
+use Rattle.program_checks.specs.Admitted.{Admitted}
+use Rattle.program.specs.Answer.{guidedText, Filtered}
+use Rattle.program_checks.proofs.Admission.{pixels-few}
 use Rattle.program.proofs.Answering.{shiftCount, parts, whole, plane-text, text-short}
 use borrow.Author.Needs.{needs}
 use Rattle.program.proofs.answer.put_answer.Statement.{statement}
@@ -22,22 +23,22 @@ use Rattle.program.proofs.answer.put_answer.Tie as tie
 
 -- the text's parts, and the room for the first ones of them
 abbrev size : tie.Start → List ℕ
-size s = sizeText (s .args .z .width) (s .args .z .height)
+size s = sizeText (s .args .plan .width) (s .args .plan .height)
 
 abbrev lines : tie.Start → List ℕ
-lines s = rows (frameOf (s .args .input .now)) (s .args .z .height)
+lines s = rows (frameOf (s .args .input .now)) (s .args .plan .height)
 
 abbrev joint : tie.Start → List ℕ
 joint s = wayText jointWord (shiftCount (s .args .input .now))
 
-room-all : (s : tie.Start) → Room (s .args .out .now) 0 (parts (s .args .input .now) (s .args .z .width) (s .args .z .height) (s .args .z .kind))
+room-all : (s : tie.Start) → Room (s .args .out .now) 0 (parts (s .args .input .now) (s .args .plan .width) (s .args .plan .height) (s .args .plan .kind))
 room-all s =
     let h = text-short (s .pre .0) in
     let e = ap length (whole (s .pre .0 .planned)) in
     omega (arith, h, e, s .pre .1)
 
 room-three : (s : tie.Start) → Room (s .args .out .now) 0 (size s ++ lines s ++ joint s)
-room-three s = room-first (s .args .out .now) 0 (size s ++ lines s ++ joint s) (guidedText (s .args .z .kind) (shiftCount (s .args .input .now))) (room-all s)
+room-three s = room-first (s .args .out .now) 0 (size s ++ lines s ++ joint s) (guidedText (s .args .plan .kind) (shiftCount (s .args .input .now))) (room-all s)
 
 room-two : (s : tie.Start) → Room (s .args .out .now) 0 (size s ++ lines s)
 room-two s = room-first (s .args .out .now) 0 (size s ++ lines s) (joint s) (room-three s)
@@ -52,7 +53,7 @@ joint-line : (e : tie.After-put-way) → Puts (e .before .before .before .before
 joint-line e = joined (picture (e .before .before .before .before .before)) (called (ap (wayText jointWord) (e .before .before .before .before .before .before .before .before .before .before .before .before .filter-by .ensures .shifts)) (e .put-way .ensures))
 
 filter-by-requires : tie.Need-filter-by-requires
-filter-by-requires c κs = (c .before .before .before .pre .0, inl refl)
+filter-by-requires c κs = record { plan = _; admitted = c .before .before .before .pre .0; serving = inl refl }
 
 put-size-requires : tie.Need-put-size-requires
 put-size-requires c κs =
@@ -67,7 +68,7 @@ put-rows-requires c κs =
     let s = c .before .before .before .before .before .before .before .before .before .before in
     let f = facts (s .pre .0 .planned) in
     let m = c .before .before .before .before .before .before .filter-by .ensures in
-    let n : s .args .z .height * s .args .z .width ≤ 8192 = rw (f .width, f .height, mul-comm) (pixels-few (s .pre .0)) in (
+    let n : s .args .plan .height * s .args .plan .width ≤ 8192 = rw (f .width, f .height, mul-comm) (pixels-few (s .pre .0)) in (
       (rw (f .width) (f .limits .sound .width-low), omega (arith, n, m .long)),
       rw (plane-text (s .pre .0 .planned) _ (m .plane)) (room-next (lines s) (room-two s) (c .before .before .before .before .put-size .ensures)),
     )
@@ -83,7 +84,7 @@ put-way-requires c κs =
 put-guided-requires : tie.Need-put-guided-requires
 put-guided-requires c κs =
     let s = c .before .before .before .before .before .before .before .before .before .before .before .before .before .before .before .before .before .before .before .before in
-    (s .pre .0, room-next (guidedText (s .args .z .kind) (shiftCount (s .args .input .now))) (room-all s) (joint-line (c .before .before .before .before)))
+    (s .pre .0, room-next (guidedText (s .args .plan .kind) (shiftCount (s .args .input .now))) (room-all s) (joint-line (c .before .before .before .before)))
 
 same-length : tie.Need-same-length
 same-length c = search needs

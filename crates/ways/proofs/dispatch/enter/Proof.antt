@@ -1,23 +1,23 @@
 -- `ways::dispatch::enter` meets its contract: each way's own promise is the common one. Assumes nothing.
 use borrow.Author.Needs.{needs}
-use Rattle.ways.proofs.WayLaws.{guided-columns, guided-chain, fit-joint, fit-columns, fit-chain, columns-visited, chain-visited, lift-joint}
+use Rattle.ways.proofs.WayLaws.{guided-columns, guided-chain, fit-joint, fit-columns, fit-chain, joint-visited, columns-visited, chain-visited}
 use Rattle.ways.proofs.dispatch.enter.Statement.{statement}
 use Rattle.ways.proofs.dispatch.enter.Tie as tie
 
 enum-told : tie.Need-enum-told
 enum-told c = search needs
 
-joint-enter-requires : tie.Need-joint-enter-requires
-joint-enter-requires c κs =
+enter-requires : tie.Need-enter-requires
+enter-requires c κs =
     let at = c .before .before .before .before .before .before .before .before .before .before .before in
     let e = c .before .before .before .before .enum-told .given .1 in
-    ((at .pre .0 .0, at .pre .0 .1), (at .pre .1 .0, (fit-joint _ (at .pre .0 .0) _ _ _ (at .pre .1 .1 .0) e, at .pre .1 .1 .1 .1)))
+    ((fit-joint _ (at .pre .0 .0) _ _ _ (at .pre .1 .1 .0) _ _ e (at .pre .1 .0), at .pre .1 .1 .1 .1), at .pre .0 .1)
 
 enum-told-2 : tie.Need-enum-told-2
 enum-told-2 c = search needs
 
-enter-requires : tie.Need-enter-requires
-enter-requires c κs =
+enter-requires-2 : tie.Need-enter-requires-2
+enter-requires-2 c κs =
     let at = c .before .before .before .before .before .before .before .before in
     let e = c .before .enum-told2 .given .1 in
     ((at .pre .0 .0, guided-columns _ (at .args .plan) (at .pre .0 .2) e), (at .pre .1 .0, fit-columns _ (at .pre .0 .0) _ _ _ (at .pre .1 .1 .0) e))
@@ -25,8 +25,8 @@ enter-requires c κs =
 enum-told-3 : tie.Need-enum-told-3
 enum-told-3 c = search needs
 
-enter-requires-2 : tie.Need-enter-requires-2
-enter-requires-2 c κs =
+enter-requires-3 : tie.Need-enter-requires-3
+enter-requires-3 c κs =
     let at = c .before .before .before .before .before .before .before .before in
     let e = c .before .enum-told3 .given .1 in
     ((at .pre .0 .0, guided-chain _ (at .args .plan) (at .pre .0 .2) e), (at .pre .1 .0, fit-chain _ (at .pre .0 .0) _ _ _ (at .pre .1 .1 .0) e))
@@ -38,7 +38,9 @@ same-length-2 : tie.Need-same-length-2
 same-length-2 c = search needs
 
 returns : tie.Need-returns
-returns c = lift-joint _ _ _ _ _ _ _ _ _ _ _ (c .before .before .before .before .before .before .before .before .before .enum-told .given .1) (c .before .before .before .before .joint-enter .ensures)
+returns c =
+    let at = c .before .before .before .before .before .before .before .before .before .before .before .before .before .before .before .before in
+    joint-visited _ (at .pre .0 .0) _ _ _ (at .pre .1 .1 .0) _ _ _ _ _ _ (c .before .before .before .before .before .before .before .before .before .enum-told .given .1) (c .before .before .before .before .enter .ensures)
 
 same-length-3 : tie.Need-same-length-3
 same-length-3 c = search needs
@@ -47,7 +49,7 @@ returns-2 : tie.Need-returns-2
 returns-2 c =
     let at = c .before .before .before .before .before .before .before .before .before .before .before in
     let e = c .before .before .before .before .enum-told2 .given .1 in
-    columns-visited _ (at .pre .0 .0) _ _ _ (at .pre .1 .1 .0) _ _ _ _ _ e (c .before .before .enter .ensures) (at .pre .1 .1 .1 .0)
+    columns-visited _ (at .pre .0 .0) _ _ _ (at .pre .1 .1 .0) _ _ _ _ _ e (c .before .before .enter2 .ensures) (at .pre .1 .1 .1 .0)
 
 same-length-4 : tie.Need-same-length-4
 same-length-4 c = search needs
@@ -56,18 +58,18 @@ returns-3 : tie.Need-returns-3
 returns-3 c =
     let at = c .before .before .before .before .before .before .before .before .before .before .before in
     let e = c .before .before .before .before .enum-told3 .given .1 in
-    chain-visited _ (at .pre .0 .0) _ _ _ (at .pre .1 .1 .0) _ _ _ _ _ e (c .before .before .enter2 .ensures) (at .pre .1 .1 .1 .0)
+    chain-visited _ (at .pre .0 .0) _ _ _ (at .pre .1 .1 .0) _ _ _ _ _ e (c .before .before .enter3 .ensures) (at .pre .1 .1 .1 .0)
 
 pub enter-spec : {M : Type 1} → statement M
 enter-spec =
     tie.close
     (tie.spec
     enum-told
-    joint-enter-requires
-    enum-told-2
     enter-requires
-    enum-told-3
+    enum-told-2
     enter-requires-2
+    enum-told-3
+    enter-requires-3
     same-length
     same-length-2
     returns

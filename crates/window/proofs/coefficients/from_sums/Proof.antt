@@ -14,7 +14,7 @@ env c =
     unsignedCell w64 (c .args .a .count) 961 (c .pre .0 .count) tt
     ∷ unsignedCell w64 (c .args .a .sum) 245055 (c .pre .0 .sum) tt
     ∷ unsignedCell w64 (c .args .a .squares) 62489025 (c .pre .0 .squares) tt
-    ∷ unsignedCell w64 (c .args .z .smoothing) 65025 (c .pre .1 .0) tt
+    ∷ unsignedCell w64 (c .args .plan .smoothing) 65025 (c .pre .1 .0) tt
     ∷ unsignedCell w64 (c .args .centre .0) 255 (c .pre .1 .1) tt
     ∷ []
 

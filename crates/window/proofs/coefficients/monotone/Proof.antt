@@ -4,7 +4,7 @@ use mathlib.Core.Path.{refl, sym, ap, ap₂}
 use mathlib.Core.Bool.{Bool, _&&_}
 use mathlib.Core.List.{List, [], _∷_}
 use native.Mathlib.Omega.{arith}
-use lib.IntN.{ℤ, pos, _+ℤ_, _*ℤ_}
+use lib.IntN.{pos, _+ℤ_, _*ℤ_}
 use lib.Signed.{nonNeg}
 use mir.Syntax.{w64}
 use Rattle.ints.specs.Machine.{Cell, paramCell, unsignedCell, computes, lt-true, lt-false}
@@ -16,14 +16,14 @@ use borrow.Author.Needs.{needs}
 use Rattle.window.proofs.coefficients.monotone.Statement.{statement}
 use Rattle.window.proofs.coefficients.monotone.Tie as tie
 
-guides-low : (c : tie.Start) → c .args .z .guides - 1 ≤ 255
+guides-low : (c : tie.Start) → c .args .plan .guides - 1 ≤ 255
 guides-low c = omega (arith, c .pre .0)
 
 abbrev env : tie.Start → List Cell
 env c =
     paramCell w64 (c .args .k .slope) 235497855 (c .pre .1 .slope) tt
     ∷ paramCell w64 (c .args .k .offset) 180155859075 (c .pre .1 .offset) tt
-    ∷ unsignedCell w64 (c .args .z .guides - 1) 255 (guides-low c) tt
+    ∷ unsignedCell w64 (c .args .plan .guides - 1) 255 (guides-low c) tt
     ∷ []
 
 sub-high : tie.Need-sub-high
@@ -40,7 +40,7 @@ add-high c = need! w64 (env (c .before .before .before .before .before .before))
 
 returns : tie.Need-returns
 unfolding endsNotNegative
-returns c = let st = c .before .before .before .before .before .before .before in let k = st .args .k in sym (ap (λ (b : Bool). b && nonNeg (k .slope *ℤ pos (st .args .z .guides - 1) +ℤ k .offset)) (is-neg (k .offset) (lt-true (computes w64 (env st) x₁ tt) refl (c .if1 .taken))))
+returns c = let st = c .before .before .before .before .before .before .before in let k = st .args .k in sym (ap (λ (b : Bool). b && nonNeg (k .slope *ℤ pos (st .args .plan .guides - 1) +ℤ k .offset)) (is-neg (k .offset) (lt-true (computes w64 (env st) x₁ tt) refl (c .if1 .taken))))
 
 returns-2 : tie.Need-returns-2
 unfolding endsNotNegative

@@ -1,0 +1,57 @@
+// Check 7: every value, guide and weight of a file below its limit.
+use big_endian::be16;
+use spec::Plan;
+use spec::Refusal;
+use spec::Verdict;
+use spec::stops;
+ghost use mathlib.Core.Path.{_≡_};
+ghost use Prim.Native.Nat.{_+_, _*_, _≤_};
+ghost use lib.ListN.{length};
+ghost use mathlib.Core.List.{[], _∷_};
+ghost use Rattle.spec.specs.Refusal.{refused, numbered};
+ghost use Rattle.spec.specs.Checks.{scanFile, contents};
+ghost use Rattle.frame_contents.specs.Parts.{PartsInFile};
+
+// The largest weight.
+pub const HEAVIEST: u16 = 256;
+
+// A number that is too large, by the offset of its high byte.
+pub fn too_large(at: usize) -> Verdict
+    ensures { λ r. ⌜ numbered r ≡ refused 7 (at ∷ []) ⌝ }
+{
+    Verdict::Refused(Refusal::Contents(at))
+}
+
+// Check 7 of n numbers from an offset on.
+fn scan(file: &[u8], offset: usize, n: usize, limit: usize) -> Verdict
+    requires { ⌜ offset + 2 * n ≤ length (now file) ⌝ }
+    ensures { λ r. ⌜ numbered r ≡ scanFile (now (file .entry)) offset n limit ⌝ }
+{
+    let mut k = 0;
+    while k < n {
+        let at = offset + 2 * k;
+        if limit <= be16(file, at) as usize {
+            return too_large(at);
+        }
+        k += 1;
+    }
+    Verdict::Accepted
+}
+
+// Check 7: value plane, guide plane, table.
+pub fn contents(file: &[u8], plan: Plan) -> Verdict
+    requires { ⌜ PartsInFile (now file) plan ⌝ }
+    ensures { λ r. ⌜ numbered r ≡ contents (now (file .entry)) plan ⌝ }
+{
+    let n = plan.width * plan.height;
+    let heavy = HEAVIEST as usize + 1;
+    let v = scan(file, plan.value, n, plan.levels);
+    if stops(v) {
+        return v;
+    }
+    let g = scan(file, plan.guide, n, plan.guides);
+    if stops(g) {
+        return g;
+    }
+    scan(file, plan.table, plan.weights, heavy)
+}
