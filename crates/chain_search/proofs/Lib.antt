@@ -1,2 +1,1 @@
 pub mod ClimbLaws
-pub mod VisitLaws

@@ -1,3 +1,2 @@
-// Way 3's answer: the median of a window from its linked list, and what a walk does at each window it comes to.
+// Way 3's search: the median of a window from its linked list.
 pub mod climb;
-pub mod visit;

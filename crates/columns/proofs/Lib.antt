@@ -3,4 +3,3 @@ pub mod ContentLaws
 pub mod StoreLaws
 pub mod SideLaws
 pub mod MoveLaws
-pub mod VisitLaws

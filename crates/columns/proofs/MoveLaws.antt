@@ -16,10 +16,10 @@ use Rattle.spec.proofs.Plans.{facts}
 use Rattle.window.specs.Line.{Adjacent, right, left, down, up}
 use Rattle.window.proofs.PixelLaws.{plan-limits, levels-high}
 use Rattle.columns.specs.declared.store.Exchange.{Exchange}
-use Rattle.columns.specs.Blocks.{when, Put, Able, Swap, Ready, block, cellOf, pairD, rowD, storeSize, exchangeOf, Neighbours, enterD, leaveD}
+use Rattle.columns.specs.Blocks.{when, Put, Able, Swap, pairD, rowD, storeSize, exchangeOf, Neighbours, enterD, leaveD, InWidth, SideReady}
 use Rattle.columns.proofs.ContentLaws.{holds-long}
 use Rattle.columns.proofs.StoreLaws.{exchange-small, entering-low, leaving-low, enter-able, leave-able, rows-moved}
-use Rattle.columns.proofs.SideLaws.{blocks-in, ready-counts, ready-guides, ready-second, across-done, across-holds}
+use Rattle.columns.proofs.SideLaws.{ready-counts, ready-guides, across-holds}
 
 -- ---- which way a move goes
 pub across-is : {z : Plan} {s t s′ t′ : ℕ} → Adjacent z s t s′ t′ → (s ≡ s′ → ⊥) → Neighbours s s′ (z .width) × (t′ ≡ t) × (t < z .height)
@@ -76,47 +76,17 @@ module _ {b : List ℕ} {z : Plan} (pl : Planned b z) where
       sides : Neighbours s s′ (frameOf b .set .width)
       sides = rw (facts pl .width) at k
 
-      low-in : d .enters ≡ true → d .entering < z .width
-      low-in = rw ed (entering-low (z .radius) k)
+      pub sides-in : InWidth (z .width) d
+      sides-in =
+          let small = exchange-small (z .radius) k (plan-limits pl .radius) (plan-limits pl .width) in
+          rw ed (record { entering = entering-low (z .radius) k; leaving = leaving-low (z .radius) k; entering-small = small .0; leaving-small = small .1 })
 
-      low-out : d .leaves ≡ true → d .leaving < z .width
-      low-out = rw ed (leaving-low (z .radius) k)
-
-      small : (d .entering ≤ 2048) × (d .leaving ≤ 2048)
-      small = rw ed (exchange-small (z .radius) k (plan-limits pl .radius) (plan-limits pl .width))
-
-      pub ready : Ready (z .levels) (2 * z .width) (cellOf (d .enters) (z .levels) (d .entering) xs) (cellOf (d .leaves) (z .levels) (d .leaving) xs) xs
-          × Ready (z .levels) (2 * z .width + 1) (cellOf (d .enters) (z .levels) (z .width + d .entering) xs) (cellOf (d .leaves) (z .levels) (z .width + d .leaving) xs) xs
-      ready =
+      pub sides-ready : SideReady (z .width) (z .levels) d xs
+      sides-ready =
           let f = facts pl in
-          rw (ed, f .radius, f .width, f .levels) (ready-counts (f .limits) t sides xs e, ready-guides (f .limits) t sides xs e)
+          rw (ed, f .radius, f .width, f .levels) (record { counts = ready-counts (f .limits) t sides xs e; guides = ready-guides (f .limits) t sides xs e })
 
-      -- what the two passes ask of their places
-      pub first-places : ((z .levels ≤ 1024) × (2 * z .width ≤ 4096) × (d .entering ≤ 4096) × (d .leaving ≤ 4096) × (2 * z .width * z .levels + z .levels ≤ length xs))
-          × ((d .enters ≡ true → d .entering < 2 * z .width) × (d .leaves ≡ true → d .leaving < 2 * z .width))
-      first-places = (
-        (levels-high pl, omega (arith, plan-limits pl .width), omega (arith, small), omega (arith, small), blocks-in (z .width) (z .levels) _ held-long .0),
-        ((λ o. omega (arith, low-in o)), λ o. omega (arith, low-out o)),
-      )
-
-      pub second-places : (ys : List ℕ) → length ys ≡ length xs
-          → ((z .levels ≤ 1024) × (2 * z .width + 1 ≤ 4096) × (z .width + d .entering ≤ 4096) × (z .width + d .leaving ≤ 4096) × ((2 * z .width + 1) * z .levels + z .levels ≤ length ys))
-          × ((d .enters ≡ true → z .width + d .entering < 2 * z .width + 1) × (d .leaves ≡ true → z .width + d .leaving < 2 * z .width + 1))
-      second-places ys l = (
-        (levels-high pl, omega (arith, plan-limits pl .width), omega (arith, small, plan-limits pl .width), omega (arith, small, plan-limits pl .width), rw l (blocks-in (z .width) (z .levels) _ held-long .1)),
-        ((λ o. omega (arith, low-in o)), λ o. omega (arith, low-out o)),
-      )
-
-      pub counts-done : (ys : List ℕ) → Swap (z .levels) (block (2 * z .width) (cellOf (d .enters) (z .levels) (d .entering) xs)) (block (2 * z .width) (cellOf (d .leaves) (z .levels) (d .leaving) xs)) xs ys
-          → Ready (z .levels) (2 * z .width + 1) (cellOf (d .enters) (z .levels) (z .width + d .entering) ys) (cellOf (d .leaves) (z .levels) (z .width + d .leaving) ys) ys
-      counts-done ys q = ready-second (z .width) (z .levels) xs ys _ _ q (d .enters) (d .leaves) (d .entering) (d .leaving) low-in low-out (ready .1)
-
-      pub sideways-done : (ys zs : List ℕ)
-          → Swap (z .levels) (block (2 * z .width) (cellOf (d .enters) (z .levels) (d .entering) xs)) (block (2 * z .width) (cellOf (d .leaves) (z .levels) (d .leaving) xs)) xs ys
-          → Swap (z .levels) (block (2 * z .width + 1) (cellOf (d .enters) (z .levels) (z .width + d .entering) ys)) (block (2 * z .width + 1) (cellOf (d .leaves) (z .levels) (z .width + d .leaving) ys)) ys zs
-          → zs ≡ columnStore (frameOf b) s′ t ++ drop (storeSize (frameOf b)) xs
-      sideways-done ys zs q u =
-          let f = facts pl in
-          let v : Swap (z .levels) (pairD (z .width) (d .enters) (z .levels) (d .entering) xs) (pairD (z .width) (d .leaves) (z .levels) (d .leaving) xs) xs zs =
-          across-done (z .width) (z .levels) (d .enters) (d .leaves) (d .entering) (d .leaving) low-in low-out q u in
-          across-holds (f .limits) t sides xs e zs (rw (ed, f .radius, f .width, f .levels) at v)
+      pub sideways-done : (ys : List ℕ)
+          → Swap (z .levels) (pairD (z .width) (d .enters) (z .levels) (d .entering) xs) (pairD (z .width) (d .leaves) (z .levels) (d .leaving) xs) xs ys
+          → ys ≡ columnStore (frameOf b) s′ t ++ drop (storeSize (frameOf b)) xs
+      sideways-done ys v = let f = facts pl in across-holds (f .limits) t sides xs e ys (rw (ed, f .radius, f .width, f .levels) at v)

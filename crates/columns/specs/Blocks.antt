@@ -103,3 +103,15 @@ cellOf on l m xs i = when on (getD xs (m * l + i) 0)
 -- column x in the window's two blocks, if there is one
 unfoldable pub pairD : ℕ → Bool → ℕ → ℕ → List ℕ → ℕ → ℕ → ℕ
 pairD w on l x xs m i = block (2 * w) (cellOf on l x xs) m i + block (2 * w + 1) (cellOf on l (w + x) xs) m i
+
+-- the columns that enter and leave are in the picture where they count, and small numbers in any case
+pub record InWidth (w : ℕ) (d : Exchange) : Type 0 where
+  pub entering : d .enters ≡ true → d .entering < w
+  pub leaving : d .leaves ≡ true → d .leaving < w
+  pub entering-small : d .entering ≤ 2048
+  pub leaving-small : d .leaving ≤ 2048
+
+-- the window's two blocks have room for the column that enters, and then enough to lose the one that leaves
+pub record SideReady (w l : ℕ) (d : Exchange) (xs : List ℕ) : Type 0 where
+  pub counts : Ready l (2 * w) (cellOf (d .enters) l (d .entering) xs) (cellOf (d .leaves) l (d .leaving) xs) xs
+  pub guides : Ready l (2 * w + 1) (cellOf (d .enters) l (w + d .entering) xs) (cellOf (d .leaves) l (w + d .leaving) xs) xs

@@ -1,3 +1,2 @@
-// Way 2: column counts, for kind 2 (source 000's constant-time method).
+// Way 2's store: column counts, for kind 2 (source 000's constant-time method).
 pub mod store;
-pub mod visit;

@@ -12,8 +12,8 @@ ghost use Rattle.spec.specs.Checks.{Planned};
 ghost use Rattle.spec.specs.Columns.{columnStore};
 ghost use Rattle.spec.specs.Frame.{frameOf};
 ghost use Rattle.window.specs.Line.{Adjacent};
-ghost use Rattle.columns.specs.Blocks.{when, Put, Able, Cleared, Swap, Ready, Neighbours};
-ghost use Rattle.columns.specs.Blocks.{block, cellOf, pixelD, stripD, rowD, exchangeOf, storeSize};
+ghost use Rattle.columns.specs.Blocks.{when, Put, Able, Cleared, Swap, Ready, Neighbours, InWidth, SideReady};
+ghost use Rattle.columns.specs.Blocks.{block, cellOf, pixelD, stripD, rowD, pairD, exchangeOf, storeSize};
 
 // Which column or row enters and which one leaves as the centre moves by one, and whether it is in the picture.
 pub struct Exchange {
@@ -234,18 +234,13 @@ pub fn update_block(
     }
 }
 
-// From column s to the neighbour s2: the window gains a column and loses one; the columns stay. No pixel is read: file and t say which window's store
-// it is.
-pub fn sideways(file: &[u8], z: Plan, numbers: &mut [u32], s: usize, s2: usize, t: usize)
-    requires { ⌜ Planned (now file) z ⌝ }
-    requires { ⌜ (t < z .height) × Neighbours s s2 (z .width) ⌝ }
-    requires { ⌜ now numbers ≡ columnStore (frameOf (now file)) s t ++ drop (storeSize (frameOf (now file))) (now numbers) ⌝ }
-    ensures { λ _. ⌜ now (numbers .exit) ≡ columnStore (frameOf (now (file .entry))) s2 t
-        ++ drop (storeSize (frameOf (now (file .entry)))) (now (numbers .entry)) ⌝ }
+// The window's two blocks gain the column that enters and lose the one that leaves; the columns stay. No pixel is read.
+pub fn sideways(numbers: &mut [u32], w: usize, l: usize, d: Exchange)
+    requires { ⌜ (w ≤ 1024) × (l ≤ 1024) × (2 * (w * l) + 2 * l ≤ length (now numbers)) × (InWidth w d) ⌝ }
+    requires { ⌜ SideReady w l d (now numbers) ⌝ }
+    ensures { λ _. ⌜ Swap l (pairD w (d .enters) l (d .entering) (now (numbers .entry))) (pairD w (d .leaves) l (d .leaving) (now (numbers .entry)))
+        (now (numbers .entry)) (now (numbers .exit)) ⌝ }
 {
-    let w = z.width;
-    let l = z.levels;
-    let d = exchange_of(s, s2, z.radius, w);
     update_block(numbers, l, 2 * w, d.entering, d.enters, d.leaving, d.leaves);
     update_block(
         numbers,
@@ -270,5 +265,6 @@ pub fn slide(file: &[u8], z: Plan, numbers: &mut [u32], s: usize, t: usize, s2: 
         vertical(file, z, numbers, s, t, t2);
         return;
     }
-    sideways(file, z, numbers, s, s2, t);
+    let d = exchange_of(s, s2, z.radius, z.width);
+    sideways(numbers, z.width, z.levels, d);
 }

@@ -29,7 +29,7 @@ use Rattle.ways.specs.Visit.{Stores, lent, Fit, Serves}
 use Rattle.ice_walk.specs.Finished.{Finished}
 use Rattle.ice.specs.Result.{Zeroed}
 use Rattle.ice.specs.Contract.{Untouched, Ended, Walks, Filters, Balances}
-use Rattle.ways.proofs.EachLaws.{settings-same}
+use Rattle.ways.proofs.WayLaws.{settings-same}
 use Rattle.ice.proofs.OutcomeLaws.{set-of, stopped, fires-not, quiet}
 
 -- an opened file that no check refuses has its plan

@@ -18,7 +18,7 @@ use Rattle.spec.specs.Frame.{settingsOf, frameOf, settingsIn}
 use Rattle.spec.specs.Checks.{verdict, Planned, SettingsLimits}
 use Rattle.spec.proofs.Limits.{FrameLimits}
 use Rattle.spec.proofs.Plans.{Facts, facts}
-use Rattle.ways.proofs.EachLaws.{settings-same}
+use Rattle.ways.proofs.WayLaws.{settings-same}
 
 -- ---- the plan's settings are the file's
 pub set-of : (b : List ℕ) → frameOf b .set ≡ settingsOf b

@@ -25,10 +25,11 @@ use Rattle.spec.proofs.Limits.{FrameLimits}
 use Rattle.spec.proofs.Plans.{Facts, facts}
 use Rattle.spec.proofs.Walks.{Held}
 use Rattle.spec.proofs.Serpentine.{At, at-arrive, at-turn, columnAfter, visited, visited-is, visited-div, visited-mod, visited-twice, visited-low, serpentine-length, serpentine-byte, serpentine-begins}
-use Rattle.ways.specs.declared.Visit.{Visit}
-use Rattle.ways.specs.Visit.{Stores, KeptBeyond, Kept, stateOf, AtWindow, Visited}
+use Rattle.visit.specs.declared.Visit.{Visit}
+use Rattle.visit.specs.Visit.{stateOf}
+use Rattle.ways.specs.Visit.{Stores, KeptBeyond, Kept, AtWindow, Visited}
 use Rattle.ice_walk.proofs.WalkLoop.{held-first}
-use Rattle.ways.proofs.EachLaws.{beyond-same}
+use Rattle.ways.proofs.WayLaws.{beyond-same}
 use Rattle.ice_walk.proofs.Laws.{beyond-trans, beyond-set, Going, going-start, going-more, going-end}
 
 -- ---- the plane, pixel by pixel, when i moves are done

@@ -24,9 +24,10 @@ use Rattle.spec.proofs.Steps.{after-one}
 use Rattle.spec.proofs.Walks.{Held, held-step, step-to, step-nowhere}
 use Rattle.histogram.specs.Histogram.{Blank}
 use Rattle.window.specs.Line.{Adjacent, right, left, down, up}
-use Rattle.ways.specs.declared.Visit.{Visit}
-use Rattle.ways.specs.Visit.{Stores, Fit, KeptBeyond, Kept, stateOf, Within, AtWindow, Visited}
-use Rattle.ways.proofs.EachLaws.{settings-same, beyond-same}
+use Rattle.visit.specs.declared.Visit.{Visit}
+use Rattle.visit.specs.Visit.{stateOf, Within}
+use Rattle.ways.specs.Visit.{Stores, Fit, KeptBeyond, Kept, AtWindow, Visited}
+use Rattle.ways.proofs.WayLaws.{settings-same, beyond-same}
 
 -- ---- the plan's settings are within document 01's limits
 pub settings-limits-in : {b : List ℕ} {z : Plan} → Planned b z → SettingsLimits (settingsIn z)

@@ -17,10 +17,11 @@ use Rattle.spec.specs.Walk.{State, answerNumber, arrive, start, step, answers, 
 use Rattle.spec.proofs.Plans.{pixel-of}
 use Rattle.spec.proofs.Steps.{length-answers}
 use Rattle.spec.proofs.Walks.{Held, held-start}
-use Rattle.ways.specs.declared.Visit.{Visit}
+use Rattle.visit.specs.declared.Visit.{Visit}
 use Rattle.ice_walk.specs.declared.Walked.{Walked}
 use Rattle.spec.specs.declared.Verdict.the-variants.{Accepted}
-use Rattle.ways.specs.Visit.{Stores, Kept, Holds, stateOf, AtWindow, Visited}
+use Rattle.visit.specs.Visit.{stateOf}
+use Rattle.ways.specs.Visit.{Stores, Kept, Holds, AtWindow, Visited}
 use Rattle.ice_walk.specs.Finished.{Finished}
 use Rattle.ice_walk.proofs.Laws.{Going, going-start, going-more, going-end, answers-one, told-more}
 

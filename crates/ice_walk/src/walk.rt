@@ -8,7 +8,7 @@ use spec::Plan;
 use spec::Verdict;
 use spec::Way;
 use spec::answer_number;
-use ways::Visit;
+use visit::Visit;
 use ways::dispatch;
 ghost use mathlib.Core.Path.{_≡_};
 ghost use mathlib.Core.List.{_++_};
@@ -18,7 +18,8 @@ ghost use Rattle.spec.specs.Frame.{frameOf, settingsIn};
 ghost use Rattle.spec.specs.Checks.{Planned};
 ghost use Rattle.spec.specs.Walk as definitions;
 ghost use Rattle.joint_rows.specs.Rows.{WeightRows};
-ghost use Rattle.ways.specs.Visit.{stateOf, stores, Fit, Serves, Within, AtWindow, Visited};
+ghost use Rattle.visit.specs.Visit.{stateOf, Within};
+ghost use Rattle.ways.specs.Visit.{stores, Fit, Serves, AtWindow, Visited};
 ghost use Rattle.ice_walk.specs.Finished.{Finished};
 
 // One byte of the list: the window that it leads to, or the mark.
@@ -62,14 +63,14 @@ pub fn step(
         ),
         Move::Nowhere(mark) => {
             let cut = visit.cut;
-            let carry = visit.carry;
+            let running = visit.running;
             Visit {
                 column: visit.column,
                 row: visit.row,
                 cut,
                 shifts: visit.shifts,
                 answer: Answer::Mark(mark),
-                carry,
+                running,
             }
         }
     }

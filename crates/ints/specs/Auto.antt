@@ -76,9 +76,25 @@ quote₈ a b c d e f g h i ρ = record { expr = var 8; is = refl }
 abbrev pub quote₉ : (a b c d e f g h i j : ℤ) (ρ : List ℤ) → Quoted (a ∷ b ∷ c ∷ d ∷ e ∷ f ∷ g ∷ h ∷ i ∷ j ∷ ρ) j
 quote₉ a b c d e f g h i j ρ = record { expr = var 9; is = refl }
 
-pub ruleset quote =
-    (quote₀, quote₁, quote₂, quote₃, quote₄, quote₅, quote₆, quote₇, quote₈, quote₉, quote-mul, quote-sub, quote-add, quote-opp, quote-lit,
-    quote-neg-lit, tt)
+pub ruleset quote = (
+  quote₀,
+  quote₁,
+  quote₂,
+  quote₃,
+  quote₄,
+  quote₅,
+  quote₆,
+  quote₇,
+  quote₈,
+  quote₉,
+  quote-mul,
+  quote-sub,
+  quote-add,
+  quote-opp,
+  quote-lit,
+  quote-neg-lit,
+  tt,
+)
 
 -- the two sides have one normal form
 pub ring! : (ρ : List ℤ) {x y : ℤ} (p : Quoted ρ x) (q : Quoted ρ y) → normalize (p .expr) ≡ normalize (q .expr) → x ≡ y
@@ -157,9 +173,27 @@ has-lit w xs n t = record { expr = lit (pos n); is = refl }
 abbrev pub has-neg-lit : (w : Width) (xs : List Cell) (n : ℕ) → T (leb n n) → Computed (signedOps w) xs (negsuc n)
 has-neg-lit w xs n t = record { expr = lit (negsuc n); is = refl }
 
-pub ruleset signedCode =
-    (has₀, has₁, has₂, has₃, has₄, has₅, has₆, has₇, has₈, has₉, has-mul, has-sub, has-add, before-mul, before-sub, before-add, has-lit, has-neg-lit,
-    tt)
+pub ruleset signedCode = (
+  has₀,
+  has₁,
+  has₂,
+  has₃,
+  has₄,
+  has₅,
+  has₆,
+  has₇,
+  has₈,
+  has₉,
+  has-mul,
+  has-sub,
+  has-add,
+  before-mul,
+  before-sub,
+  before-add,
+  has-lit,
+  has-neg-lit,
+  tt,
+)
 
 -- a need `add-..`, `sub-..`, `mul-..`
 pub need! : (w : Width) {x : ℤ} (xs : List Cell) (p : BeforeStore w xs x) → T (allBelow (2 ^ hbits w) (bounds xs) (p .expr)) → SFits w x

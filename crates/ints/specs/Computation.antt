@@ -108,13 +108,13 @@ module _ {A : Type 0} {Means : A → ℤ → Type 0} {O : Operations A} {M : ℕ
   computed-means (a ⊕ b) t =
       let s = operands M (bounds xs) a b (boundOf (bounds xs) a + boundOf (bounds xs) b) t in
       E .plus-means (computed O xs a) (computed O xs b) (eval (values xs) a) (eval (values xs) b) (computed-means a (s .0))
-          (computed-means b (s .1 .0)) (eval-below a (s .0)) (eval-below b (s .1 .0)) (eval-below (a ⊕ b) t)
+      (computed-means b (s .1 .0)) (eval-below a (s .0)) (eval-below b (s .1 .0)) (eval-below (a ⊕ b) t)
   computed-means (a ⊖ b) t =
       let s = operands M (bounds xs) a b (boundOf (bounds xs) a + boundOf (bounds xs) b) t in
       E .minus-means (computed O xs a) (computed O xs b) (eval (values xs) a) (eval (values xs) b) (computed-means a (s .0))
-          (computed-means b (s .1 .0)) (eval-below a (s .0)) (eval-below b (s .1 .0)) (eval-below (a ⊖ b) t)
+      (computed-means b (s .1 .0)) (eval-below a (s .0)) (eval-below b (s .1 .0)) (eval-below (a ⊖ b) t)
   computed-means (a ⊗ b) t =
       let s = operands M (bounds xs) a b (boundOf (bounds xs) a * boundOf (bounds xs) b) t in
       E .times-means (computed O xs a) (computed O xs b) (eval (values xs) a) (eval (values xs) b) (computed-means a (s .0))
-          (computed-means b (s .1 .0)) (eval-below a (s .0)) (eval-below b (s .1 .0)) (eval-below (a ⊗ b) t)
+      (computed-means b (s .1 .0)) (eval-below a (s .0)) (eval-below b (s .1 .0)) (eval-below (a ⊗ b) t)
   computed-means (opposite a) t = E .negate-means (computed O xs a) (eval (values xs) a) (computed-means a t) (eval-below (opposite a) t)

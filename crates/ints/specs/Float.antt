@@ -13,8 +13,34 @@ use lib.Dec.{T, ltb, leb, ltb→lt, nltb→le, lt→ltb, le→leb, leb→le, leb
 use lib.IntN.{ℤ, pos, negsuc, negℤ, natAbs, _+ℤ_, _-ℤ_, _*ℤ_, negℤ-negℤ}
 use lib.Signed.{ltZ, mag}
 use lib.Ieee
-use lib.Ieee.{Float, nan, inf, fin, Format, binary64, prec, emax, low, nearest, odd, units, up, down, round, sum, add, sub, mul, neg, unlike, below,
-    ofInt, inFloat, inSigned, toSigned}
+use lib.Ieee.{
+  Float,
+  nan,
+  inf,
+  fin,
+  Format,
+  binary64,
+  prec,
+  emax,
+  low,
+  nearest,
+  odd,
+  units,
+  up,
+  down,
+  round,
+  sum,
+  add,
+  sub,
+  mul,
+  neg,
+  unlike,
+  below,
+  ofInt,
+  inFloat,
+  inSigned,
+  toSigned,
+}
 use lib.Ieee.Exact.{HasValue}
 use lib.Ieee.Back.{round-whole, positive-back, negative-back}
 use lib.Ieee.Fits.{down-pos}
@@ -120,13 +146,25 @@ sum-rep f false true a b c d = go (ltb (a * c) (b * c)) (ltb→lt (a * c) (b * c
     go : (u : Bool) → (T u → a * c < b * c) → (T (not u) → b * c ≤ a * c) →
         Rep₀ f (cond u (round f true (b * c - a * c) c) (round f false (a * c - b * c) c)) (pos a +ℤ negℤ (pos b)) false
     go true h g = (
-      record { sign = true; size = b - a; is = whole-same f true (b * c - a * c) c (b - a) d (sub-mul a b c); value =
-          neg-of-sub a b (cancel-< a b c d (h tt)) },
+      record {
+        sign = true;
+        size = b - a;
+        is = whole-same f true (b * c - a * c) c (b - a) d (sub-mul a b c);
+        value =
+            neg-of-sub a b (cancel-< a b c d (h tt));
+      },
       λ e. absurd (not-zero a b (cancel-< a b c d (h tt)) e),
     )
-    go false h g =
-        (record { sign = false; size = a - b; is = whole-same f false (a * c - b * c) c (a - b) d (sub-mul b a c); value =
-        pos-of-sub a b (cancel-≤ b a c d (g tt)) }, λ e. refl)
+    go false h g = (
+      record {
+        sign = false;
+        size = a - b;
+        is = whole-same f false (a * c - b * c) c (a - b) d (sub-mul b a c);
+        value =
+            pos-of-sub a b (cancel-≤ b a c d (g tt));
+      },
+      λ e. refl,
+    )
 sum-rep f true false a b c d =
     go (ltb (a * c) (b * c)) (ltb→lt (a * c) (b * c)) (nltb→le (a * c) (b * c)) (ltb (b * c) (a * c)) (ltb→lt (b * c) (a * c))
     (nltb→le (b * c) (a * c))
@@ -142,17 +180,36 @@ sum-rep f true false a b c d =
 
     go : (u : Bool) → (T u → a * c < b * c) → (T (not u) → b * c ≤ a * c) → (x : Bool) → (T x → b * c < a * c) → (T (not x) → a * c ≤ b * c)
         → Rep₀ f (cond u (round f false (b * c - a * c) c) (round f x (a * c - b * c) c)) (negℤ (pos a) +ℤ pos b) false
-    go true h g x i j =
-        (record { sign = false; size = b - a; is = whole-same f false (b * c - a * c) c (b - a) d (sub-mul a b c); value =
-            flip a b (pos-of-sub b a (cancel-≤ a b c d (NatL.le-of-lt (h tt)))) }, λ e. refl)
+    go true h g x i j = (
+      record {
+        sign = false;
+        size = b - a;
+        is = whole-same f false (b * c - a * c) c (b - a) d (sub-mul a b c);
+        value =
+            flip a b (pos-of-sub b a (cancel-≤ a b c d (NatL.le-of-lt (h tt))));
+      },
+      λ e. refl,
+    )
     go false h g true i j = (
-      record { sign = true; size = a - b; is = whole-same f true (a * c - b * c) c (a - b) d (sub-mul b a c); value =
-          flip a b (neg-of-sub b a (cancel-< b a c d (i tt))) },
+      record {
+        sign = true;
+        size = a - b;
+        is = whole-same f true (a * c - b * c) c (a - b) d (sub-mul b a c);
+        value =
+            flip a b (neg-of-sub b a (cancel-< b a c d (i tt)));
+      },
       λ e. absurd (not-zero b a (cancel-< b a c d (i tt)) e),
     )
-    go false h g false i j =
-        (record { sign = false; size = 0; is = whole-same f false (a * c - b * c) c 0 d (zero-times a b c (j tt)); value =
-            flip a b (none a b (cancel-≤ a b c d (j tt)) (cancel-≤ b a c d (g tt))) }, λ e. refl)
+    go false h g false i j = (
+      record {
+        sign = false;
+        size = 0;
+        is = whole-same f false (a * c - b * c) c 0 d (zero-times a b c (j tt));
+        value =
+            flip a b (none a b (cancel-≤ a b c d (j tt)) (cancel-≤ b a c d (g tt)));
+      },
+      λ e. refl,
+    )
 
 -- the sum of two floats that are worth ±a and ±b
 add-worth : (f : Format) (x y : Float) (s t : Bool) (a b : ℕ) → HasValue x s a 1 → HasValue y t b 1 →
@@ -163,7 +220,7 @@ add-worth f x y s t a b =
     (λ m n e d h k.
     let c = over-both (m * up e) (down e) (n * up d) (down d) a b h k in
     subst₂ (λ (i j : ℕ). Rep₀ f (sum f s i t j (down e * down d)) (withSign s a +ℤ withSign t b) (s && t)) (sym (c .0)) (sym (c .1))
-        (sum-rep f s t a b (down e * down d) (NatL.mul-pos (down-pos e) (down-pos d))))
+    (sum-rep f s t a b (down e * down d) (NatL.mul-pos (down-pos e) (down-pos d))))
     x y
 
 -- the same integer, written otherwise
@@ -245,8 +302,13 @@ withSign-not true n = sym (negℤ-negℤ (pos n))
 
 pub rep-neg : {f : Format} {x : Float} {a : ℤ} → Rep f x a → Rep f (neg x) (negℤ a)
 rep-neg {f} {x} {a} r =
-    record { sign = not (r .sign); size = r .size; is = ap neg (r .is) ∙ neg-round f (r .sign) (r .size) 1; value =
-    withSign-not (r .sign) (r .size) ∙ ap negℤ (r .value) }
+    record {
+      sign = not (r .sign);
+      size = r .size;
+      is = ap neg (r .is) ∙ neg-round f (r .sign) (r .size) 1;
+      value =
+          withSign-not (r .sign) (r .size) ∙ ap negℤ (r .value);
+    }
 
 pub rep-sub : {f : Format} {x y : Float} {a b : ℤ} → Rep f x a → Rep f y b → natAbs a ≤ 2 ^ prec f → natAbs b ≤ 2 ^ prec f →
     Rep f (sub f x y) (a -ℤ b)

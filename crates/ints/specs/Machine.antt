@@ -20,8 +20,20 @@ use mir.Facts.{toZ-ofZ}
 use Rattle.ints.specs.Order.{not-≤}
 use Rattle.ints.specs.Polynomial.{Expr, var, lit, _⊕_, _⊖_, _⊗_, opposite, eval}
 use Rattle.ints.specs.Bound.{boundOf, sfits-below, sfits-abs, sfits-pos}
-use Rattle.ints.specs.Computation.{Variable, Operations, Exact, values, bounds, bounded, heldAt, computed, allBelow, operands, eval-below,
-    computed-means}
+use Rattle.ints.specs.Computation.{
+  Variable,
+  Operations,
+  Exact,
+  values,
+  bounds,
+  bounded,
+  heldAt,
+  computed,
+  allBelow,
+  operands,
+  eval-below,
+  computed-means,
+}
 
 -- written, and read back
 abbrev pub stored : Width → ℤ → ℤ

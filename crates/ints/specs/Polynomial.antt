@@ -161,8 +161,8 @@ module _ (ρ : List ℤ) where
     where
       go : (b : Bool) → (T b → m ≡ n) → (l : Bool) → evalPoly (insertTerm c m p) ≡ c *ℤ evalVars m +ℤ evalPoly p
           →
-              evalPoly (cond b (putTerm (c +ℤ d) n p) (cond l (putTerm c m (term d n p)) (term d n (insertTerm c m p)))) ≡ c *ℤ evalVars m +ℤ
-              (d *ℤ evalVars n +ℤ evalPoly p)
+          evalPoly (cond b (putTerm (c +ℤ d) n p) (cond l (putTerm c m (term d n p)) (term d n (insertTerm c m p)))) ≡ c *ℤ evalVars m +ℤ
+          (d *ℤ evalVars n +ℤ evalPoly p)
       go true e l h =
           putTerm-is (c +ℤ d) n p
           ∙ ap (λ (x : ℤ). x +ℤ evalPoly p) (add-mul c d (evalVars n))

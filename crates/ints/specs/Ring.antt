@@ -2,8 +2,31 @@
 -- differences, is associative, and takes a sign out. By induction on one more and one less. Assumes nothing.
 use mathlib.Core.Path.{_≡_, sym, _∙_, ap, ap₂}
 use Prim.Native.Nat.{zero, suc}
-use lib.IntN.{ℤ, pos, negsuc, sucℤ, predℤ, negℤ, one, _+ℤ_, _-ℤ_, _*ℤ_, +ℤ-idl, +ℤ-idr, +ℤ-assoc, +ℤ-comm, +ℤ-invr, +ℤ-invl, sucℤ-+ℤ, predℤ-+ℤ,
-    sucℤ-*ℤ, predℤ-*ℤ, zero-*ℤ, *ℤ-one, *ℤ-comm}
+use lib.IntN.{
+  ℤ,
+  pos,
+  negsuc,
+  sucℤ,
+  predℤ,
+  negℤ,
+  one,
+  _+ℤ_,
+  _-ℤ_,
+  _*ℤ_,
+  +ℤ-idl,
+  +ℤ-idr,
+  +ℤ-assoc,
+  +ℤ-comm,
+  +ℤ-invr,
+  +ℤ-invl,
+  sucℤ-+ℤ,
+  predℤ-+ℤ,
+  sucℤ-*ℤ,
+  predℤ-*ℤ,
+  zero-*ℤ,
+  *ℤ-one,
+  *ℤ-comm,
+}
 
 -- what holds at 0 and passes to the next and to the previous number holds everywhere
 induction {ℓ} : (P : ℤ → Type ℓ) → P (pos 0) → ((z : ℤ) → P z → P (sucℤ z)) → ((z : ℤ) → P z → P (predℤ z)) → (z : ℤ) → P z

@@ -9,7 +9,7 @@ use lib.IntN.{ℤ}
 use lib.ListN.{length, getD, take, drop, length-drop}
 use lib.Seq.{getD-take, getD-drop, length-take-le}
 use Rattle.spec.specs.declared.Plan.{Plan}
-use Rattle.spec.specs.Frame.{frameOf}
+use Rattle.spec.specs.Frame.{Frame, frameOf}
 use Rattle.spec.specs.Checks.{Planned}
 use Rattle.spec.specs.Median.{median}
 use Rattle.spec.specs.Joint.{balanceBox}
@@ -18,8 +18,8 @@ use Rattle.spec.proofs.Plans.{facts, pixel-of}
 use Rattle.spec.proofs.Totals.{median-low}
 use Rattle.spec.proofs.Climb.{guided-full}
 use Rattle.window.specs.declared.sums.Sums.{Sums}
-use Rattle.levels.specs.declared.search.Found.{Found}
-use Rattle.levels.specs.declared.tally.Tally.{Tally}
+use Rattle.level_search.specs.declared.search.Found.{Found}
+use Rattle.level_search.specs.declared.Tally.{Tally}
 use Rattle.levels.specs.Answer.{Profiled, Answered}
 use Rattle.histogram.specs.Histogram.{Histogram}
 use Rattle.histogram.proofs.Laws.{count-at, sum-at}
@@ -28,7 +28,10 @@ use Rattle.joint.proofs.WindowLaws.{settled}
 use Rattle.joint_search.specs.Search.{boxIn}
 use Rattle.joint_search.specs.Window.{Counted}
 use Rattle.joint_search.proofs.WindowLaws.{box-of}
-use Rattle.joint_visit.specs.Arrive.{countsIn, guideSumsIn, Carried}
+use Rattle.visit.specs.declared.Visit.{Visit}
+use Rattle.visit.specs.Visit.{stateOf}
+use Rattle.visit.proofs.Laws.{at-visit}
+use Rattle.joint_visit.specs.Arrive.{countsIn, guideSumsIn, Carried, JointVisited}
 
 -- ---- a part of a list
 part-long : (xs : List ℕ) (i n : ℕ) → i + n ≤ length xs → length (take n (drop i xs)) ≡ n
@@ -89,3 +92,14 @@ module _ {b : List ℕ} {z : Plan} (pl : Planned b z) where
 
     pub answer-low : f .level .0 < z .levels
     answer-low = omega (arith, h .cut, cut-is, median-low (pixel-of pl hs ht), facts pl .levels)
+
+-- ---- the window is the visit's own
+pub joint-visited : (p : Frame) (s t c n : ℕ) (v : Visit) (xs ws xs′ ws′ : List ℕ) (bx : List ℤ) (ns : List ℕ) → stateOf v ≡ arrive p s t c n
+    → JointAt p s t (v .cut .0) xs ws xs′ ws′ bx → Carried p s t (v .cut .0) (v .running .sums) (v .running .below) ns
+    → JointVisited p (arrive p s t c n) v xs ws xs′ ws′ bx ns
+joint-visited p s t c n v xs ws xs′ ws′ bx ns e j k =
+    record {
+      state = e;
+      joint = at-visit p s t c n (λ x y. JointAt p x y (v .cut .0) xs ws xs′ ws′ bx) v e j;
+      carried = at-visit p s t c n (λ x y. Carried p x y (v .cut .0) (v .running .sums) (v .running .below) ns) v e k;
+    }

@@ -9,16 +9,17 @@ use Rattle.spec.specs.declared.Plan.{Plan}
 use Rattle.spec.specs.Base.{if_then_else_, distance}
 use Rattle.spec.specs.Frame.{Frame}
 use Rattle.spec.specs.Joint.{balanceBox}
-use Rattle.spec.specs.Walk.{arrive}
+use Rattle.spec.specs.Walk.{State, arrive}
 use Rattle.window.specs.declared.sums.Sums.{Sums}
 use Rattle.window.specs.Sums.{SumsAt}
 use Rattle.joint.specs.Window.{JointAt}
 use Rattle.histogram.specs.Histogram.{Histogram}
-use Rattle.levels.specs.declared.tally.Tally.{Tally}
+use Rattle.level_search.specs.declared.Tally.{Tally}
 use Rattle.levels.specs.Tally.{BelowAt}
 use Rattle.joint_search.specs.declared.formula.Formula.{Formula}
 use Rattle.joint_search.specs.Search.{medianIn, weightlessIn}
-use Rattle.joint_visit.specs.declared.visit.Visit.{Visit}
+use Rattle.visit.specs.declared.Visit.{Visit}
+use Rattle.visit.specs.Visit.{stateOf}
 use Rattle.joint_visit.specs.declared.arrive.TableArrival.{TableArrival}
 
 -- ---- kind 1, by the counts of the window
@@ -56,21 +57,18 @@ pub record Arrives (p : Frame) (s t c n : ℕ) (r : TableArrival) (bx : List ℤ
   pub shifts : r .shifts ≡ arrive p s t c n .shifts
   pub box : bx ≡ balanceBox p s t (r .cut .0)
 
--- the same of a visit; and in kind 2, with what it carries
-pub record Says (p : Frame) (s t c n : ℕ) (r : Visit) (bx : List ℤ) : Type 0 where
-  pub answer : r .answer .0 ≡ arrive p s t c n .said
-  pub cut : r .cut .0 ≡ arrive p s t c n .cut
-  pub shifts : r .shifts ≡ arrive p s t c n .shifts
-  pub box : bx ≡ balanceBox p s t (r .cut .0)
+-- the same of a visit; and in kind 2, with what runs along
+pub record AnswersAt (p : Frame) (s t c n : ℕ) (v : Visit) (bx : List ℤ) : Type 0 where
+  pub state : stateOf v ≡ arrive p s t c n
+  pub box : bx ≡ balanceBox p s t (v .cut .0)
 
-pub record Answers (p : Frame) (s t c n : ℕ) (r : Visit) (bx : List ℤ) (ns : List ℕ) : Type 0 where
-  pub same : Says p s t c n r bx
-  pub guided : Guided p s t (r .cut .0) (r .sums) (r .below) ns
+pub record Answers (p : Frame) (s t c n : ℕ) (v : Visit) (bx : List ℤ) (ns : List ℕ) : Type 0 where
+  pub same : AnswersAt p s t c n v bx
+  pub guided : Guided p s t (v .cut .0) (v .running .sums) (v .running .below) ns
 
--- either kind, with the stores, which held xs and ws
-pub record Visited (p : Frame) (s t c n : ℕ) (r : Visit) (xs ws xs′ ws′ : List ℕ) (bx′ : List ℤ) (ns′ : List ℕ) : Type 0 where
-  pub joint : JointAt p s t (r .cut .0) xs ws xs′ ws′ bx′
-  pub carried : Carried p s t (r .cut .0) (r .sums) (r .below) ns′
-  pub answer : r .answer .0 ≡ arrive p s t c n .said
-  pub cut : r .cut .0 ≡ arrive p s t c n .cut
-  pub shifts : r .shifts ≡ arrive p s t c n .shifts
+-- either kind: the visit is in the state x, and the stores, which held xs and ws, the box and the histogram are those of its window; nothing beyond
+-- the way's stores has changed
+pub record JointVisited (p : Frame) (x : State) (v : Visit) (xs ws xs′ ws′ : List ℕ) (bx′ : List ℤ) (ns′ : List ℕ) : Type 0 where
+  pub state : stateOf v ≡ x
+  pub joint : JointAt p (v .column) (v .row) (v .cut .0) xs ws xs′ ws′ bx′
+  pub carried : Carried p (v .column) (v .row) (v .cut .0) (v .running .sums) (v .running .below) ns′

@@ -1,15 +1,17 @@
 // Kind 2: a window's part in a walk. Its weights can be negative, so that most windows are searched from level 0: the search goes by the window's
 // histogram of levels, two numbers a level, and the box is moved to the answer once that is known.
-use crate::visit::Visit;
+use chain_nodes::FreeList;
 use joint_search::find;
+use level_search::Tally;
+use level_search::search;
 use levels::answer;
-use levels::search;
 use levels::tally;
-use levels::tally::Tally;
+use pixels::sums;
 use spec::Level;
 use spec::Plan;
+use visit::Running;
+use visit::Visit;
 use window::coefficients;
-use window::sums;
 use window::sums::Sums;
 ghost use mathlib.Core.Path.{_≡_};
 ghost use Prim.Native.Nat.{_+_, _<_, _≤_};
@@ -17,7 +19,7 @@ ghost use lib.ListN.{length};
 ghost use Rattle.spec.specs.Frame.{frameOf};
 ghost use Rattle.spec.specs.Joint.{balanceBox};
 ghost use Rattle.window.specs.Sums.{SumsAt};
-ghost use Rattle.levels.specs.Search.{LevelCells, TallyTo};
+ghost use Rattle.level_search.specs.Search.{LevelCells, TallyTo};
 ghost use Rattle.levels.specs.ListTally.{Carries};
 ghost use Rattle.histogram.specs.Histogram.{Blank, Histogram};
 ghost use Rattle.joint_search.specs.Window.{Counted};
@@ -58,7 +60,7 @@ pub fn arrive(
 {
     let l = plan.levels;
     let last = l + l;
-    let k = answer::coefficients_at(file, plan, a, s, t);
+    let k = coefficients::of_window(file, plan, a, s, t);
     let monotone = coefficients::monotone(plan, k);
     let below = tally::carried_where(monotone, before, entering, leaving, cut.0 as usize + 1);
     let r = answer::answer(
@@ -74,35 +76,33 @@ pub fn arrive(
     let level = r.level;
     let tally = r.tally;
     find::move_to(plan, cut, level, cells, counts, words);
-    Visit {
+    let free = FreeList { head: 0, count: 0 };
+    let running = Running {
         sums: a,
         below: tally,
-        cut: level,
-        shifts: r.shifts,
-        answer: level,
-    }
+        free,
+    };
+    visit::answered(s, t, level, r.shifts, running)
 }
 
-// The window at (s, t), its stores and its box being made.
+// A walk's first window at (s, t), its stores and its box being made.
 pub fn enter(
     file: &[u8],
     plan: Plan,
     s: usize,
     t: usize,
-    cut: Level,
-    shifts: u64,
     cells: &mut [i16; 256],
     counts: &[u16],
     words: &[u64],
     numbers: &mut [u32],
 ) -> Visit
     requires { ⌜ (Counted (now file) plan s t (now counts) (now words)) × (plan .kind ≡ 2) × (Blank (plan .levels) (now numbers)) ⌝ }
-    requires { ⌜ (cut .0 < plan .levels) × (shifts ≤ 4294967296) × (now cells ≡ balanceBox (frameOf (now file)) s t (cut .0)) ⌝ }
-    ensures { λ r. ⌜ Answers (frameOf (now (file .entry))) s t (cut .0) shifts r (now (cells .exit)) (now (numbers .exit)) ⌝ }
+    requires { ⌜ now cells ≡ balanceBox (frameOf (now file)) s t 0 ⌝ }
+    ensures { λ r. ⌜ Answers (frameOf (now (file .entry))) s t 0 0 r (now (cells .exit)) (now (numbers .exit)) ⌝ }
 {
     histogram::start(file, plan, s, t, numbers);
     let a = sums::start(file, plan, s, t);
-    let below = tally_below(numbers, plan.levels, cut.0 as usize + 1);
+    let below = tally_below(numbers, plan.levels, 1);
     let entering = [0u16; 2];
     let leaving = [0u16; 2];
     arrive(
@@ -114,8 +114,8 @@ pub fn enter(
         &leaving[0..0],
         s,
         t,
-        cut,
-        shifts,
+        Level(0),
+        0,
         cells,
         counts,
         words,

@@ -1,2 +1,1 @@
-pub mod EachLaws
 pub mod WayLaws

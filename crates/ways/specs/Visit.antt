@@ -1,7 +1,7 @@
 -- What a walk has at a window: its state, the way's stores, its histogram and its box, and what every call on a window leaves alone. One predicate
 -- over the way serves start, move and both loops.
 -- Assumes nothing.
-use Prim.Native.Nat.{ℕ, _+_, _≤_, _<_}
+use Prim.Native.Nat.{ℕ, _+_, _≤_}
 use mathlib.Core.Path.{_≡_}
 use mathlib.Core.Logic.{_⊎_}
 use mathlib.Core.List.{List}
@@ -17,10 +17,11 @@ use Rattle.window.specs.Sums.{SumsAt}
 use Rattle.joint_visit.specs.Arrive as joint
 use Rattle.levels.specs.Tally.{BelowAt}
 use Rattle.chain.specs.Moves.{Listed}
-use Rattle.spec.specs.Walk.{State, answerNumber}
+use Rattle.spec.specs.Walk.{State}
 use Rattle.spec.specs.Calls.{roomOf, countsOf, wordsOf, NumbersOf, boxOf}
-use Rattle.ways.specs.declared.Visit.{Visit}
-use Rattle.ways.specs.declared.Carry.{Carry}
+use Rattle.visit.specs.declared.Running.{Running}
+use Rattle.visit.specs.declared.Visit.{Visit}
+use Rattle.visit.specs.Visit.{stateOf}
 
 -- the stores that the caller lends
 pub record Stores : Type 0 where
@@ -61,30 +62,19 @@ pub record Kept (way : Way) (k : Settings) (before after : Stores) : Type 0 wher
 
 -- what the way carries to the next window of a file, beside the window's sums: columns the tally up to the cut point, joint that tally and the
 -- histogram of levels, the chain its free list in the numbers
-unfoldable pub Carried : Way → List ℕ → ℕ → ℕ → ℕ → (numbers histogram : List ℕ) → Carry → Type 0
-Carried Joint b s t c numbers histogram k = joint.Carried (frameOf b) s t c (k .sums) (k .below) histogram
-Carried Columns b s t c numbers histogram k = SumsAt (frameOf b) s t (k .sums) × BelowAt (frameOf b) s t (c + 1) (k .below)
-Carried Chain b s t c numbers histogram k = SumsAt (frameOf b) s t (k .sums) × Listed b (planOf b) s t (k .free) numbers
+unfoldable pub Carried : Way → List ℕ → ℕ → ℕ → ℕ → (numbers histogram : List ℕ) → Running → Type 0
+Carried Joint b s t c numbers histogram r = joint.Carried (frameOf b) s t c (r .sums) (r .below) histogram
+Carried Columns b s t c numbers histogram r = SumsAt (frameOf b) s t (r .sums) × BelowAt (frameOf b) s t (c + 1) (r .below)
+Carried Chain b s t c numbers histogram r = SumsAt (frameOf b) s t (r .sums) × Listed b (planOf b) s t (r .free) numbers
 
 -- the way serves the plan's kind
 abbrev pub Serves : Way → Plan → Type 0
 Serves way plan = (way ≡ Joint) ⊎ (plan .kind ≡ 2)
 
--- a visit inside the picture, its cut point a level, its shift count in 32 bits
-pub record Within (plan : Plan) (v : Visit) : Type 0 where
-  pub column : v .column < plan .width
-  pub row : v .row < plan .height
-  pub cut : v .cut .0 < plan .levels
-  pub shifts : v .shifts ≤ 4294967295
-
--- the state of the definitions that a visit stands for
-abbrev pub stateOf : Visit → State
-stateOf v = record { column = v .column; row = v .row; cut = v .cut .0; shifts = v .shifts; said = answerNumber (v .answer) }
-
 -- the stores, the box and what is carried are those of the visit's window in the file b
 pub record AtWindow (way : Way) (b : List ℕ) (held : Stores) (histogram : List ℕ) (box : List ℤ) (v : Visit) : Type 0 where
   pub holds : Holds way (frameOf b) (v .column) (v .row) (v .cut .0) held box
-  pub carried : Carried way b (v .column) (v .row) (v .cut .0) (held .numbers) histogram (v .carry)
+  pub carried : Carried way b (v .column) (v .row) (v .cut .0) (held .numbers) histogram (v .running)
 
 -- what each call on a window leaves: the state x, the window's stores, histogram and box, and the rest as it was
 pub record Visited (way : Way) (b : List ℕ) (x : State) (before after : Stores) (histogram : List ℕ) (box : List ℤ) (v : Visit) : Type 0 where

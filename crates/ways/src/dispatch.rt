@@ -1,8 +1,7 @@
 // Start and move by the way.
-use crate::Visit;
-use crate::each;
 use spec::Plan;
 use spec::Way;
+use visit::Visit;
 ghost use mathlib.Core.Path.{_≡_};
 ghost use Prim.Native.Nat.{ℕ, _<_};
 ghost use Rattle.spec.specs.Frame.{frameOf, settingsIn};
@@ -12,7 +11,8 @@ ghost use Rattle.spec.specs.Calls.{zeros};
 ghost use Rattle.window.specs.Line.{Adjacent};
 ghost use Rattle.histogram.specs.Histogram.{Blank};
 ghost use Rattle.joint_rows.specs.Rows.{WeightRows};
-ghost use Rattle.ways.specs.Visit.{stores, Fit, Serves, Within, AtWindow, Visited};
+ghost use Rattle.visit.specs.Visit.{Within};
+ghost use Rattle.ways.specs.Visit.{stores, Fit, Serves, AtWindow, Visited};
 
 // The start window at (column, row), whatever the stores held. The box and the histogram are the walk's own, and 0.
 pub fn enter(
@@ -38,19 +38,19 @@ pub fn enter(
         (now (histogram .exit)) (now («balance_box» .exit)) r ⌝ }
 {
     match way {
-        Way::Joint => each::joint_enter(
+        Way::Joint => joint_visit::enter(
             file,
             plan,
             weights,
             column,
             row,
             balance_box,
-            histogram,
             counts,
             words,
+            histogram,
         ),
-        Way::Columns => each::columns_enter(file, plan, column, row, numbers),
-        Way::Chain => each::chain_enter(file, plan, column, row, numbers),
+        Way::Columns => columns_visit::enter(file, plan, column, row, numbers),
+        Way::Chain => chain_visit::enter(file, plan, column, row, numbers),
     }
 }
 
@@ -80,7 +80,7 @@ pub fn slide(
         (now (histogram .exit)) (now («balance_box» .exit)) r ⌝ }
 {
     match way {
-        Way::Joint => each::joint_slide(
+        Way::Joint => joint_visit::slide(
             file,
             plan,
             weights,
@@ -88,11 +88,11 @@ pub fn slide(
             column,
             row,
             balance_box,
-            histogram,
             counts,
             words,
+            histogram,
         ),
-        Way::Columns => each::columns_slide(file, plan, from, column, row, numbers),
-        Way::Chain => each::chain_slide(file, plan, from, column, row, numbers),
+        Way::Columns => columns_visit::slide(file, plan, from, column, row, numbers),
+        Way::Chain => chain_visit::slide(file, plan, from, column, row, numbers),
     }
 }

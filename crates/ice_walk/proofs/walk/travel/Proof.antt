@@ -3,7 +3,8 @@ use mathlib.Core.Path.{_≡_, refl, _∙_}
 use native.Mathlib.Omega.{arith}
 use borrow.Author.Needs.{needs}
 use lib.ListN.{length, length-set}
-use Rattle.ways.specs.Visit.{stateOf, stores}
+use Rattle.visit.specs.Visit.{stateOf}
+use Rattle.ways.specs.Visit.{stores}
 use Rattle.ice_walk.proofs.Laws.{histogram-blank, within-of, fit-going}
 use Rattle.ice_walk.proofs.WalkLoop.{Walking, held-first, finished, walking-start, walking-long, walking-more, walking-end}
 use Rattle.ice_walk.proofs.walk.travel.Statement.{statement}

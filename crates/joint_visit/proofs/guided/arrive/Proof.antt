@@ -9,6 +9,7 @@ use Rattle.spec.specs.Frame.{frameOf}
 use Rattle.levels.specs.Answer.{Answered}
 use Rattle.levels.proofs.AnswerLaws.{guides-range, answerable, answered-at}
 use Rattle.joint_search.proofs.WindowLaws.{searchable, box-of}
+use Rattle.visit.proofs.Laws.{state-is}
 use Rattle.joint_visit.proofs.VisitLaws.{numbers-long, profiled-parts, answer-low, box-moved}
 use Rattle.joint_visit.proofs.guided.arrive.Statement.{statement}
 use Rattle.joint_visit.proofs.guided.arrive.Tie as tie
@@ -27,14 +28,14 @@ says r =
     let m = w .before .before in
     let at = start w in
     let k = at .pre .0 .0 in
-    answered-at (k .planned) (at .pre .0 .1) (k .column) (k .row) (m .before .coefficients-at .ensures) (profiled-parts (k .planned) (at .pre .0 .2) refl refl) (m .monotone .ensures) (r .answer .ensures .0)
+    answered-at (k .planned) (at .pre .0 .1) (k .column) (k .row) (m .before .of-window .ensures) (profiled-parts (k .planned) (at .pre .0 .2) refl refl) (m .monotone .ensures) (r .answer .ensures .0)
     (r .answer .ensures .1)
 
 add-last : tie.Need-add-last
 add-last c = omega (arith, levels-high (c .before .before .before .before .before .before .pre .0 .0 .planned))
 
-coefficients-at-requires : tie.Need-coefficients-at-requires
-coefficients-at-requires c κs =
+of-window-requires : tie.Need-of-window-requires
+of-window-requires c κs =
     let at = c .before .before .before .before .before .before in
     let k = at .pre .0 .0 in
     ((k .planned, at .pre .0 .1), (k .column, k .row, at .pre .1 .0 .0))
@@ -43,7 +44,7 @@ monotone-requires : tie.Need-monotone-requires
 monotone-requires c κs =
     let at = c .before .before .before .before .before .before .before in
     let k = at .pre .0 .0 in
-    (guides-range (k .planned) (at .pre .0 .1) (k .column) (k .row), c .coefficients-at .ensures .1)
+    (guides-range (k .planned) (at .pre .0 .1) (k .column) (k .row), c .of-window .ensures .1)
 
 cast-carried-where : tie.Need-cast-carried-where
 cast-carried-where c = search needs
@@ -82,7 +83,7 @@ answer-requires c κs =
     let at = start w in
     let k = at .pre .0 .0 in
     let g = at .pre .1 .1 in
-    answerable (k .planned) (at .pre .0 .1) (k .column) (k .row) (m .before .coefficients-at .ensures) (profiled-parts (k .planned) (at .pre .0 .2) refl refl) (m .monotone .ensures) (g .0) (g .1)
+    answerable (k .planned) (at .pre .0 .1) (k .column) (k .row) (m .before .of-window .ensures) (profiled-parts (k .planned) (at .pre .0 .2) refl refl) (m .monotone .ensures) (g .0) (g .1)
     (λ e. at .pre .1 .0 .1 .carried _ (w .carried-where .ensures e))
 
 move-to-requires : tie.Need-move-to-requires
@@ -93,23 +94,32 @@ move-to-requires c κs =
     let g = at .pre .1 .1 in
     (searchable k, (g .0, omega (arith, g .0, answer-low (k .planned) (k .column) (k .row) (at .pre .0 .1) (says r)), g .2 ∙ box-of k (at .args .cut .0) (g .0)))
 
+answered-requires : tie.Need-answered-requires
+answered-requires c κs = search needs
+
 returns : tie.Need-returns
 returns c =
-    let r = c .before .before .before .before in
+    let m = c .before in
+    let r = m .before .before .before .before in
     let at = start (r .before .before .before) in
     let k = at .pre .0 .0 in
     let h = says r in
-    record {
-      same = record { answer = h .said; cut = h .cut; shifts = h .shifts; box = box-moved k _ (r .answer .result .level .0) (c .move-to .ensures) (omega arith) (answer-low (k .planned) (k .column) (k .row) (at .pre .0 .1) h) };
+    let f = r .answer .result in
+    rw (c .answered .ensures)
+    (record {
+      same = record {
+        state = state-is (frameOf (at .args .file .now)) (at .args .s) (at .args .t) (at .args .cut .0) (at .args .shifts) (f .level) (f .shifts) (f .level) (record { sums = at .args .a; below = f .tally; free = record { head = 0; count = 0 } }) (h .cut) (h .shifts) (h .said);
+        box = box-moved k _ (f .level .0) (m .move-to .ensures) (omega arith) (answer-low (k .planned) (k .column) (k .row) (at .pre .0 .1) h);
+      };
       guided = record { sums = at .pre .1 .0 .0; below = h .below; histogram = at .pre .0 .2 };
-    }
+    })
 
 pub arrive-spec : {M : Type 1} → statement M
 arrive-spec =
     tie.close
     (tie.spec
     add-last
-    coefficients-at-requires
+    of-window-requires
     monotone-requires
     cast-carried-where
     add-carried-where
@@ -123,4 +133,5 @@ arrive-spec =
     part-answer-end-2
     answer-requires
     move-to-requires
+    answered-requires
     returns)

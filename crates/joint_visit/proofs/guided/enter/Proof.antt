@@ -5,6 +5,7 @@ use native.Mathlib.Omega.{arith}
 use Rattle.spec.proofs.Plans.{pixel-of}
 use Rattle.levels.proofs.AnswerLaws.{level-cells, gathered}
 use Rattle.levels.proofs.ListTallyLaws.{carries-still}
+use Rattle.visit.proofs.StartLaws.{levels-some}
 use Rattle.joint_visit.proofs.VisitLaws.{numbers-long, profiled}
 use Rattle.joint_visit.proofs.guided.enter.Statement.{statement}
 use Rattle.joint_visit.proofs.guided.enter.Tie as tie
@@ -21,19 +22,13 @@ start-requires c κs =
 start-requires-2 : tie.Need-start-requires-2
 start-requires-2 c κs = let k = (begin (c .before .before)) .pre .0 .0 in (k .planned, (k .column, k .row))
 
-cast-tally-below : tie.Need-cast-tally-below
-cast-tally-below c = search needs
-
-add-tally-below : tie.Need-add-tally-below
-add-tally-below c = search needs
-
 tally-below-requires : tie.Need-tally-below-requires
 tally-below-requires c κs =
-    let h = c .before .before .before .before .before in
+    let h = c .before .before .before .before in
     let at = begin h in
     let k = at .pre .0 .0 in
     let v = h .start .ensures in
-    (numbers-long (k .planned) v refl refl, level-cells (pixel-of (k .planned) (k .column) (k .row)) (profiled (k .planned) v refl refl), omega (arith, at .pre .1 .0))
+    (numbers-long (k .planned) v refl refl, level-cells (pixel-of (k .planned) (k .column) (k .row)) (profiled (k .planned) v refl refl), levels-some (k .planned))
 
 sub-arrive : tie.Need-sub-arrive
 sub-arrive c = search needs
@@ -56,14 +51,14 @@ part-arrive-end-2 c = search needs
 arrive-requires : tie.Need-arrive-requires
 arrive-requires c κs =
     let w = c .before .before .before .before .before .before in
-    let a = w .before .before .before in
+    let a = w .before .before in
     let h = a .before .before .before in
     let at = begin h in
     let k = at .pre .0 .0 in
-    ((k, at .pre .0 .1, h .start .ensures), ((a .start2 .ensures, carries-still (pixel-of (k .planned) (k .column) (k .row)) (gathered (k .planned) (k .column) (k .row) (profiled (k .planned) (h .start .ensures) refl refl) (omega (arith, at .pre .1 .0)) (w .tally-below .ensures)) refl refl), at .pre .1))
+    ((k, at .pre .0 .1, h .start .ensures), ((a .start2 .ensures, carries-still (pixel-of (k .planned) (k .column) (k .row)) (gathered (k .planned) (k .column) (k .row) (profiled (k .planned) (h .start .ensures) refl refl) (levels-some (k .planned)) (w .tally-below .ensures)) refl refl), (levels-some (k .planned), omega arith, at .pre .1)))
 
 same-length : tie.Need-same-length
-same-length c = c .before .before .before .before .before .before .before .before .before .before .before .before .before .start .kept .1 .1 .1 .1 .0
+same-length c = c .before .before .before .before .before .before .before .before .before .before .before .before .start .kept .1 .1 .1 .1 .0
 
 returns : tie.Need-returns
 returns c = c .arrive .ensures
@@ -74,8 +69,6 @@ enter-spec =
     (tie.spec
     start-requires
     start-requires-2
-    cast-tally-below
-    add-tally-below
     tally-below-requires
     sub-arrive
     part-arrive-start

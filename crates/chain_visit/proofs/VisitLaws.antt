@@ -1,0 +1,105 @@
+-- What a walk does at a window of kind 2: the climb ends at the median, and the new cut point and shift count are the definition's.
+-- Assumes nothing.
+use mathlib.Core.Path.{_≡_, refl, sym, ap, ap₂, _∙_, subst}
+use mathlib.Core.Bool.{Bool}
+use mathlib.Core.List.{List}
+use Prim.Native.Nat.{ℕ, _+_, _≤_, _<_}
+use native.Mathlib.Omega.{arith}
+use lib.IntN.{ℤ, pos}
+use lib.Signed.{_<ℤ_}
+use Rattle.spec.specs.declared.Level.{Level}
+use Rattle.spec.specs.declared.Plan.{Plan}
+use Rattle.spec.specs.Base.{if_then_else_, distance, first}
+use Rattle.spec.specs.Frame.{guide, frameOf}
+use Rattle.spec.specs.Checks.{Planned}
+use Rattle.spec.specs.Weight.{monotone}
+use Rattle.spec.specs.Window.{pixelCount, guideSum}
+use Rattle.spec.specs.Median.{median}
+use Rattle.spec.specs.Walk.{State, arrive}
+use Rattle.spec.proofs.Plans.{facts, pixel-of}
+use Rattle.spec.proofs.Totals.{median-low}
+use Rattle.spec.proofs.Climb.{guided-full}
+use Rattle.spec.proofs.Bounds.{pixelCount-high, guideSum-high}
+use Rattle.window.specs.declared.coefficients.Coefficients.{Coefficients}
+use Rattle.window.specs.Coefficients.{WeighsAt}
+use Rattle.window.specs.Sums.{SumsAt}
+use Rattle.window.proofs.PixelLaws.{guides-high}
+use Rattle.chain_nodes.specs.declared.FreeList.{FreeList}
+use Rattle.chain_list.specs.Chain.{sumBelow}
+use Rattle.chain.specs.Lines.{nodesOf, sizeOf}
+use Rattle.chain.specs.Moves.{levelCounts, levelGuides, Listed, Stored}
+use Rattle.chain.proofs.WindowLaws.{level-total}
+use Rattle.visit.specs.declared.Running.{Running}
+use Rattle.visit.specs.declared.Visit.{Visit}
+use Rattle.visit.specs.Visit.{stateOf, answered}
+use Rattle.visit.proofs.Laws.{state-is, at-visit}
+use Rattle.chain_search.specs.Climb.{reachesAt, Climbs}
+use Rattle.chain_visit.specs.Visit.{ChainVisited}
+use Rattle.chain_search.proofs.ClimbLaws.{climb-median}
+
+module _ {b : List ℕ} {z : Plan} (pl : Planned b z) where
+  pub some-guides : (1 ≤ z .guides) × (z .guides ≤ 256)
+  some-guides = let f = facts pl in (omega (arith, f .guides, f .limits .sound .guides-low), guides-high pl)
+
+  module _ {s t : ℕ} (hs : s < z .width) (ht : t < z .height) where
+    module _ (two : z .kind ≡ 2) where
+      kind-is : frameOf b .set .kind ≡ 2
+      kind-is = sym (facts pl .kind) ∙ two
+
+      pub total-pos : (k : Coefficients) → WeighsAt (frameOf b) s t k → pos 0 <ℤ k .total
+      total-pos k w = subst (λ (n : ℤ). pos 0 <ℤ n) (sym (w .total)) (guided-full (pixel-of pl hs ht) kind-is .0)
+
+      -- where the climb ends is the median
+      climb-is : (k : Coefficients) → WeighsAt (frameOf b) s t k → first (reachesAt (levelCounts b s t) (levelGuides b s t) k) (z .levels) ≡ median (frameOf b) s t
+      climb-is k w = ap (first (reachesAt (levelCounts b s t) (levelGuides b s t) k)) (facts pl .levels) ∙ climb-median (frameOf b) s t kind-is k w
+
+      -- the window's list is one to climb along
+      pub climbs : (k : Coefficients) → WeighsAt (frameOf b) s t k → (free : FreeList) (m : List ℕ) → Listed b z s t free m → Climbs (z .levels) k m
+      unfolding sizeOf pixelCount guideSum
+      climbs k w free m c =
+          let f = facts pl in
+          let q = pixel-of pl hs ht in
+          record {
+            cap = nodesOf z;
+            cnt = levelCounts b s t;
+            sm = levelGuides b s t;
+            head = free .head;
+            free = free .count;
+            chain = c;
+            few =
+                let e : sumBelow (levelCounts b s t) (z .levels) ≡ sumBelow (levelCounts b s t) (frameOf b .set .levels) = ap (sumBelow (levelCounts b s t)) (f .levels) in
+                omega (arith, e, level-total q (λ x y. 1), pixelCount-high q);
+            light =
+                let e : sumBelow (levelGuides b s t) (z .levels) ≡ sumBelow (levelGuides b s t) (frameOf b .set .levels) = ap (sumBelow (levelGuides b s t)) (f .levels) in
+                omega (arith, e, level-total q (guide (frameOf b)), guideSum-high q);
+            some = omega (arith, climb-is k w, median-low q, f .levels);
+          }
+
+      pub climbed : (k : Coefficients) (w : WeighsAt (frameOf b) s t k) (free : FreeList) (m : List ℕ) → Listed b z s t free m → (r : ℕ)
+          → ((a : Climbs (z .levels) k m) → r ≡ first (reachesAt (a .cnt) (a .sm) k) (z .levels)) → r ≡ median (frameOf b) s t
+      unfolding climbs
+      climbed k w free m c r h = h (climbs k w free m c) ∙ climb-is k w
+
+      -- no window of kind 2 is weightless
+      arrive-is : (c n : ℕ) → arrive (frameOf b) s t c n
+          ≡ record { column = s; row = t; cut = median (frameOf b) s t; shifts = n + (if monotone (frameOf b) s t then distance (median (frameOf b) s t) c else median (frameOf b) s t); said = median (frameOf b) s t }
+      unfolding arrive
+      arrive-is c n = rw (guided-full (pixel-of pl hs ht) kind-is .1) refl
+
+      pub answers : (c n : ℕ) (r : Level) (more : ℕ) (q : Bool) (g : Running) → r .0 ≡ median (frameOf b) s t → q ≡ monotone (frameOf b) s t
+          → more ≡ (if q then distance (r .0) c else r .0)
+          → stateOf (answered s t r (n + more) g) ≡ arrive (frameOf b) s t c n
+      answers c n r more q g er eq em =
+          state-is (frameOf b) s t c n r (n + more) r g (er ∙ sym (ap (λ (x : State). x .cut) (arrive-is c n)))
+          (ap (λ (x : ℕ). n + x) (em ∙ ap₂ (λ (y : Bool) (x : ℕ). if y then distance x c else x) eq er) ∙ sym (ap (λ (x : State). x .shifts) (arrive-is c n)))
+          (er ∙ sym (ap (λ (x : State). x .said) (arrive-is c n)))
+
+-- the visit's window is the one that it came to, and what ran along was handed in
+pub chain-visited : (b : List ℕ) (z : Plan) (s t c n : ℕ) (v : Visit) (g : Running) (m m′ : List ℕ) → stateOf v ≡ arrive (frameOf b) s t c n → v .running ≡ g
+    → SumsAt (frameOf b) s t (g .sums) → Stored b z s t m (g .free) m′ → ChainVisited b z (arrive (frameOf b) s t c n) m v m′
+chain-visited b z s t c n v g m m′ e same sums stored =
+    record {
+      state = e;
+      sums = at-visit (frameOf b) s t c n (λ x y. SumsAt (frameOf b) x y (v .running .sums)) v e (subst (λ (q : Running). SumsAt (frameOf b) s t (q .sums)) (sym same) sums);
+      stored = at-visit (frameOf b) s t c n (λ x y. Stored b z x y m (v .running .free) m′) v e (subst (λ (q : Running). Stored b z s t m (q .free) m′) (sym same) stored);
+    }

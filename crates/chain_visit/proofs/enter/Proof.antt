@@ -1,0 +1,33 @@
+-- `chain_visit::enter` meets its contract.
+-- Assumes nothing.
+use native.Mathlib.Omega.{arith}
+use borrow.Author.Needs.{needs}
+use Rattle.chain_visit.proofs.VisitLaws.{chain-visited}
+use Rattle.chain_visit.proofs.enter.Statement.{statement}
+use Rattle.chain_visit.proofs.enter.Tie as tie
+
+start-requires : tie.Need-start-requires
+start-requires c κs = let at = c .before .before in (at .pre .0 .0, at .pre .1 .0)
+
+start-requires-2 : tie.Need-start-requires-2
+start-requires-2 c κs = let at = c .before .before .before .before in (at .pre .0 .0, (at .pre .1 .0, at .pre .1 .1))
+
+answer-at-requires : tie.Need-answer-at-requires
+answer-at-requires c κs =
+    let n = c .before .before .before in
+    let a = n .before .before in
+    let at = a .before .before .before in
+    (at .pre .0, ((at .pre .1 .0 .0, at .pre .1 .0 .1, omega arith), (a .start .ensures, n .start2 .ensures .listed)))
+
+same-length : tie.Need-same-length
+same-length c = search needs
+
+returns : tie.Need-returns
+returns c =
+    let n = c .before .before .before .before in
+    let a = n .before .before in
+    let e = c .answer-at .ensures in
+    chain-visited _ _ _ _ _ _ _ _ _ _ (e .0) (e .1) (a .start .ensures) (n .start2 .ensures)
+
+pub enter-spec : {M : Type 1} → statement M
+enter-spec = tie.close (tie.spec start-requires start-requires-2 answer-at-requires same-length returns)
