@@ -18,18 +18,18 @@ signedWeight p s t c i g = side c i *ℤ weight p s t g
 
 -- the same by a row of weights
 unfoldable pub signedBy : List ℕ → Formula → ℕ → ℕ → ℕ → ℤ
-signedBy ns w c i g = side c i *ℤ weightBy ns w g
+signedBy ns formula c i g = side c i *ℤ weightBy ns formula g
 
 -- few pixels, each of whose guides has its weight in the row, and a small one
-pub record PixelsWeighed (p ns : List ℕ) (w : Formula) : Type 0 where
+pub record PixelsWeighed (p ns : List ℕ) (formula : Formula) : Type 0 where
   pub few : countOf p ≤ 31
-  pub small : FormulaInBounds w
-  pub inside : (k : ℕ) → k < countOf p → w .row + guideIn p k < length ns
-  pub low : (k : ℕ) → k < countOf p → natAbs (weightBy ns w (guideIn p k)) ≤ 180155859075
+  pub small : FormulaInBounds formula
+  pub inside : (k : ℕ) → k < countOf p → formula .row + guideIn p k < length ns
+  pub low : (k : ℕ) → k < countOf p → natAbs (weightBy ns formula (guideIn p k)) ≤ 180155859075
 
 -- a window of an accepted file, and a row that weighs it
-pub record Weighed (b : List ℕ) (z : Plan) (s t : ℕ) (ns : List ℕ) (w : Formula) : Type 0 where
-  pub planned : Planned b z
-  pub column : s < z .width
-  pub row : t < z .height
-  pub weighs : Weighs (frameOf b) s t ns w
+pub record Weighed (b : List ℕ) (plan : Plan) (s t : ℕ) (ns : List ℕ) (formula : Formula) : Type 0 where
+  pub planned : Planned b plan
+  pub column : s < plan .width
+  pub row : t < plan .height
+  pub weighs : Weighs (frameOf b) s t ns formula

@@ -42,11 +42,11 @@ pub fn add(a: i64, b: i64) -> i64
 }
 
 // What a list's pixels add.
-pub fn line_balance(p: &[u16], weights: &[u16], w: Formula, top: Level) -> i64
-    requires { ⌜ PixelsWeighed (now p) (now weights) w ⌝ }
-    ensures { λ r. ⌜ r ≡ pixelFold _+ℤ_ (pos 0) (now (p .entry)) (signedBy (now (weights .entry)) w (top .0)) ⌝ }
+pub fn line_balance(p: &[u16], weights: &[u16], formula: Formula, top: Level) -> i64
+    requires { ⌜ PixelsWeighed (now p) (now weights) formula ⌝ }
+    ensures { λ r. ⌜ r ≡ pixelFold _+ℤ_ (pos 0) (now (p .entry)) (signedBy (now (weights .entry)) formula (top .0)) ⌝ }
 {
-    let row = w.row;
+    let row = formula.row;
     let n = p.len() / 2;
     let mut sum: i64 = 0;
     let mut k = 0;
@@ -56,7 +56,12 @@ pub fn line_balance(p: &[u16], weights: &[u16], w: Formula, top: Level) -> i64
         let level = Level(p[at]);
         let g = Guide(p[next]);
         let x = weights[row + (g.0 as usize)] as i64;
-        sum = add_signed(sum, formula::combine(w.slope, w.offset, x, 1), level, top);
+        sum = add_signed(
+            sum,
+            formula::combine(formula.slope, formula.offset, x, 1),
+            level,
+            top,
+        );
         k += 1;
     }
     sum
@@ -67,12 +72,12 @@ pub fn window_balance(
     file: &[u8],
     plan: Plan,
     weights: &[u16],
-    w: Formula,
+    formula: Formula,
     s: usize,
     t: usize,
     top: Level,
 ) -> i64
-    requires { ⌜ Weighed (now file) plan s t (now weights) w ⌝ }
+    requires { ⌜ Weighed (now file) plan s t (now weights) formula ⌝ }
     ensures { λ r. ⌜ r ≡ balance (frameOf (now (file .entry))) s t (top .0) ⌝ }
 {
     let x = low(s, plan.radius);
@@ -83,7 +88,7 @@ pub fn window_balance(
         let mut places = [0u16; 62];
         let line = column_line(plan, x + k, t);
         let e = pixels::read(file, plan, line, &mut places);
-        sum = add(sum, line_balance(&places[0..e], weights, w, top));
+        sum = add(sum, line_balance(&places[0..e], weights, formula, top));
         k += 1;
     }
     sum
@@ -126,14 +131,14 @@ pub fn guided_balance(file: &[u8], plan: Plan, s: usize, t: usize, top: Level) -
     ensures { λ r. ⌜ r ≡ balance (frameOf (now (file .entry))) s t (top .0) ⌝ }
 {
     let a = sums::start(file, plan, s, t);
-    let k = coefficients::of_window(file, plan, a, s, t);
+    let coefficients = coefficients::of_window(file, plan, a, s, t);
     let m = plan.guides;
     let mut row = [0u16; 256];
     rows::ramp(&mut row, m);
     let w = Formula {
         row: 0,
-        slope: k.slope,
-        offset: k.offset,
+        slope: coefficients.slope,
+        offset: coefficients.offset,
     };
     window_balance(file, plan, &row, w, s, t, top)
 }

@@ -10,8 +10,8 @@ use Rattle.spec.specs.Checks.{settingsOutcome}
 abbrev pub settingsFrom : ℕ → ℕ → ℕ → ℕ → ℕ → ℕ → ℕ → Settings
 settingsFrom w h l m k r e = record { width = w; height = h; levels = l; guides = m; kind = k; radius = r; smoothing = e }
 
--- the settings k that the seven numbers make and those, s, that their fields hold: checks 2 to 5 say the same of both, and only of equal ones that
--- they pass
-pub record Narrowed (k s : Settings) : Type 0 where
-  pub same : settingsOutcome s ≡ settingsOutcome k
-  pub whole : settingsOutcome k ≡ accepted → s ≡ k
+-- the settings that the seven numbers make, and those, s, that their fields hold: checks 2 to 5 say the same of both, and only of equal ones
+-- that they pass
+pub record Narrowed (settings s : Settings) : Type 0 where
+  pub same : settingsOutcome s ≡ settingsOutcome settings
+  pub whole : settingsOutcome settings ≡ accepted → s ≡ settings

@@ -30,19 +30,19 @@ pub fn give_walk(
     status: u32,
     shifts: u64,
     cut: u16,
-    cells: [i16; 256],
+    balance_box: [i16; 256],
     lent_shifts: &mut u64,
     lent_cut: &mut u16,
     lent_box: &mut [i16; 256],
 )
     ensures { λ _. ⌜ (now («lent_shifts» .exit) ≡ byStatus status shifts (now («lent_shifts» .entry)))
         × (now («lent_cut» .exit) ≡ byStatus status cut (now («lent_cut» .entry)))
-        × (now («lent_box» .exit) ≡ byStatus status cells (now («lent_box» .entry))) ⌝ }
+        × (now («lent_box» .exit) ≡ byStatus status «balance_box» (now («lent_box» .entry))) ⌝ }
 {
     if status == 0 {
         *lent_shifts = shifts;
         *lent_cut = cut;
-        *lent_box = cells;
+        *lent_box = balance_box;
     }
 }
 

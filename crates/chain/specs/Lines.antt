@@ -13,10 +13,10 @@ use Rattle.chain_list.specs.Chain.{sumBelow, Beyond, Size, ListOf}
 
 -- a node for each pixel of the largest window
 abbrev pub nodesOf : Plan → ℕ
-nodesOf z = (2 * z .radius + 1) * (2 * z .radius + 1)
+nodesOf plan = (2 * plan .radius + 1) * (2 * plan .radius + 1)
 
 unfoldable pub sizeOf : Plan → Size
-sizeOf z = record { cap = nodesOf z; levels = z .levels }
+sizeOf plan = record { cap = nodesOf plan; levels = plan .levels }
 
 -- what a pixel of level i′ and guide f′ adds to level i's count, and to its guide sum
 abbrev pub counted : ℕ → ℕ → ℕ → ℕ

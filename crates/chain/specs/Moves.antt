@@ -26,16 +26,16 @@ levelGuides b s t = levelSum (frameOf b) s t (guide (frameOf b))
 
 -- the nodes of m hold the window's levels, and the others are in the free list
 abbrev pub Listed : List ℕ → Plan → ℕ → ℕ → FreeList → List ℕ → Type 0
-Listed b z s t free m = ListOf (sizeOf z) (levelCounts b s t) (levelGuides b s t) free m
+Listed b plan s t free m = ListOf (sizeOf plan) (levelCounts b s t) (levelGuides b s t) free m
 
 -- how many numbers of a store are the way's
 abbrev pub storeSize : List ℕ → ℕ
 storeSize b = roomOf ChainWay (frameOf b .set) .numbers
 
 -- the store m has become m′, which holds the window at (s, t)
-pub record Stored (b : List ℕ) (z : Plan) (s t : ℕ) (m : List ℕ) (free : FreeList) (m′ : List ℕ) : Type 0 where
+pub record Stored (b : List ℕ) (plan : Plan) (s t : ℕ) (m : List ℕ) (free : FreeList) (m′ : List ℕ) : Type 0 where
   pub store : ChainStore (frameOf b) s t m′
-  pub listed : Listed b z s t free m′
+  pub listed : Listed b plan s t free m′
   pub long : length m′ ≡ length m
   pub rest : drop (storeSize b) m′ ≡ drop (storeSize b) m
 

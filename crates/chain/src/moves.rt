@@ -10,21 +10,21 @@ ghost use Rattle.spec.specs.Checks.{Planned};
 ghost use Rattle.chain.specs.Moves.{storeSize, Stored, Slides, Slid};
 
 // The list of the window at (s, t), column by column.
-pub fn start(file: &[u8], z: Plan, s: usize, t: usize, numbers: &mut [u32]) -> FreeList
-    requires { ⌜ Planned (now file) z ⌝ }
-    requires { ⌜ (s < z .width) × (t < z .height) ⌝ }
+pub fn start(file: &[u8], plan: Plan, s: usize, t: usize, numbers: &mut [u32]) -> FreeList
+    requires { ⌜ Planned (now file) plan ⌝ }
+    requires { ⌜ (s < plan .width) × (t < plan .height) ⌝ }
     requires { ⌜ storeSize (now file) ≤ length (now numbers) ⌝ }
-    ensures { λ r. ⌜ Stored (now (file .entry)) z s t (now (numbers .entry)) r (now (numbers .exit)) ⌝ }
+    ensures { λ r. ⌜ Stored (now (file .entry)) plan s t (now (numbers .entry)) r (now (numbers .exit)) ⌝ }
 {
-    let cap = line::node_count(z);
-    let left = window::line::low(s, z.radius);
-    let columns = window::line::span_of(s, z.radius, z.width);
+    let cap = line::node_count(plan);
+    let left = window::line::low(s, plan.radius);
+    let columns = window::line::span_of(s, plan.radius, plan.width);
     let mut free = clear(numbers, cap);
     let mut k: usize = 0;
     while k < columns {
         let mut places = [0u16; 62];
-        let d = window::line::column_line(z, left + k, t);
-        let p = pixels::read(file, z, d, &mut places);
+        let d = window::line::column_line(plan, left + k, t);
+        let p = pixels::read(file, plan, d, &mut places);
         let next = line::merge_line(&places[0..p], free, true, numbers);
         free = next;
         k += 1;

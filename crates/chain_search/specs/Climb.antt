@@ -10,10 +10,10 @@ use Rattle.chain_list.specs.Chain.{Chain, sumBelow}
 
 -- whether the levels up to i weigh at least half
 abbrev pub reachesAt : (ℕ → ℕ) → (ℕ → ℕ) → Coefficients → ℕ → Bool
-reachesAt cnt sm k i = reachesHalf k (sumBelow cnt (suc i)) (sumBelow sm (suc i))
+reachesAt cnt sm coefficients i = reachesHalf coefficients (sumBelow cnt (suc i)) (sumBelow sm (suc i))
 
 -- a store with a list of few pixels, cnt and sm being its counts and guide sums, and some level that reaches it
-pub record Climbs (levels : ℕ) (k : Coefficients) (m : List ℕ) : Type 0 where
+pub record Climbs (levels : ℕ) (coefficients : Coefficients) (m : List ℕ) : Type 0 where
   pub cap : ℕ
   pub cnt : ℕ → ℕ
   pub sm : ℕ → ℕ
@@ -22,4 +22,4 @@ pub record Climbs (levels : ℕ) (k : Coefficients) (m : List ℕ) : Type 0 wher
   pub chain : Chain cap levels cnt sm head free m
   pub few : sumBelow cnt levels ≤ 961
   pub light : sumBelow sm levels ≤ 245055
-  pub some : first (reachesAt cnt sm k) levels < levels
+  pub some : first (reachesAt cnt sm coefficients) levels < levels

@@ -14,11 +14,11 @@ ghost use Rattle.chain_search.specs.Climb.{reachesAt, Climbs};
 
 // The first level at which the weight of the levels up to it reaches half of the window's. Some level does: where none before the last node does, the
 // last node's level is the answer.
-pub fn climb(numbers: &[u32], levels: usize, k: Coefficients) -> Level
-    requires { ⌜ Climbs levels k (now numbers) ⌝ }
+pub fn climb(numbers: &[u32], levels: usize, coefficients: Coefficients) -> Level
+    requires { ⌜ Climbs levels coefficients (now numbers) ⌝ }
     requires { ⌜ levels ≤ 1024 ⌝ }
-    requires { ⌜ (CoefficientsSmall k) × (pos 0 <ℤ k .total) ⌝ }
-    ensures { λ r. ⌜ ((a : Climbs levels k (now (numbers .entry))) → r .0 ≡ first (reachesAt (a .cnt) (a .sm) k) levels) ⌝ }
+    requires { ⌜ (CoefficientsSmall coefficients) × (pos 0 <ℤ coefficients .total) ⌝ }
+    ensures { λ r. ⌜ ((a : Climbs levels coefficients (now (numbers .entry))) → r .0 ≡ first (reachesAt (a .cnt) (a .sm) coefficients) levels) ⌝ }
 {
     let mut count: u32 = 0;
     let mut sum: u32 = 0;
@@ -27,7 +27,7 @@ pub fn climb(numbers: &[u32], levels: usize, k: Coefficients) -> Level
     while next != 0 {
         count += numbers[at - 2];
         sum += numbers[at - 1];
-        if reached(k, count as usize, sum as usize) {
+        if reached(coefficients, count as usize, sum as usize) {
             return Level(numbers[at - 3] as u16);
         }
         at = place(next);

@@ -82,7 +82,7 @@ module _ {b : List ℕ} {z : Plan} (pl : Planned b z) where
 
       -- no window of kind 2 is weightless
       arrive-is : (c n : ℕ) → arrive (frameOf b) s t c n
-          ≡ record { column = s; row = t; cut = median (frameOf b) s t; shifts = n + (if monotone (frameOf b) s t then distance (median (frameOf b) s t) c else median (frameOf b) s t); said = median (frameOf b) s t }
+          ≡ record { column = s; row = t; cut = median (frameOf b) s t; shifts = n + (if monotone (frameOf b) s t then distance (median (frameOf b) s t) c else median (frameOf b) s t); answer = median (frameOf b) s t }
       unfolding arrive
       arrive-is c n = rw (guided-full (pixel-of pl hs ht) kind-is .1) refl
 
@@ -92,7 +92,7 @@ module _ {b : List ℕ} {z : Plan} (pl : Planned b z) where
       answers c n r more q g er eq em =
           state-is (frameOf b) s t c n r (n + more) r g (er ∙ sym (ap (λ (x : State). x .cut) (arrive-is c n)))
           (ap (λ (x : ℕ). n + x) (em ∙ ap₂ (λ (y : Bool) (x : ℕ). if y then distance x c else x) eq er) ∙ sym (ap (λ (x : State). x .shifts) (arrive-is c n)))
-          (er ∙ sym (ap (λ (x : State). x .said) (arrive-is c n)))
+          (er ∙ sym (ap (λ (x : State). x .answer) (arrive-is c n)))
 
 -- the visit's window is the one that it came to, and what ran along was handed in
 pub chain-visited : (b : List ℕ) (z : Plan) (s t c n : ℕ) (v : Visit) (g : Running) (m m′ : List ℕ) → stateOf v ≡ arrive (frameOf b) s t c n → v .running ≡ g

@@ -53,9 +53,9 @@ pub fn answer_at(
     ensures { λ r. ⌜ (stateOf r ≡ arrive (frameOf (now (file .entry))) column row (cut .0) shifts) × (r .running ≡ running) ⌝ }
 {
     let sums = running.sums;
-    let k = coefficients::of_window(file, plan, sums, column, row);
-    let level = climb::climb(numbers, plan.levels, k);
-    let monotone = coefficients::monotone(plan, k);
+    let coefficients = coefficients::of_window(file, plan, sums, column, row);
+    let level = climb::climb(numbers, plan.levels, coefficients);
+    let monotone = coefficients::monotone(plan, coefficients);
     let more = added(monotone, cut, level);
     visit::answered(column, row, level, shifts + more, running)
 }

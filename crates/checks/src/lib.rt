@@ -25,8 +25,8 @@ pub fn way_of(way: u32) -> Way
     Way::Chain
 }
 
-fn bad_way(z: Plan, way: u32) -> bool
-    ensures { λ r. ⌜ r ≡ badWay (settingsIn z) way ⌝ }
+fn bad_way(plan: Plan, way: u32) -> bool
+    ensures { λ r. ⌜ r ≡ badWay (settingsIn plan) way ⌝ }
 {
     if way < 1 {
         return true;
@@ -37,29 +37,29 @@ fn bad_way(z: Plan, way: u32) -> bool
     if way == 1 {
         return false;
     }
-    z.kind != 2
+    plan.kind != 2
 }
 
-fn bad_pixel(z: Plan, column: usize, row: usize) -> bool
-    ensures { λ r. ⌜ r ≡ badPixel (settingsIn z) column row ⌝ }
+fn bad_pixel(plan: Plan, column: usize, row: usize) -> bool
+    ensures { λ r. ⌜ r ≡ badPixel (settingsIn plan) column row ⌝ }
 {
-    if z.width <= column {
+    if plan.width <= column {
         return true;
     }
-    if z.height <= row {
+    if plan.height <= row {
         return true;
     }
     false
 }
 
 // How much of each store a way uses.
-pub fn needed(way: Way, z: Plan) -> Room
-    requires { ⌜ SettingsLimits (settingsIn z) ⌝ }
-    ensures { λ r. ⌜ r ≡ roomOf way (settingsIn z) ⌝ }
+pub fn needed(way: Way, plan: Plan) -> Room
+    requires { ⌜ SettingsLimits (settingsIn plan) ⌝ }
+    ensures { λ r. ⌜ r ≡ roomOf way (settingsIn plan) ⌝ }
 {
-    let l = z.levels;
-    let m = z.guides;
-    let side = 2 * z.radius + 1;
+    let l = plan.levels;
+    let m = plan.guides;
+    let side = 2 * plan.radius + 1;
     match way {
         Way::Joint => Room {
             counts: l * m,
@@ -69,7 +69,7 @@ pub fn needed(way: Way, z: Plan) -> Room
         Way::Columns => Room {
             counts: 0,
             words: 0,
-            numbers: 2 * (z.width * l) + 2 * l,
+            numbers: 2 * (plan.width * l) + 2 * l,
         },
         Way::Chain => Room {
             counts: 0,
@@ -92,12 +92,12 @@ fn lacking(need: Room, have: Room) -> bool
 }
 
 // Check 11: a store of the way, or an output that is to take n numbers, is too short.
-fn short(z: Plan, way: u32, have: Room, out: usize, n: usize) -> bool
-    requires { ⌜ SettingsLimits (settingsIn z) ⌝ }
-    ensures { λ r. ⌜ r ≡ short (settingsIn z) way have out n ⌝ }
+fn short(plan: Plan, way: u32, have: Room, out: usize, n: usize) -> bool
+    requires { ⌜ SettingsLimits (settingsIn plan) ⌝ }
+    ensures { λ r. ⌜ r ≡ short (settingsIn plan) way have out n ⌝ }
 {
     let y = way_of(way);
-    let need = needed(y, z);
+    let need = needed(y, plan);
     if lacking(need, have) {
         return true;
     }
@@ -105,7 +105,7 @@ fn short(z: Plan, way: u32, have: Room, out: usize, n: usize) -> bool
 }
 
 pub fn walk_verdict(
-    z: Plan,
+    plan: Plan,
     way: u32,
     column: usize,
     row: usize,
@@ -113,44 +113,44 @@ pub fn walk_verdict(
     have: Room,
     out: usize,
 ) -> Verdict
-    requires { ⌜ SettingsLimits (settingsIn z) ⌝ }
-    ensures { λ r. ⌜ numbered r ≡ walkChecks (settingsIn z) way column row n have out ⌝ }
+    requires { ⌜ SettingsLimits (settingsIn plan) ⌝ }
+    ensures { λ r. ⌜ numbered r ≡ walkChecks (settingsIn plan) way column row n have out ⌝ }
 {
-    if bad_way(z, way) {
+    if bad_way(plan, way) {
         return Verdict::Refused(Refusal::Way);
     }
-    if bad_pixel(z, column, row) {
+    if bad_pixel(plan, column, row) {
         return Verdict::Refused(Refusal::Start);
     }
     if 1048576 < n {
         return Verdict::Refused(Refusal::Moves);
     }
-    if short(z, way, have, out, n + 1) {
+    if short(plan, way, have, out, n + 1) {
         return Verdict::Refused(Refusal::Room);
     }
     Verdict::Accepted
 }
 
-pub fn filter_verdict(z: Plan, way: u32, have: Room, out: usize) -> Verdict
-    requires { ⌜ SettingsLimits (settingsIn z) ⌝ }
-    ensures { λ r. ⌜ numbered r ≡ filterChecks (settingsIn z) way have out ⌝ }
+pub fn filter_verdict(plan: Plan, way: u32, have: Room, out: usize) -> Verdict
+    requires { ⌜ SettingsLimits (settingsIn plan) ⌝ }
+    ensures { λ r. ⌜ numbered r ≡ filterChecks (settingsIn plan) way have out ⌝ }
 {
-    if bad_way(z, way) {
+    if bad_way(plan, way) {
         return Verdict::Refused(Refusal::Way);
     }
-    if short(z, way, have, out, z.width * z.height) {
+    if short(plan, way, have, out, plan.width * plan.height) {
         return Verdict::Refused(Refusal::Room);
     }
     Verdict::Accepted
 }
 
-pub fn balance_verdict(z: Plan, column: usize, row: usize, level: usize) -> Verdict
-    ensures { λ r. ⌜ numbered r ≡ balanceChecks (settingsIn z) column row level ⌝ }
+pub fn balance_verdict(plan: Plan, column: usize, row: usize, level: usize) -> Verdict
+    ensures { λ r. ⌜ numbered r ≡ balanceChecks (settingsIn plan) column row level ⌝ }
 {
-    if bad_pixel(z, column, row) {
+    if bad_pixel(plan, column, row) {
         return Verdict::Refused(Refusal::Start);
     }
-    if z.levels <= level {
+    if plan.levels <= level {
         return Verdict::Refused(Refusal::Start);
     }
     Verdict::Accepted

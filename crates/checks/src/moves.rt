@@ -9,13 +9,13 @@ ghost use Rattle.spec.specs.Walk.{move};
 ghost use Rattle.spec.specs.Filter.{turn};
 
 // Where a byte leads.
-pub fn next(z: Plan, column: usize, row: usize, byte: u8) -> Move
-    requires { ⌜ SettingsLimits (settingsIn z) ⌝ }
-    requires { ⌜ (column < z .width) × (row < z .height) ⌝ }
-    ensures { λ r. ⌜ r ≡ move (settingsIn z) column row byte ⌝ }
+pub fn next(plan: Plan, column: usize, row: usize, byte: u8) -> Move
+    requires { ⌜ SettingsLimits (settingsIn plan) ⌝ }
+    requires { ⌜ (column < plan .width) × (row < plan .height) ⌝ }
+    ensures { λ r. ⌜ r ≡ move (settingsIn plan) column row byte ⌝ }
 {
     if byte == 0 {
-        if column + 1 < z.width {
+        if column + 1 < plan.width {
             return Move::To(column + 1, row);
         }
         return Move::Nowhere(65534);
@@ -27,7 +27,7 @@ pub fn next(z: Plan, column: usize, row: usize, byte: u8) -> Move
         return Move::Nowhere(65534);
     }
     if byte == 2 {
-        if row + 1 < z.height {
+        if row + 1 < plan.height {
             return Move::To(column, row + 1);
         }
         return Move::Nowhere(65534);

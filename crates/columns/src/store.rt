@@ -42,7 +42,7 @@ pub fn change(numbers: &mut [u32], at: usize, v: u32, add: bool)
 // One pixel, into or out of the counts of block a and the guide sums of block b.
 pub fn count_pixel(
     file: &[u8],
-    z: Plan,
+    plan: Plan,
     numbers: &mut [u32],
     a: usize,
     b: usize,
@@ -50,16 +50,16 @@ pub fn count_pixel(
     y: usize,
     add: bool,
 )
-    requires { ⌜ Planned (now file) z ⌝ }
-    requires { ⌜ (x < z .width) × (y < z .height) ⌝ }
-    requires { ⌜ (a < 2 * z .width + 2) × (b < 2 * z .width + 2) × (2 * (z .width * z .levels) + 2 * z .levels ≤ length (now numbers)) ⌝ }
-    requires { ⌜ Able add (z .levels) (pixelD (frameOf (now file)) a b x y) (now numbers) ⌝ }
-    ensures { λ _. ⌜ Put add (z .levels) (pixelD (frameOf (now (file .entry))) a b x y) (now (numbers .entry)) (now (numbers .exit)) ⌝ }
+    requires { ⌜ Planned (now file) plan ⌝ }
+    requires { ⌜ (x < plan .width) × (y < plan .height) ⌝ }
+    requires { ⌜ (a < 2 * plan .width + 2) × (b < 2 * plan .width + 2) × (2 * (plan .width * plan .levels) + 2 * plan .levels ≤ length (now numbers)) ⌝ }
+    requires { ⌜ Able add (plan .levels) (pixelD (frameOf (now file)) a b x y) (now numbers) ⌝ }
+    ensures { λ _. ⌜ Put add (plan .levels) (pixelD (frameOf (now (file .entry))) a b x y) (now (numbers .entry)) (now (numbers .exit)) ⌝ }
 {
-    let l = z.levels;
-    let q = y * z.width + x;
-    let i = pixel::level_at(file, z, q);
-    let g = pixel::guide_at(file, z, q);
+    let l = plan.levels;
+    let q = y * plan.width + x;
+    let i = pixel::level_at(file, plan, q);
+    let g = pixel::guide_at(file, plan, q);
     let at = i.0 as usize;
     change(numbers, a * l + at, 1, add);
     change(numbers, b * l + at, g.0 as u32, add);
@@ -68,7 +68,7 @@ pub fn count_pixel(
 // Some pixels of row y, into or out of the blocks that lie so far apart from column to column.
 pub fn count_strip(
     file: &[u8],
-    z: Plan,
+    plan: Plan,
     numbers: &mut [u32],
     y: usize,
     a: usize,
@@ -78,34 +78,45 @@ pub fn count_strip(
     count: usize,
     add: bool,
 )
-    requires { ⌜ Planned (now file) z ⌝ }
-    requires { ⌜ (y < z .height) × (first + count ≤ z .width) × (2 * (z .width * z .levels) + 2 * z .levels ≤ length (now numbers)) ⌝ }
-    requires { ⌜ ((x : ℕ) → x < z .width → (a + x * apart < 2 * z .width + 2) × (b + x * apart < 2 * z .width + 2)) ⌝ }
-    requires { ⌜ Able add (z .levels) (stripD (frameOf (now file)) y a b apart first count) (now numbers) ⌝ }
-    ensures { λ _. ⌜ Put add (z .levels) (stripD (frameOf (now (file .entry))) y a b apart first count) (now (numbers .entry))
+    requires { ⌜ Planned (now file) plan ⌝ }
+    requires { ⌜ (y < plan .height) × (first + count ≤ plan .width) × (2 * (plan .width * plan .levels) + 2 * plan .levels ≤ length (now numbers)) ⌝ }
+    requires { ⌜ ((x : ℕ) → x < plan .width → (a + x * apart < 2 * plan .width + 2) × (b + x * apart < 2 * plan .width + 2)) ⌝ }
+    requires { ⌜ Able add (plan .levels) (stripD (frameOf (now file)) y a b apart first count) (now numbers) ⌝ }
+    ensures { λ _. ⌜ Put add (plan .levels) (stripD (frameOf (now (file .entry))) y a b apart first count) (now (numbers .entry))
         (now (numbers .exit)) ⌝ }
 {
     let mut k: usize = 0;
     while k < count {
         let x = first + k;
         let step = x * apart;
-        count_pixel(file, z, numbers, a + step, b + step, x, y, add);
+        count_pixel(file, plan, numbers, a + step, b + step, x, y, add);
         k += 1;
     }
 }
 
 // Row y, into or out of the store of a window at column s.
-pub fn count_row(file: &[u8], z: Plan, numbers: &mut [u32], s: usize, y: usize, add: bool)
-    requires { ⌜ Planned (now file) z ⌝ }
-    requires { ⌜ (s < z .width) × (y < z .height) × (2 * (z .width * z .levels) + 2 * z .levels ≤ length (now numbers)) ⌝ }
-    requires { ⌜ Able add (z .levels) (rowD (frameOf (now file)) s y) (now numbers) ⌝ }
-    ensures { λ _. ⌜ Put add (z .levels) (rowD (frameOf (now (file .entry))) s y) (now (numbers .entry)) (now (numbers .exit)) ⌝ }
+pub fn count_row(file: &[u8], plan: Plan, numbers: &mut [u32], s: usize, y: usize, add: bool)
+    requires { ⌜ Planned (now file) plan ⌝ }
+    requires { ⌜ (s < plan .width) × (y < plan .height) × (2 * (plan .width * plan .levels) + 2 * plan .levels ≤ length (now numbers)) ⌝ }
+    requires { ⌜ Able add (plan .levels) (rowD (frameOf (now file)) s y) (now numbers) ⌝ }
+    ensures { λ _. ⌜ Put add (plan .levels) (rowD (frameOf (now (file .entry))) s y) (now (numbers .entry)) (now (numbers .exit)) ⌝ }
 {
-    let w = z.width;
-    let left = line::low(s, z.radius);
-    let columns = line::span_of(s, z.radius, w);
-    count_strip(file, z, numbers, y, 0, w, 1, 0, w, add);
-    count_strip(file, z, numbers, y, 2 * w, 2 * w + 1, 0, left, columns, add);
+    let w = plan.width;
+    let left = line::low(s, plan.radius);
+    let columns = line::span_of(s, plan.radius, w);
+    count_strip(file, plan, numbers, y, 0, w, 1, 0, w, add);
+    count_strip(
+        file,
+        plan,
+        numbers,
+        y,
+        2 * w,
+        2 * w + 1,
+        0,
+        left,
+        columns,
+        add,
+    );
 }
 
 // The first n numbers to 0.
@@ -121,19 +132,19 @@ pub fn clear(numbers: &mut [u32], n: usize)
 }
 
 // The store of the window at (s, t), whatever was there before.
-pub fn start(file: &[u8], z: Plan, numbers: &mut [u32], s: usize, t: usize)
-    requires { ⌜ Planned (now file) z ⌝ }
-    requires { ⌜ (s < z .width) × (t < z .height) × (storeSize (frameOf (now file)) ≤ length (now numbers)) ⌝ }
+pub fn start(file: &[u8], plan: Plan, numbers: &mut [u32], s: usize, t: usize)
+    requires { ⌜ Planned (now file) plan ⌝ }
+    requires { ⌜ (s < plan .width) × (t < plan .height) × (storeSize (frameOf (now file)) ≤ length (now numbers)) ⌝ }
     ensures { λ _. ⌜ now (numbers .exit) ≡ columnStore (frameOf (now (file .entry))) s t
         ++ drop (storeSize (frameOf (now (file .entry)))) (now (numbers .entry)) ⌝ }
 {
-    let n = 2 * (z.width * z.levels) + 2 * z.levels;
+    let n = 2 * (plan.width * plan.levels) + 2 * plan.levels;
     clear(numbers, n);
-    let top = line::low(t, z.radius);
-    let rows = line::span_of(t, z.radius, z.height);
+    let top = line::low(t, plan.radius);
+    let rows = line::span_of(t, plan.radius, plan.height);
     let mut k: usize = 0;
     while k < rows {
-        count_row(file, z, numbers, s, top + k, true);
+        count_row(file, plan, numbers, s, top + k, true);
         k += 1;
     }
 }
@@ -164,35 +175,35 @@ pub fn exchange_of(c: usize, c2: usize, r: usize, size: usize) -> Exchange
 // Row y, where it is in the picture.
 pub fn count_row_if(
     file: &[u8],
-    z: Plan,
+    plan: Plan,
     numbers: &mut [u32],
     s: usize,
     y: usize,
     on: bool,
     add: bool,
 )
-    requires { ⌜ Planned (now file) z ⌝ }
-    requires { ⌜ (s < z .width) × (on ≡ true → y < z .height) × (2 * (z .width * z .levels) + 2 * z .levels ≤ length (now numbers)) ⌝ }
-    requires { ⌜ Able add (z .levels) (λ m i. when on (rowD (frameOf (now file)) s y m i)) (now numbers) ⌝ }
-    ensures { λ _. ⌜ Put add (z .levels) (λ m i. when on (rowD (frameOf (now (file .entry))) s y m i)) (now (numbers .entry))
+    requires { ⌜ Planned (now file) plan ⌝ }
+    requires { ⌜ (s < plan .width) × (on ≡ true → y < plan .height) × (2 * (plan .width * plan .levels) + 2 * plan .levels ≤ length (now numbers)) ⌝ }
+    requires { ⌜ Able add (plan .levels) (λ m i. when on (rowD (frameOf (now file)) s y m i)) (now numbers) ⌝ }
+    ensures { λ _. ⌜ Put add (plan .levels) (λ m i. when on (rowD (frameOf (now (file .entry))) s y m i)) (now (numbers .entry))
         (now (numbers .exit)) ⌝ }
 {
     if on {
-        count_row(file, z, numbers, s, y, add);
+        count_row(file, plan, numbers, s, y, add);
     }
 }
 
 // From row t to the neighbour t2: one row in, one row out.
-pub fn vertical(file: &[u8], z: Plan, numbers: &mut [u32], s: usize, t: usize, t2: usize)
-    requires { ⌜ Planned (now file) z ⌝ }
-    requires { ⌜ (s < z .width) × Neighbours t t2 (z .height) ⌝ }
+pub fn vertical(file: &[u8], plan: Plan, numbers: &mut [u32], s: usize, t: usize, t2: usize)
+    requires { ⌜ Planned (now file) plan ⌝ }
+    requires { ⌜ (s < plan .width) × Neighbours t t2 (plan .height) ⌝ }
     requires { ⌜ now numbers ≡ columnStore (frameOf (now file)) s t ++ drop (storeSize (frameOf (now file))) (now numbers) ⌝ }
     ensures { λ _. ⌜ now (numbers .exit) ≡ columnStore (frameOf (now (file .entry))) s t2
         ++ drop (storeSize (frameOf (now (file .entry)))) (now (numbers .entry)) ⌝ }
 {
-    let d = exchange_of(t, t2, z.radius, z.height);
-    count_row_if(file, z, numbers, s, d.entering, d.enters, true);
-    count_row_if(file, z, numbers, s, d.leaving, d.leaves, false);
+    let d = exchange_of(t, t2, plan.radius, plan.height);
+    count_row_if(file, plan, numbers, s, d.entering, d.enters, true);
+    count_row_if(file, plan, numbers, s, d.leaving, d.leaves, false);
 }
 
 // A number, or 0.
@@ -254,17 +265,17 @@ pub fn sideways(numbers: &mut [u32], w: usize, l: usize, d: Exchange)
 }
 
 // From (s, t) to the neighbour (s2, t2).
-pub fn slide(file: &[u8], z: Plan, numbers: &mut [u32], s: usize, t: usize, s2: usize, t2: usize)
-    requires { ⌜ Planned (now file) z ⌝ }
-    requires { ⌜ Adjacent z s t s2 t2 ⌝ }
+pub fn slide(file: &[u8], plan: Plan, numbers: &mut [u32], s: usize, t: usize, s2: usize, t2: usize)
+    requires { ⌜ Planned (now file) plan ⌝ }
+    requires { ⌜ Adjacent plan s t s2 t2 ⌝ }
     requires { ⌜ now numbers ≡ columnStore (frameOf (now file)) s t ++ drop (storeSize (frameOf (now file))) (now numbers) ⌝ }
     ensures { λ _. ⌜ now (numbers .exit) ≡ columnStore (frameOf (now (file .entry))) s2 t2
         ++ drop (storeSize (frameOf (now (file .entry)))) (now (numbers .entry)) ⌝ }
 {
     if s == s2 {
-        vertical(file, z, numbers, s, t, t2);
+        vertical(file, plan, numbers, s, t, t2);
         return;
     }
-    let d = exchange_of(s, s2, z.radius, z.width);
-    sideways(numbers, z.width, z.levels, d);
+    let d = exchange_of(s, s2, plan.radius, plan.width);
+    sideways(numbers, plan.width, plan.levels, d);
 }

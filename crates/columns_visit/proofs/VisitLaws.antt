@@ -115,7 +115,7 @@ pub visited : (p : Frame) (s t c n : ℕ) (a : Sums) (f : Found) (v : Visit) (xs
 visited p s t c n a f v xs ys e q h m =
     subst (λ (v : Visit). ColumnsVisited p (arrive p s t c n) xs v ys) (sym e)
     (record {
-      state = state-is p s t c n (f .level) (f .shifts) (f .level) (running a f) (h .cut) (h .shifts) (h .said);
+      state = state-is p s t c n (f .level) (f .shifts) (f .level) (running a f) (h .cut) (h .shifts) (h .answer);
       sums = q;
       below = h .below;
       store = made p s t xs ys m;

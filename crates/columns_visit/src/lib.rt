@@ -32,15 +32,15 @@ ghost use Rattle.columns_visit.specs.Visit.{windowCounts, windowGuides, 
 pub fn answer_from(
     plan: Plan,
     numbers: &[u32],
-    k: Coefficients,
+    coefficients: Coefficients,
     monotone: bool,
     below: Tally,
     cut: Level,
     shifts: u64,
 ) -> Found
     requires { ⌜ (plan .width ≤ 1024) × (plan .levels ≤ 1024) × (2 * (plan .width * plan .levels) + 2 * plan .levels ≤ length (now numbers)) ⌝ }
-    requires { ⌜ Answerable k (plan .guides) monotone (cut .0) shifts below (windowCounts plan (now numbers)) (windowGuides plan (now numbers)) ⌝ }
-    ensures { λ f. ⌜ (FoundAt k (windowCounts plan (now (numbers .entry))) (windowGuides plan (now (numbers .entry))) f)
+    requires { ⌜ Answerable coefficients (plan .guides) monotone (cut .0) shifts below (windowCounts plan (now numbers)) (windowGuides plan (now numbers)) ⌝ }
+    ensures { λ f. ⌜ (FoundAt coefficients (windowCounts plan (now (numbers .entry))) (windowGuides plan (now (numbers .entry))) f)
         × (f .shifts ≡ shifts + (if monotone then distance (f .level .0) (cut .0) else f .level .0)) ⌝ }
 {
     let l = plan.levels;
@@ -50,7 +50,7 @@ pub fn answer_from(
     answer::answer(
         &numbers[at..middle],
         &numbers[middle..last],
-        k,
+        coefficients,
         plan.guides,
         monotone,
         below,
@@ -69,9 +69,9 @@ pub fn enter(file: &[u8], plan: Plan, column: usize, row: usize, numbers: &mut [
 {
     store::start(file, plan, numbers, column, row);
     let sums = sums::start(file, plan, column, row);
-    let k = coefficients::of_window(file, plan, sums, column, row);
+    let coefficients = coefficients::of_window(file, plan, sums, column, row);
     let none = Tally { count: 0, sum: 0 };
-    let found = answer_from(plan, numbers, k, false, none, Level(0), 0);
+    let found = answer_from(plan, numbers, coefficients, false, none, Level(0), 0);
     let level = found.level;
     let below = found.tally;
     let free = FreeList { head: 0, count: 0 };
@@ -105,11 +105,19 @@ pub fn slide(
     let earlier = known.below;
     let cut = from.cut;
     let sums = sums::moved(former, &entering[0..n], &leaving[0..m]);
-    let k = coefficients::of_window(file, plan, sums, column, row);
-    let monotone = coefficients::monotone(plan, k);
+    let coefficients = coefficients::of_window(file, plan, sums, column, row);
+    let monotone = coefficients::monotone(plan, coefficients);
     let end = cut.0 as usize + 1;
     let tally = tally::carried_where(monotone, earlier, &entering[0..n], &leaving[0..m], end);
-    let found = answer_from(plan, numbers, k, monotone, tally, cut, from.shifts);
+    let found = answer_from(
+        plan,
+        numbers,
+        coefficients,
+        monotone,
+        tally,
+        cut,
+        from.shifts,
+    );
     let level = found.level;
     let below = found.tally;
     let free = FreeList { head: 0, count: 0 };

@@ -180,7 +180,7 @@ least-answer k = record { least = λ light some i. minimum k light some i .0; lo
 both-answer : {p : Frame} {s t : ℕ} → Pixel p s t → LowestLevel p s t (answer p s t) × Minimises p s t (answer p s t)
 both-answer k = (lowest-answer k, least-answer k)
 
-answered : {p : Frame} {x : State} {n : ℕ} → Held p x n → (byte : ℕ) → Answered p x byte (step p x byte .said)
+answered : {p : Frame} {x : State} {n : ℕ} → Held p x n → (byte : ℕ) → Answered p x byte (step p x byte .answer)
 answered {p} {x} {n} k byte =
     record {
       moved = λ s t e. subst (λ (m : ℕ). LowestLevel p s t m × Minimises p s t m) (sym (step-level p x byte s t e)) (both-answer (pixel-to s t e));

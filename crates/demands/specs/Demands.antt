@@ -36,19 +36,19 @@ use Rattle.demands.specs.Table.{walkRows, filterRows, balanceRows, write
 -- a walk is refused by the outcome's number and values, with every buffer as it was, or it is walked to the end
 abbrev pub WalkedOrRefused : Type 0
 WalkedOrRefused =
-    (b : List ℕ) (way s t : ℕ) (moves : List ℕ) (a z : Stores) (before after : List ℕ) (r : Walked) → Walks b way s t moves a z before after r
+    (b : List ℕ) (way s t : ℕ) (moves : List ℕ) (before after : Stores) (old new : List ℕ) (r : Walked) → Walks b way s t moves before after old new r
     → ((r .verdict ≡ Accepted)
-    × Ended (wayOf way) (frameOf b) (walkEnd (frameOf b) s t moves) a z (walkAnswers (frameOf b) s t moves ++ drop (length moves + 1) before) after r)
-    ⊎ ((n : ℕ) × (l : List ℕ) × (numbered (r .verdict) ≡ refused n l) × (walkOutcome b way s t (length moves) (lent a) (length before) ≡ refused n l)
-    × Untouched a z before after r)
+    × Ended (wayOf way) (frameOf b) (walkEnd (frameOf b) s t moves) before after (walkAnswers (frameOf b) s t moves ++ drop (length moves + 1) old) new r)
+    ⊎ ((n : ℕ) × (l : List ℕ) × (numbered (r .verdict) ≡ refused n l) × (walkOutcome b way s t (length moves) (lent before) (length old) ≡ refused n l)
+    × Untouched before after old new r)
 
 abbrev pub FilteredOrRefused : Type 0
 FilteredOrRefused =
-    (b : List ℕ) (way : ℕ) (a z : Stores) (before after : List ℕ) (r : Walked) → Filters b way a z before after r
-    → ((r .verdict ≡ Accepted) × Ended (wayOf way) (frameOf b) (filterEnd (frameOf b)) a z (filtered (frameOf b)
-    ++ drop (pixels (frameOf b .set)) before) after r)
-    ⊎ ((n : ℕ) × (l : List ℕ) × (numbered (r .verdict) ≡ refused n l) × (filterOutcome b way (lent a) (length before) ≡ refused n l)
-    × Untouched a z before after r)
+    (b : List ℕ) (way : ℕ) (before after : Stores) (old new : List ℕ) (r : Walked) → Filters b way before after old new r
+    → ((r .verdict ≡ Accepted) × Ended (wayOf way) (frameOf b) (filterEnd (frameOf b)) before after (filtered (frameOf b)
+    ++ drop (pixels (frameOf b .set)) old) new r)
+    ⊎ ((n : ℕ) × (l : List ℕ) × (numbered (r .verdict) ≡ refused n l) × (filterOutcome b way (lent before) (length old) ≡ refused n l)
+    × Untouched before after old new r)
 
 -- a balance, which is lent nothing
 abbrev pub BalancedOrRefused : Type 0
@@ -60,16 +60,16 @@ BalancedOrRefused =
 -- a writing: the file and then the rest of the output, or the output as it was
 abbrev pub WrittenOrRefused : Type 0
 WrittenOrRefused =
-    (k : Settings) (v g a old : List ℕ) (r : Written) (new : List ℕ) → Writes k v g a old r new
-    → ((r ≡ Length (writtenSize k (length a))) × (new ≡ written k v g a ++ drop (length (written k v g a)) old))
-    ⊎ ((n : ℕ) × (l : List ℕ) × (reported r ≡ declined n l) × (writerOutcome k v g a (length old) ≡ refused n l) × (new ≡ old))
+    (settings : Settings) (v g a old : List ℕ) (r : Written) (new : List ℕ) → Writes settings v g a old r new
+    → ((r ≡ Length (writtenSize settings (length a))) × (new ≡ written settings v g a ++ drop (length (written settings v g a)) old))
+    ⊎ ((n : ℕ) × (l : List ℕ) × (reported r ≡ declined n l) × (writerOutcome settings v g a (length old) ≡ refused n l) × (new ≡ old))
 
 -- the table of refusals: each number exactly if its row fires and no row before it does
 pub record EachNumber : Type 0 where
   pub walk : (b : List ℕ) (way s t n : ℕ) (have : Room) (out : ℕ) → ByTable (walkRows b way s t n have out) (walkOutcome b way s t n have out)
   pub filter : (b : List ℕ) (way : ℕ) (have : Room) (out : ℕ) → ByTable (filterRows b way have out) (filterOutcome b way have out)
   pub balance : (b : List ℕ) (s t i : ℕ) → ByTable (balanceRows b s t i) (balanceOutcome b s t i)
-  pub writer : (k : Settings) (v g a : List ℕ) (room : ℕ) → ByTable (writerRows k v g a room) (writerOutcome k v g a room)
+  pub writer : (settings : Settings) (v g a : List ℕ) (room : ℕ) → ByTable (writerRows settings v g a room) (writerOutcome settings v g a room)
 
 pub record Demand1 : Type 0 where
   pub walk : WalkedOrRefused
@@ -90,12 +90,12 @@ pub record LowestLevel (p : Frame) (s t m : ℕ) : Type 0 where
 -- every pixel of a filtered frame
 abbrev pub EveryPixel : Type 0
 EveryPixel =
-    (b : List ℕ) (way : ℕ) (a z : Stores) (before after : List ℕ) (r : Walked) → Filters b way a z before after r → r .verdict ≡ Accepted
-    → (s t : ℕ) → s < frameOf b .set .width → t < frameOf b .set .height → LowestLevel (frameOf b) s t (getD after (t * frameOf b .set .width + s) 0)
+    (b : List ℕ) (way : ℕ) (before after : Stores) (old new : List ℕ) (r : Walked) → Filters b way before after old new r → r .verdict ≡ Accepted
+    → (s t : ℕ) → s < frameOf b .set .width → t < frameOf b .set .height → LowestLevel (frameOf b) s t (getD new (t * frameOf b .set .width + s) 0)
 
 -- the first n bytes of the output of a writer that answers n: accepted, and the settings, planes and table as given
 abbrev pub ReadsBack : Type 0
-ReadsBack = (k : Settings) (v g a old : List ℕ) (n : ℕ) (new : List ℕ) → Writes k v g a old (Length n) new → Returned k v g a (take n new)
+ReadsBack = (settings : Settings) (v g a old : List ℕ) (n : ℕ) (new : List ℕ) → Writes settings v g a old (Length n) new → Returned settings v g a (take n new)
 
 pub record Demand2 : Type 0 where
   pub filter : EveryPixel
@@ -125,24 +125,24 @@ pub record Answered (p : Frame) (x : State) (byte m : ℕ) : Type 0 where
 
 -- what two walks on the same file, start and list have, whatever their ways and stores: one answer for the start and one for each byte, the same
 -- in both
-pub record Agreed (p : Frame) (s t : ℕ) (moves after after′ : List ℕ) (r r′ : Walked) : Type 0 where
+pub record Agreed (p : Frame) (s t : ℕ) (moves new new′ : List ℕ) (r r′ : Walked) : Type 0 where
   pub shifts : r .shifts ≡ r′ .shifts
-  pub answers : take (length moves + 1) after ≡ take (length moves + 1) after′
-  pub first : LowestLevel p s t (getD after 0 0) × Minimises p s t (getD after 0 0)
-  pub next : (j : ℕ) → j < length moves → Answered p (walkEnd p s t (take j moves)) (getD moves j 0) (getD after (j + 1) 0)
+  pub answers : take (length moves + 1) new ≡ take (length moves + 1) new′
+  pub first : LowestLevel p s t (getD new 0 0) × Minimises p s t (getD new 0 0)
+  pub next : (j : ℕ) → j < length moves → Answered p (walkEnd p s t (take j moves)) (getD moves j 0) (getD new (j + 1) 0)
   pub distances : r .shifts ≡ adds p s t 0 + sum (addedAt p (start p s t) moves) 0 (length moves)
 
 abbrev pub AllWaysAgree : Type 0
 AllWaysAgree =
-    (b : List ℕ) (s t : ℕ) (moves : List ℕ) (way way′ : ℕ) (a z a′ z′ : Stores) (before after before′ after′ : List ℕ) (r r′ : Walked)
-    → Walks b way s t moves a z before after r → Walks b way′ s t moves a′ z′ before′ after′ r′ → r .verdict ≡ Accepted → r′ .verdict ≡ Accepted
-    → Agreed (frameOf b) s t moves after after′ r r′
+    (b : List ℕ) (s t : ℕ) (moves : List ℕ) (way way′ : ℕ) (before after before′ after′ : Stores) (old new old′ new′ : List ℕ) (r r′ : Walked)
+    → Walks b way s t moves before after old new r → Walks b way′ s t moves before′ after′ old′ new′ r′ → r .verdict ≡ Accepted → r′ .verdict ≡ Accepted
+    → Agreed (frameOf b) s t moves new new′ r r′
 
 -- every pixel of a filtered frame
 abbrev pub FilterMinimises : Type 0
 FilterMinimises =
-    (b : List ℕ) (way : ℕ) (a z : Stores) (before after : List ℕ) (r : Walked) → Filters b way a z before after r → r .verdict ≡ Accepted
-    → (s t : ℕ) → s < frameOf b .set .width → t < frameOf b .set .height → Minimises (frameOf b) s t (getD after (t * frameOf b .set .width + s) 0)
+    (b : List ℕ) (way : ℕ) (before after : Stores) (old new : List ℕ) (r : Walked) → Filters b way before after old new r → r .verdict ≡ Accepted
+    → (s t : ℕ) → s < frameOf b .set .width → t < frameOf b .set .height → Minimises (frameOf b) s t (getD new (t * frameOf b .set .width + s) 0)
 
 pub record Demand3 : Type 0 where
   pub agree : AllWaysAgree

@@ -37,11 +37,11 @@ abbrev pub balanceRows : List ℕ → ℕ → ℕ → ℕ → List Outcome
 balanceRows b s t i = fileRows b (accepted ∷ refuse 9 (badPixel (settingsOf b) s t || not (ltb i (settingsOf b .levels))) ∷ [])
 
 abbrev pub writerRows : Settings → List ℕ → List ℕ → List ℕ → ℕ → List Outcome
-writerRows k v g a room =
-    accepted ∷ refuse 2 (badSize k) ∷ refuse 3 (badCounts k) ∷ refuse 4 (badKind k) ∷ refuse 5 (badRadius k)
-    ∷ refuse 6 (badLength k (length v) (length g) (length a))
-    ∷ (scanList v (k .levels) 0 ▷ scanList g (k .guides) (2 * pixels k) ▷ scanList a (heaviest + 1) (4 * pixels k))
-    ∷ accepted ∷ accepted ∷ accepted ∷ refuse 11 (ltb room (writtenSize k (length a))) ∷ []
+writerRows settings v g a room =
+    accepted ∷ refuse 2 (badSize settings) ∷ refuse 3 (badCounts settings) ∷ refuse 4 (badKind settings) ∷ refuse 5 (badRadius settings)
+    ∷ refuse 6 (badLength settings (length v) (length g) (length a))
+    ∷ (scanList v (settings .levels) 0 ▷ scanList g (settings .guides) (2 * pixels settings) ▷ scanList a (heaviest + 1) (4 * pixels settings))
+    ∷ accepted ∷ accepted ∷ accepted ∷ refuse 11 (ltb room (writtenSize settings (length a))) ∷ []
 
 -- a number is given, with its values, exactly if its row fires and no row before it does; there is no number 0; and the outcome is accepted exactly
 -- if no row fires

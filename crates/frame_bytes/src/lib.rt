@@ -44,17 +44,17 @@ pub fn put_all(out: &mut [u8], at: usize, list: &[u16])
 }
 
 // The trailer's first 12 bytes.
-pub fn put_fields(out: &mut [u8], at: usize, k: Settings)
+pub fn put_fields(out: &mut [u8], at: usize, settings: Settings)
     requires { ⌜ at + 12 ≤ length (now out) ⌝ }
-    ensures { λ _. ⌜ now (out .exit) ≡ sets (now (out .entry)) at (fieldBytes k) ⌝ }
+    ensures { λ _. ⌜ now (out .exit) ≡ sets (now (out .entry)) at (fieldBytes settings) ⌝ }
 {
-    put16(out, at, k.width);
-    put16(out, at + 2, k.height);
-    put16(out, at + 4, k.levels);
-    put16(out, at + 6, k.guides);
-    put8(out, at + 8, k.kind);
-    put8(out, at + 9, k.radius);
-    put16(out, at + 10, k.smoothing);
+    put16(out, at, settings.width);
+    put16(out, at + 2, settings.height);
+    put16(out, at + 4, settings.levels);
+    put16(out, at + 6, settings.guides);
+    put8(out, at + 8, settings.kind);
+    put8(out, at + 9, settings.radius);
+    put16(out, at + 10, settings.smoothing);
 }
 
 // The last 16, with a table of n weights and planes of p pixels.

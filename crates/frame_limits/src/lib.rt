@@ -24,69 +24,69 @@ fn outside(low: usize, high: usize, n: usize) -> bool
     high < n
 }
 
-fn bad_size(k: Settings) -> bool
-    ensures { λ r. ⌜ r ≡ badSize k ⌝ }
+fn bad_size(settings: Settings) -> bool
+    ensures { λ r. ⌜ r ≡ badSize settings ⌝ }
 {
-    if outside(1, 1024, k.width as usize) {
+    if outside(1, 1024, settings.width as usize) {
         return true;
     }
-    if outside(1, 1024, k.height as usize) {
+    if outside(1, 1024, settings.height as usize) {
         return true;
     }
-    262144 < product(k.width, k.height)
+    262144 < product(settings.width, settings.height)
 }
 
-fn bad_counts(k: Settings) -> bool
-    ensures { λ r. ⌜ r ≡ badCounts k ⌝ }
+fn bad_counts(settings: Settings) -> bool
+    ensures { λ r. ⌜ r ≡ badCounts settings ⌝ }
 {
-    if outside(2, 1024, k.levels as usize) {
+    if outside(2, 1024, settings.levels as usize) {
         return true;
     }
-    outside(2, 256, k.guides as usize)
+    outside(2, 256, settings.guides as usize)
 }
 
-fn bad_kind(k: Settings) -> bool
-    ensures { λ r. ⌜ r ≡ badKind k ⌝ }
+fn bad_kind(settings: Settings) -> bool
+    ensures { λ r. ⌜ r ≡ badKind settings ⌝ }
 {
-    if k.kind == 1 {
-        return k.smoothing != 0;
+    if settings.kind == 1 {
+        return settings.smoothing != 0;
     }
-    if k.kind == 2 {
-        return outside(1, 65025, k.smoothing as usize);
+    if settings.kind == 2 {
+        return outside(1, 65025, settings.smoothing as usize);
     }
     true
 }
 
 // Checks 2 to 5, which the writer shares.
-pub fn check_settings(k: Settings) -> Verdict
-    ensures { λ r. ⌜ numbered r ≡ settingsOutcome k ⌝ }
+pub fn check_settings(settings: Settings) -> Verdict
+    ensures { λ r. ⌜ numbered r ≡ settingsOutcome settings ⌝ }
 {
-    if bad_size(k) {
+    if bad_size(settings) {
         return Verdict::Refused(Refusal::Size);
     }
-    if bad_counts(k) {
+    if bad_counts(settings) {
         return Verdict::Refused(Refusal::Counts);
     }
-    if bad_kind(k) {
+    if bad_kind(settings) {
         return Verdict::Refused(Refusal::Kind);
     }
-    if 15 < k.radius {
+    if 15 < settings.radius {
         return Verdict::Refused(Refusal::Radius);
     }
     Verdict::Accepted
 }
 
 // The bytes of a plane, of a table.
-pub fn plane_bytes(k: Settings) -> usize
-    ensures { λ r. ⌜ (r ≡ 2 * pixels k) × (r < 8589934592) ⌝ }
+pub fn plane_bytes(settings: Settings) -> usize
+    ensures { λ r. ⌜ (r ≡ 2 * pixels settings) × (r < 8589934592) ⌝ }
 {
-    2 * product(k.width, k.height)
+    2 * product(settings.width, settings.height)
 }
 
-fn table_bytes(k: Settings) -> usize
-    ensures { λ r. ⌜ (r ≡ 2 * tableSize k) × (r < 8589934592) ⌝ }
+fn table_bytes(settings: Settings) -> usize
+    ensures { λ r. ⌜ (r ≡ 2 * tableSize settings) × (r < 8589934592) ⌝ }
 {
-    2 * product(k.guides, k.guides)
+    2 * product(settings.guides, settings.guides)
 }
 
 // Check 6, of a trailer that begins at byte at.

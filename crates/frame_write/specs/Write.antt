@@ -33,35 +33,35 @@ reportOf accepted n = wrote n
 reportOf (refused m l) n = declined m l
 
 -- the writer's answer and the output, before and after, for every input
-pub record Writes (k : Settings) (v g a old : List ℕ) (r : Written) (new : List ℕ) : Type 0 where
-  pub answer : reported r ≡ reportOf (writerOutcome k v g a (length old)) (writtenSize k (length a))
-  pub output : new ≡ stored (writerOutcome k v g a (length old)) (written k v g a) old
+pub record Writes (settings : Settings) (v g a old : List ℕ) (r : Written) (new : List ℕ) : Type 0 where
+  pub answer : reported r ≡ reportOf (writerOutcome settings v g a (length old)) (writtenSize settings (length a))
+  pub output : new ≡ stored (writerOutcome settings v g a (length old)) (written settings v g a) old
 
 -- what an accepted writing has: planes and a table of the right length, and room
-pub record Fit (k : Settings) (v g a : List ℕ) (room : ℕ) : Type 0 where
-  pub few : pixels k ≤ 262144
-  pub values : length v ≡ pixels k
-  pub guides : length g ≡ pixels k
+pub record Fit (settings : Settings) (v g a : List ℕ) (room : ℕ) : Type 0 where
+  pub few : pixels settings ≤ 262144
+  pub values : length v ≡ pixels settings
+  pub guides : length g ≡ pixels settings
   pub table : length a ≤ 65536
-  pub space : writtenSize k (length a) ≤ room
+  pub space : writtenSize settings (length a) ≤ room
 
 -- a file that is accepted and from which the settings, the planes and the table are read back: as the parts that an opened frame shows, and as the
 -- numbers that the frame has; the built-in weights for an empty table
-pub record Returned (k : Settings) (v g a b : List ℕ) : Type 0 where
+pub record Returned (wanted : Settings) (v g a b : List ℕ) : Type 0 where
   pub accepts : verdict b ≡ accepted
-  pub settings : settingsOf b ≡ k
+  pub settings : settingsOf b ≡ wanted
   pub values : valuePart b ≡ all16 v
   pub guides : guidePart b ≡ all16 g
-  pub level-at : (j : ℕ) → j < pixels k → pixelLevel b j ≡ getD v j 0
-  pub guide-at : (j : ℕ) → j < pixels k → pixelGuide b j ≡ getD g j 0
-  pub weight-at : (f e : ℕ) → f < k .guides → e < k .guides → table (frameOf b) f e
-      ≡ (if eqb (length a) 0 then builtIn f e else getD a (f * k .guides + e) 0)
+  pub level-at : (j : ℕ) → j < pixels wanted → pixelLevel b j ≡ getD v j 0
+  pub guide-at : (j : ℕ) → j < pixels wanted → pixelGuide b j ≡ getD g j 0
+  pub weight-at : (f e : ℕ) → f < wanted .guides → e < wanted .guides → table (frameOf b) f e
+      ≡ (if eqb (length a) 0 then builtIn f e else getD a (f * wanted .guides + e) 0)
   pub table : tablePart b ≡ all16 a
 
 -- what opening that file says, by the contract of opening
-pub record Reopened (k : Settings) (v g a b : List ℕ) (h : Head) : Type 0 where
+pub record Reopened (wanted : Settings) (v g a b : List ℕ) (h : Head) : Type 0 where
   pub accepts : h .verdict ≡ Accepted
-  pub settings : h .trailer .settings ≡ k
+  pub settings : h .trailer .settings ≡ wanted
   pub values : planeOf Values b (h .trailer) ≡ all16 v
   pub guides : planeOf Guides b (h .trailer) ≡ all16 g
   pub table : planeOf Table b (h .trailer) ≡ all16 a

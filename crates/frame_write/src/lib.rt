@@ -25,10 +25,10 @@ pub enum Written {
 }
 
 // Check 6: a plane of the wrong length, or a table that is neither empty nor, in kind 1, M·M.
-fn bad_length(k: Settings, v: usize, g: usize, a: usize) -> bool
-    ensures { λ r. ⌜ r ≡ badLength k v g a ⌝ }
+fn bad_length(settings: Settings, v: usize, g: usize, a: usize) -> bool
+    ensures { λ r. ⌜ r ≡ badLength settings v g a ⌝ }
 {
-    let p = product(k.width, k.height);
+    let p = product(settings.width, settings.height);
     if v != p {
         return true;
     }
@@ -38,10 +38,10 @@ fn bad_length(k: Settings, v: usize, g: usize, a: usize) -> bool
     if a == 0 {
         return false;
     }
-    if k.kind != 1 {
+    if settings.kind != 1 {
         return true;
     }
-    let c = product(k.guides, k.guides);
+    let c = product(settings.guides, settings.guides);
     a != c
 }
 
@@ -61,22 +61,28 @@ fn scan_list(list: &[u16], limit: u16, offset: usize) -> Verdict
 }
 
 // Checks 2 to 7 and 11 of what is to be written into an output of room bytes.
-fn check_writing(k: Settings, values: &[u16], guides: &[u16], table: &[u16], room: usize) -> Verdict
-    ensures { λ r. ⌜ numbered r ≡ writerOutcome k (now (values .entry)) (now (guides .entry)) (now (table .entry)) room ⌝ }
+fn check_writing(
+    settings: Settings,
+    values: &[u16],
+    guides: &[u16],
+    table: &[u16],
+    room: usize,
+) -> Verdict
+    ensures { λ r. ⌜ numbered r ≡ writerOutcome settings (now (values .entry)) (now (guides .entry)) (now (table .entry)) room ⌝ }
 {
-    let s = check_settings(k);
+    let s = check_settings(settings);
     if stops(s) {
         return s;
     }
-    if bad_length(k, values.len(), guides.len(), table.len()) {
+    if bad_length(settings, values.len(), guides.len(), table.len()) {
         return Verdict::Refused(Refusal::Distance);
     }
-    let p = product(k.width, k.height);
-    let v = scan_list(values, k.levels, 0);
+    let p = product(settings.width, settings.height);
+    let v = scan_list(values, settings.levels, 0);
     if stops(v) {
         return v;
     }
-    let g = scan_list(guides, k.guides, 2 * p);
+    let g = scan_list(guides, settings.guides, 2 * p);
     if stops(g) {
         return g;
     }
@@ -101,9 +107,9 @@ fn answer(v: Verdict, n: usize) -> Written
 }
 
 // The whole file.
-fn put_file(out: &mut [u8], k: Settings, values: &[u16], guides: &[u16], table: &[u16])
-    requires { ⌜ Fit k (now values) (now guides) (now table) (length (now out)) ⌝ }
-    ensures { λ _. ⌜ now (out .exit) ≡ sets (now (out .entry)) 0 (written k (now (values .entry)) (now (guides .entry)) (now (table .entry))) ⌝ }
+fn put_file(out: &mut [u8], settings: Settings, values: &[u16], guides: &[u16], table: &[u16])
+    requires { ⌜ Fit settings (now values) (now guides) (now table) (length (now out)) ⌝ }
+    ensures { λ _. ⌜ now (out .exit) ≡ sets (now (out .entry)) 0 (written settings (now (values .entry)) (now (guides .entry)) (now (table .entry))) ⌝ }
 {
     let p = values.len();
     let n = table.len();
@@ -111,25 +117,25 @@ fn put_file(out: &mut [u8], k: Settings, values: &[u16], guides: &[u16], table: 
     put_all(out, 2 * p, guides);
     put_all(out, 4 * p, table);
     let at = 4 * p + 2 * n;
-    put_fields(out, at, k);
+    put_fields(out, at, settings);
     put_distances(out, at + 12, n, p);
 }
 
 // Writes value plane, guide plane, table and trailer without gaps from the output's first byte; an empty table means the built-in weights.
 pub fn write(
-    k: Settings,
+    settings: Settings,
     values: &[u16],
     guides: &[u16],
     table: &[u16],
     output: &mut [u8],
 ) -> Written
-    ensures { λ r. ⌜ Writes k (now (values .entry)) (now (guides .entry)) (now (table .entry)) (now (output .entry)) r (now (output .exit)) ⌝ }
+    ensures { λ r. ⌜ Writes settings (now (values .entry)) (now (guides .entry)) (now (table .entry)) (now (output .entry)) r (now (output .exit)) ⌝ }
 {
-    let verdict = check_writing(k, values, guides, table, output.len());
+    let verdict = check_writing(settings, values, guides, table, output.len());
     if stops(verdict) {
         return answer(verdict, 0);
     }
-    put_file(output, k, values, guides, table);
+    put_file(output, settings, values, guides, table);
     let size = 4 * values.len() + 2 * table.len() + 28;
     answer(verdict, size)
 }

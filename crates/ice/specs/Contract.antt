@@ -19,42 +19,42 @@ use Rattle.ice.specs.declared.Balanced.{Balanced}
 use Rattle.ways.specs.Visit.{Stores, lent}
 
 -- a refused call: zeros in the result, and every buffer as it was
-pub record Untouched (a z : Stores) (before after : List ℕ) (r : Walked) : Type 0 where
+pub record Untouched (before after : Stores) (old new : List ℕ) (r : Walked) : Type 0 where
   pub shifts : r .shifts ≡ 0
   pub cut : r .cut .0 ≡ 0
   pub cells : r .cells ≡ zeros
-  pub counts : z .counts ≡ a .counts
-  pub words : z .words ≡ a .words
-  pub numbers : z .numbers ≡ a .numbers
-  pub answers : after ≡ before
+  pub counts : after .counts ≡ before .counts
+  pub words : after .words ≡ before .words
+  pub numbers : after .numbers ≡ before .numbers
+  pub answers : new ≡ old
 
 -- a call that ended at the state x, in a frame p: the way's stores for its window, then what lay beyond; the other stores as they were
 -- (`countsOf`, `wordsOf` are empty and `roomOf` is 0 for a store that the way does not use); and the list that the answers are to be
-pub record Ended (way : Way) (p : Frame) (x : State) (a z : Stores) (due after : List ℕ) (r : Walked) : Type 0 where
+pub record Ended (way : Way) (p : Frame) (x : State) (before after : Stores) (due new : List ℕ) (r : Walked) : Type 0 where
   pub shifts : r .shifts ≡ x .shifts
   pub cut : r .cut .0 ≡ x .cut
   pub cells : r .cells ≡ boxOf way p (x .column) (x .row) (x .cut)
-  pub counts : z .counts ≡ countsOf way p (x .column) (x .row) ++ drop (roomOf way (p .set) .counts) (a .counts)
-  pub words : z .words ≡ wordsOf way p (x .column) (x .row) ++ drop (roomOf way (p .set) .words) (a .words)
-  pub numbers : NumbersOf way p (x .column) (x .row) (z .numbers)
-  pub numbers-long : length (z .numbers) ≡ length (a .numbers)
-  pub numbers-rest : drop (roomOf way (p .set) .numbers) (z .numbers) ≡ drop (roomOf way (p .set) .numbers) (a .numbers)
-  pub answers : after ≡ due
+  pub counts : after .counts ≡ countsOf way p (x .column) (x .row) ++ drop (roomOf way (p .set) .counts) (before .counts)
+  pub words : after .words ≡ wordsOf way p (x .column) (x .row) ++ drop (roomOf way (p .set) .words) (before .words)
+  pub numbers : NumbersOf way p (x .column) (x .row) (after .numbers)
+  pub numbers-long : length (after .numbers) ≡ length (before .numbers)
+  pub numbers-rest : drop (roomOf way (p .set) .numbers) (after .numbers) ≡ drop (roomOf way (p .set) .numbers) (before .numbers)
+  pub answers : new ≡ due
 
 -- walk: of the file's bytes b, the way's number, the start (s, t), the list of moves, and the stores and answers before and after
-pub record Walks (b : List ℕ) (way s t : ℕ) (moves : List ℕ) (a z : Stores) (before after : List ℕ) (r : Walked) : Type 0 where
-  pub verdict : numbered (r .verdict) ≡ walkOutcome b way s t (length moves) (lent a) (length before)
-  pub refused : (walkOutcome b way s t (length moves) (lent a) (length before) ≡ accepted → ⊥) → Untouched a z before after r
-  pub walked : walkOutcome b way s t (length moves) (lent a) (length before) ≡ accepted
-      → Ended (wayOf way) (frameOf b) (walkEnd (frameOf b) s t moves) a z (walkAnswers (frameOf b) s t moves
-      ++ drop (length moves + 1) before) after r
+pub record Walks (b : List ℕ) (way s t : ℕ) (moves : List ℕ) (before after : Stores) (old new : List ℕ) (r : Walked) : Type 0 where
+  pub verdict : numbered (r .verdict) ≡ walkOutcome b way s t (length moves) (lent before) (length old)
+  pub refused : (walkOutcome b way s t (length moves) (lent before) (length old) ≡ accepted → ⊥) → Untouched before after old new r
+  pub walked : walkOutcome b way s t (length moves) (lent before) (length old) ≡ accepted
+      → Ended (wayOf way) (frameOf b) (walkEnd (frameOf b) s t moves) before after (walkAnswers (frameOf b) s t moves
+      ++ drop (length moves + 1) old) new r
 
 -- filter
-pub record Filters (b : List ℕ) (way : ℕ) (a z : Stores) (before after : List ℕ) (r : Walked) : Type 0 where
-  pub verdict : numbered (r .verdict) ≡ filterOutcome b way (lent a) (length before)
-  pub refused : (filterOutcome b way (lent a) (length before) ≡ accepted → ⊥) → Untouched a z before after r
-  pub filtered : filterOutcome b way (lent a) (length before) ≡ accepted
-      → Ended (wayOf way) (frameOf b) (filterEnd (frameOf b)) a z (filtered (frameOf b) ++ drop (pixels (frameOf b .set)) before) after r
+pub record Filters (b : List ℕ) (way : ℕ) (before after : Stores) (old new : List ℕ) (r : Walked) : Type 0 where
+  pub verdict : numbered (r .verdict) ≡ filterOutcome b way (lent before) (length old)
+  pub refused : (filterOutcome b way (lent before) (length old) ≡ accepted → ⊥) → Untouched before after old new r
+  pub filtered : filterOutcome b way (lent before) (length old) ≡ accepted
+      → Ended (wayOf way) (frameOf b) (filterEnd (frameOf b)) before after (filtered (frameOf b) ++ drop (pixels (frameOf b .set)) old) new r
 
 -- balance
 pub record Balances (b : List ℕ) (s t i : ℕ) (r : Balanced) : Type 0 where

@@ -117,7 +117,7 @@ module _ (way : Way) (b : List ℕ) (g : FrameLimits (frameOf b)) where
       record {
         going = going-start way b (serpentine (p .set)) z hs d v h on;
         at = k;
-        plane = rw o at (plane-first p g O long m pixels-some (em ∙ k .said));
+        plane = rw o at (plane-first p g O long m pixels-some (em ∙ k .answer));
         rest = beyond-same _ _;
         inside = pixels-some;
       }
@@ -140,7 +140,7 @@ module _ (way : Way) (b : List ℕ) (g : FrameLimits (frameOf b)) where
       record {
         going = going-more way b (serpentine (p .set)) x a z hs d v i (w .going) (omega (arith, serpentine-length (p .set))) byte (eb ∙ sym (serpentine-byte (p .set) i l)) z′ hs′ d′ v′ h;
         at = k;
-        plane = rw e (plane-more p g O (omega arith) i m l (em ∙ k .said) (w .plane));
+        plane = rw e (plane-more p g O (omega arith) i m l (em ∙ k .answer) (w .plane));
         rest = rw e (beyond-trans _ O₀ O _ (w .rest) (beyond-set O (visited (p .set .width) (i + 1)) _ _ (visited-low (p .set) (g .sound .width-low) (i + 1) l)));
         inside = l;
       }

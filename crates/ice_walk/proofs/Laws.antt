@@ -95,7 +95,7 @@ module _ (way : Way) {b : List ℕ} {z : Plan} (k : Planned b z) (x : Visit) (by
       subst (λ (y : State). Visited way b y a s hs d v) (sym (step-to (frameOf b) (stateOf x) byte column row m)) h
 
   pub visited-stays : (s : Stores) (mark : ℕ) → move (settingsIn z) (x .column) (x .row) byte ≡ Nowhere mark → AtWindow way b s hs d v
-      → stateOf v ≡ record { column = x .column; row = x .row; cut = x .cut .0; shifts = x .shifts; said = mark }
+      → stateOf v ≡ record { column = x .column; row = x .row; cut = x .cut .0; shifts = x .shifts; answer = mark }
       → Visited way b (step (frameOf b) (stateOf x) byte) s s hs d v
   visited-stays s mark e h q =
       let m : move (frameOf b .set) (x .column) (x .row) byte ≡ Nowhere mark = rw (settings-same k) at e in
@@ -113,10 +113,10 @@ within-of {b} {z} k v n h l =
     }
 
 -- ---- a list with one more byte
-pub answers-one : (p : Frame) (x : State) (bs : List ℕ) (b : ℕ) → answers p x (bs ++ (b ∷ [])) ≡ answers p x bs ++ (step p (after p x bs) b .said ∷ [])
+pub answers-one : (p : Frame) (x : State) (bs : List ℕ) (b : ℕ) → answers p x (bs ++ (b ∷ [])) ≡ answers p x bs ++ (step p (after p x bs) b .answer ∷ [])
 unfolding after answers
 answers-one p x [] b = refl
-answers-one p x (c ∷ bs) b = ap (λ (l : List ℕ). x .said ∷ l) (answers-one p (step p x c) bs b)
+answers-one p x (c ∷ bs) b = ap (λ (l : List ℕ). x .answer ∷ l) (answers-one p (step p x c) bs b)
 
 -- the answer buffer, one answer on
 pub told-more : (front A A₀ : List ℕ) (i a : ℕ) → length front ≡ i + 1 → i + 1 < length A₀ → A ≡ front ++ drop (i + 1) A₀

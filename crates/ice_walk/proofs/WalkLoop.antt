@@ -66,11 +66,11 @@ module _ (way : Way) (b ms : List ℕ) where
   walking-more x a A₀ z A hs d v i w l long z′ hs′ d′ v′ h m em =
       let p = frameOf b in
       let front = answers p x (take i ms) in
-      let said : m ≡ step p (stateOf v) (getD ms i 0) .said = em ∙ ap (λ (q : State). q .said) (h .state) in
+      let said : m ≡ step p (stateOf v) (getD ms i 0) .answer = em ∙ ap (λ (q : State). q .answer) (h .state) in
       let g : answers p x (take (i + 1) ms) ≡ front ++ (m ∷ []) =
       rw (add-one i, take-suc ms i 0 l)
       (answers-one p x (take i ms) (getD ms i 0)
-      ∙ ap (λ (q : State). front ++ (step p q (getD ms i 0) .said ∷ [])) (sym (w .going .visited .state))
+      ∙ ap (λ (q : State). front ++ (step p q (getD ms i 0) .answer ∷ [])) (sym (w .going .visited .state))
       ∙ ap (λ (q : ℕ). front ++ (q ∷ [])) (sym said)) in
       let n : length front ≡ i + 1 = omega (arith, length-answers p x (take i ms), length-take i ms) in
       record { going = going-more way b ms x a z hs d v i (w .going) l _ refl z′ hs′ d′ v′ h; told = rw g (told-more front A A₀ i _ n (omega arith) (w .told)) }

@@ -28,29 +28,29 @@ resultAt way p x =
     record { verdict = Accepted; shifts = x .shifts; cut = record { 0 = x .cut }; cells = boxOf way p (x .column) (x .row) (x .cut) }
 
 -- of an outcome o and the state x at the end: the stores a and z, the answers or the output, and the shift count, each before and after
-pub record Called (o : Outcome) (way : Way) (p : Frame) (x : State) (a z : Stores) (due before after : List ℕ) (old new : ℕ) : Type 0 where
-  pub shifts-is : new ≡ given o (x .shifts) old
-  pub refused-keeps : (o ≡ accepted → ⊥) → (z ≡ a) × (after ≡ before)
-  pub accepted-ends : o ≡ accepted → Ended way p x a z due after (resultAt way p x)
+pub record Called (o : Outcome) (way : Way) (p : Frame) (x : State) (before after : Stores) (due old new : List ℕ) (shifts₀ shifts : ℕ) : Type 0 where
+  pub shifts-is : shifts ≡ given o (x .shifts) shifts₀
+  pub refused-keeps : (o ≡ accepted → ⊥) → (after ≡ before) × (new ≡ old)
+  pub accepted-ends : o ≡ accepted → Ended way p x before after due new (resultAt way p x)
 
 -- the outcome, the end and the answers of a walk over the file's bytes b
 module _ (b : List ℕ) (way s t : ℕ) (moves : List ℕ) where
   abbrev pub walkVerdict : Stores → List ℕ → Outcome
-  walkVerdict a before = walkOutcome b way s t (length moves) (lent a) (length before)
+  walkVerdict before old = walkOutcome b way s t (length moves) (lent before) (length old)
 
   -- the results: the shift count, the cut and the cells of the box, each before and after
-  pub record WalkCall (a z : Stores) (before after : List ℕ) (r shifts₀ shifts cut₀ cut : ℕ) (cells₀ cells : List ℤ) (offset₀ offset : ℕ)
+  pub record WalkCall (before after : Stores) (old new : List ℕ) (r shifts₀ shifts cut₀ cut : ℕ) (cells₀ cells : List ℤ) (offset₀ offset : ℕ)
       : Type 0 where
-    pub reported : Reported (walkVerdict a before) r offset₀ offset
-    pub called : Called (walkVerdict a before) (wayOf way) (frameOf b) (walkEnd (frameOf b) s t moves) a z
-        (walkAnswers (frameOf b) s t moves ++ drop (length moves + 1) before) before after shifts₀ shifts
-    pub cut-is : cut ≡ given (walkVerdict a before) (walkEnd (frameOf b) s t moves .cut) cut₀
-    pub cells-is : cells ≡ given (walkVerdict a before) (resultAt (wayOf way) (frameOf b) (walkEnd (frameOf b) s t moves) .cells) cells₀
+    pub reported : Reported (walkVerdict before old) r offset₀ offset
+    pub called : Called (walkVerdict before old) (wayOf way) (frameOf b) (walkEnd (frameOf b) s t moves) before after
+        (walkAnswers (frameOf b) s t moves ++ drop (length moves + 1) old) old new shifts₀ shifts
+    pub cut-is : cut ≡ given (walkVerdict before old) (walkEnd (frameOf b) s t moves .cut) cut₀
+    pub cells-is : cells ≡ given (walkVerdict before old) (resultAt (wayOf way) (frameOf b) (walkEnd (frameOf b) s t moves) .cells) cells₀
 
-pub record FilterCall (b : List ℕ) (way : ℕ) (a z : Stores) (before after : List ℕ) (r shifts₀ shifts offset₀ offset : ℕ) : Type 0 where
-  pub reported : Reported (filterOutcome b way (lent a) (length before)) r offset₀ offset
-  pub called : Called (filterOutcome b way (lent a) (length before)) (wayOf way) (frameOf b) (filterEnd (frameOf b)) a z
-      (filtered (frameOf b) ++ drop (pixels (frameOf b .set)) before) before after shifts₀ shifts
+pub record FilterCall (b : List ℕ) (way : ℕ) (before after : Stores) (old new : List ℕ) (r shifts₀ shifts offset₀ offset : ℕ) : Type 0 where
+  pub reported : Reported (filterOutcome b way (lent before) (length old)) r offset₀ offset
+  pub called : Called (filterOutcome b way (lent before) (length old)) (wayOf way) (frameOf b) (filterEnd (frameOf b)) before after
+      (filtered (frameOf b) ++ drop (pixels (frameOf b .set)) old) old new shifts₀ shifts
 
 -- ---- balance
 
@@ -60,7 +60,7 @@ pub record BalanceCall (b : List ℕ) (s t i r : ℕ) (old new : ℤ) (offset₀
 
 -- ---- write
 
-pub record WriteCall (k : Settings) (v g a old new : List ℕ) (r len₀ len offset₀ offset : ℕ) : Type 0 where
-  pub reported : Reported (writerOutcome k v g a (length old)) r offset₀ offset
-  pub length-is : len ≡ given (writerOutcome k v g a (length old)) (writtenSize k (length a)) len₀
-  pub output : new ≡ stored (writerOutcome k v g a (length old)) (written k v g a) old
+pub record WriteCall (settings : Settings) (v g a old new : List ℕ) (r len₀ len offset₀ offset : ℕ) : Type 0 where
+  pub reported : Reported (writerOutcome settings v g a (length old)) r offset₀ offset
+  pub length-is : len ≡ given (writerOutcome settings v g a (length old)) (writtenSize settings (length a)) len₀
+  pub output : new ≡ stored (writerOutcome settings v g a (length old)) (written settings v g a) old

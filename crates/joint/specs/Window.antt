@@ -28,33 +28,33 @@ pub record JointAt (p : Frame) (s t c : ℕ) (xs ws xs′ ws′ : List ℕ) (bx�
   pub box : bx′ ≡ balanceBox p s t c
 
 -- a window of an accepted file, and the stores and the box that hold it
-pub record Held (b : List ℕ) (z : Plan) (s t c : ℕ) (xs ws : List ℕ) (bx : List ℤ) : Type 0 where
-  pub planned : Planned b z
-  pub column : s < z .width
-  pub row : t < z .height
+pub record Held (b : List ℕ) (plan : Plan) (s t c : ℕ) (xs ws : List ℕ) (bx : List ℤ) : Type 0 where
+  pub planned : Planned b plan
+  pub column : s < plan .width
+  pub row : t < plan .height
   pub joint : JointAt (frameOf b) s t c xs ws xs ws bx
 
 -- a window to be built, and stores that are long enough
-pub record Fresh (b : List ℕ) (z : Plan) (s t : ℕ) (xs ws : List ℕ) : Type 0 where
-  pub planned : Planned b z
-  pub column : s < z .width
-  pub row : t < z .height
+pub record Fresh (b : List ℕ) (plan : Plan) (s t : ℕ) (xs ws : List ℕ) : Type 0 where
+  pub planned : Planned b plan
+  pub column : s < plan .width
+  pub row : t < plan .height
   pub cells : cellCount (frameOf b) ≤ length xs
   pub words : wordCount (frameOf b) ≤ length ws
 
 -- n columns from column x of the windows of row t
-pub record Columns (z : Plan) (x n t : ℕ) : Type 0 where
-  pub wide : x + n ≤ z .width
+pub record Columns (plan : Plan) (x n t : ℕ) : Type 0 where
+  pub wide : x + n ≤ plan .width
   pub few : n ≤ 31
-  pub row : t < z .height
+  pub row : t < plan .height
 
 -- the first k of those columns are in the stores, which held xs and ws, and in the box
-pub record Filled (b : List ℕ) (z : Plan) (x t c k : ℕ) (xs ws xs′ ws′ : List ℕ) (bx′ : List ℤ) : Type 0 where
-  pub cells : z .levels * z .guides ≤ length xs
-  pub words : z .levels * wordsPer (z .guides) ≤ length ws
-  pub kept : RestKept (z .levels) (z .guides) xs ws xs′ ws′
-  pub held : Rep (z .levels) (z .guides) (λ i f. columnsFold _+_ 0 b z x t (λ v g. hit v g i f) k) xs′ ws′
-  pub low : (i f : ℕ) → i < z .levels → f < z .guides → getD xs′ (cellAt (z .guides) i f) 0 ≤ 31 * k
+pub record Filled (b : List ℕ) (plan : Plan) (x t c k : ℕ) (xs ws xs′ ws′ : List ℕ) (bx′ : List ℤ) : Type 0 where
+  pub cells : plan .levels * plan .guides ≤ length xs
+  pub words : plan .levels * wordsPer (plan .guides) ≤ length ws
+  pub kept : RestKept (plan .levels) (plan .guides) xs ws xs′ ws′
+  pub held : Rep (plan .levels) (plan .guides) (λ i f. columnsFold _+_ 0 b plan x t (λ v g. hit v g i f) k) xs′ ws′
+  pub low : (i f : ℕ) → i < plan .levels → f < plan .guides → getD xs′ (cellAt (plan .guides) i f) 0 ≤ 31 * k
   pub box-long : length bx′ ≡ 256
   pub box-low : (f : ℕ) → natAbs (boxAt bx′ f) ≤ 31 * k
-  pub box : (f : ℕ) → boxAt bx′ f ≡ columnsFold _+ℤ_ (pos 0) b z x t (sideOf c f) k
+  pub box : (f : ℕ) → boxAt bx′ f ≡ columnsFold _+ℤ_ (pos 0) b plan x t (sideOf c f) k

@@ -14,15 +14,15 @@ pub fn change_pixels(
     m: usize,
     enters: bool,
     cut: Level,
-    cells: &mut [i16; 256],
+    balance_box: &mut [i16; 256],
     counts: &mut [u16],
     words: &mut [u64],
 )
-    requires { ⌜ (Countable enters m (now p) (now counts) (now words)) × (BoxRoom (countOf (now p)) (now cells)) ⌝ }
+    requires { ⌜ (Countable enters m (now p) (now counts) (now words)) × (BoxRoom (countOf (now p)) (now «balance_box»)) ⌝ }
     ensures { λ _. ⌜ ((a : Countable enters m (now (p .entry)) (now (counts .entry)) (now (words .entry)))
         → CountsPassed enters (a .levels) m (now (p .entry)) (countOf (now (p .entry))) (now (counts .entry)) (now (words .entry)) (now
         (counts .exit)) (now (words .exit))) ⌝ }
-    ensures { λ _. ⌜ BoxPassed enters (cut .0) (now (p .entry)) (countOf (now (p .entry))) (now (cells .entry)) (now (cells .exit)) ⌝ }
+    ensures { λ _. ⌜ BoxPassed enters (cut .0) (now (p .entry)) (countOf (now (p .entry))) (now («balance_box» .entry)) (now («balance_box» .exit)) ⌝ }
 {
     let n = p.len() / 2;
     let mut k = 0;
@@ -33,7 +33,7 @@ pub fn change_pixels(
         let guide = Guide(p[next]);
         cell::change_pixel(level, guide, m, enters, counts, words);
         let f = guide.0 as usize;
-        cells[f] = side_changed(cells[f], level, cut, enters);
+        balance_box[f] = side_changed(balance_box[f], level, cut, enters);
         k += 1;
     }
 }
@@ -44,17 +44,17 @@ pub fn exchange(
     leaving: &[u16],
     m: usize,
     cut: Level,
-    cells: &mut [i16; 256],
+    balance_box: &mut [i16; 256],
     counts: &mut [u16],
     words: &mut [u64],
 )
     requires { ⌜ (Exchangeable m (now entering) (now leaving) (now counts) (now words)) × (BoxRoom (countOf (now entering) + countOf
-        (now leaving)) (now cells)) ⌝ }
+        (now leaving)) (now «balance_box»)) ⌝ }
     ensures { λ _. ⌜ ((a : Exchangeable m (now (entering .entry)) (now (leaving .entry)) (now (counts .entry)) (now (words .entry)))
         → CountsExchanged (a .entering .levels) m (now (entering .entry)) (now (leaving .entry)) (now (counts .entry)) (now (words .entry)) (now
         (counts .exit)) (now (words .exit))) ⌝ }
-    ensures { λ _. ⌜ BoxExchanged (cut .0) (now (entering .entry)) (now (leaving .entry)) (now (cells .entry)) (now (cells .exit)) ⌝ }
+    ensures { λ _. ⌜ BoxExchanged (cut .0) (now (entering .entry)) (now (leaving .entry)) (now («balance_box» .entry)) (now («balance_box» .exit)) ⌝ }
 {
-    change_pixels(entering, m, true, cut, cells, counts, words);
-    change_pixels(leaving, m, false, cut, cells, counts, words);
+    change_pixels(entering, m, true, cut, balance_box, counts, words);
+    change_pixels(leaving, m, false, cut, balance_box, counts, words);
 }

@@ -44,21 +44,29 @@ pub fn fill(
     n: usize,
     t: usize,
     cut: Level,
-    cells: &mut [i16; 256],
+    balance_box: &mut [i16; 256],
     counts: &mut [u16],
     words: &mut [u64],
 )
     requires { ⌜ (Planned (now file) plan) × (Columns plan x n t) ⌝ }
-    requires { ⌜ Filled (now file) plan x t (cut .0) 0 (now counts) (now words) (now counts) (now words) (now cells) ⌝ }
+    requires { ⌜ Filled (now file) plan x t (cut .0) 0 (now counts) (now words) (now counts) (now words) (now «balance_box») ⌝ }
     ensures { λ _. ⌜ Filled (now (file .entry)) plan x t (cut .0) n (now (counts .entry)) (now (words .entry)) (now (counts .exit))
-        (now (words .exit)) (now (cells .exit)) ⌝ }
+        (now (words .exit)) (now («balance_box» .exit)) ⌝ }
 {
     let mut k = 0;
     while k < n {
         let mut places = [0u16; 62];
         let line = column_line(plan, x + k, t);
         let p = pixels::read(file, plan, line, &mut places);
-        list::change_pixels(&places[0..p], plan.guides, true, cut, cells, counts, words);
+        list::change_pixels(
+            &places[0..p],
+            plan.guides,
+            true,
+            cut,
+            balance_box,
+            counts,
+            words,
+        );
         k += 1;
     }
 }
@@ -70,20 +78,20 @@ pub fn build(
     s: usize,
     t: usize,
     cut: Level,
-    cells: &mut [i16; 256],
+    balance_box: &mut [i16; 256],
     counts: &mut [u16],
     words: &mut [u64],
 )
     requires { ⌜ Fresh (now file) plan s t (now counts) (now words) ⌝ }
     ensures { λ _. ⌜ JointAt (frameOf (now (file .entry))) s t (cut .0) (now (counts .entry)) (now (words .entry)) (now (counts .exit))
-        (now (words .exit)) (now (cells .exit)) ⌝ }
+        (now (words .exit)) (now («balance_box» .exit)) ⌝ }
 {
     let l = plan.levels;
     let m = plan.guides;
     clear_counts(counts, l * m);
     clear_words(words, l * ((m + 63) / 64));
-    *cells = [0i16; 256];
+    *balance_box = [0i16; 256];
     let x = low(s, plan.radius);
     let n = span_of(s, plan.radius, plan.width);
-    fill(file, plan, x, n, t, cut, cells, counts, words);
+    fill(file, plan, x, n, t, cut, balance_box, counts, words);
 }

@@ -26,8 +26,8 @@ pub record Lower (b : List ℕ) (first m : ℕ) (row : List ℕ) : Type 0 where
   pub is : (g : ℕ) → g < m → exchanged (getD row g 0) ≡ plane b first g
 
 -- what a call makes once: the built-in weights, where the file has no table
-pub record WeightRows (z : Plan) (row : List ℕ) : Type 0 where
-  pub mirror : z .weights ≡ 0 → Mirror row
+pub record WeightRows (plan : Plan) (row : List ℕ) : Type 0 where
+  pub mirror : plan .weights ≡ 0 → Mirror row
 
 -- the table's row of a guide, in 256 numbers
 pub record TableRow (p : Frame) (m f : ℕ) (row : List ℕ) : Type 0 where

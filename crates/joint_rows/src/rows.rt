@@ -38,11 +38,11 @@ pub fn mirror(out: &mut [u16])
 }
 
 // What a call of kind 1 makes once: the built-in weights, where the file has no table of its own.
-pub fn built_rows(z: Plan, out: &mut [u16])
+pub fn built_rows(plan: Plan, out: &mut [u16])
     requires { ⌜ 511 ≤ length (now out) ⌝ }
-    ensures { λ _. ⌜ WeightRows z (now (out .exit)) ⌝ }
+    ensures { λ _. ⌜ WeightRows plan (now (out .exit)) ⌝ }
 {
-    if z.weights == 0 {
+    if plan.weights == 0 {
         mirror(out);
     }
 }
@@ -68,12 +68,12 @@ fn exchanged(v: u16) -> u16
 }
 
 // The file's own row of a guide. In two turns, because each is then done many numbers at a time.
-pub fn own_row(file: &[u8], z: Plan, f: Guide) -> [u16; 256]
-    requires { ⌜ (Planned (now file) z) × (f .0 < z .guides) × (z .weights ≡ 0 → ⊥) ⌝ }
-    ensures { λ r. ⌜ TableRow (frameOf (now (file .entry))) (z .guides) (f .0) r ⌝ }
+pub fn own_row(file: &[u8], plan: Plan, f: Guide) -> [u16; 256]
+    requires { ⌜ (Planned (now file) plan) × (f .0 < plan .guides) × (plan .weights ≡ 0 → ⊥) ⌝ }
+    ensures { λ r. ⌜ TableRow (frameOf (now (file .entry))) (plan .guides) (f .0) r ⌝ }
 {
-    let m = z.guides;
-    let first = z.table + 2 * ((f.0 as usize) * m);
+    let m = plan.guides;
+    let first = plan.table + 2 * ((f.0 as usize) * m);
     let mut row = [0u16; 256];
     copy_low_first(file, first, m, &mut row);
     let mut k = 0;
@@ -85,12 +85,12 @@ pub fn own_row(file: &[u8], z: Plan, f: Guide) -> [u16; 256]
 }
 
 // Kind 1, built-in weights: the row of the centre's guide.
-pub fn built_formula(file: &[u8], z: Plan, weights: &[u16], s: usize, t: usize) -> Formula
-    requires { ⌜ (Planned (now file) z) × (z .kind ≡ 1) × (z .weights ≡ 0) × (s < z .width) × (t < z .height) ⌝ }
+pub fn built_formula(file: &[u8], plan: Plan, weights: &[u16], s: usize, t: usize) -> Formula
+    requires { ⌜ (Planned (now file) plan) × (plan .kind ≡ 1) × (plan .weights ≡ 0) × (s < plan .width) × (t < plan .height) ⌝ }
     requires { ⌜ Mirror (now weights) ⌝ }
     ensures { λ r. ⌜ (Weighs (frameOf (now (file .entry))) s t (now (weights .entry)) r) × (r .slope ≡ pos 1) × (r .offset ≡ pos 0) ⌝ }
 {
-    let centre = pixel::guide_at(file, z, t * z.width + s);
+    let centre = pixel::guide_at(file, plan, t * plan.width + s);
     Formula {
         row: 255 - (centre.0 as usize),
         slope: 1,

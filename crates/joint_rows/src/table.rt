@@ -9,13 +9,13 @@ ghost use Rattle.spec.specs.Checks.{Planned};
 ghost use Rattle.frame_weights.specs.Weights.{builtInList};
 
 // What a pixel of guide g weighs in a window whose centre has guide f. The caller has bound the constants once.
-pub fn weight_at(built: &[u16; 256], file: &[u8], z: Plan, f: Guide, g: Guide) -> u16
-    requires { ⌜ (now built ≡ builtInList) × (Planned (now file) z) × (f .0 < z .guides) × (g .0 < z .guides) ⌝ }
+pub fn weight_at(built: &[u16; 256], file: &[u8], plan: Plan, f: Guide, g: Guide) -> u16
+    requires { ⌜ (now built ≡ builtInList) × (Planned (now file) plan) × (f .0 < plan .guides) × (g .0 < plan .guides) ⌝ }
     ensures { λ r. ⌜ r ≡ table (frameOf (now (file .entry))) (f .0) (g .0) ⌝ }
 {
-    if z.weights == 0 {
+    if plan.weights == 0 {
         return built[frame_weights::apart(f, g) as usize];
     }
-    let k = (f.0 as usize) * z.guides + (g.0 as usize);
-    be16(file, z.table + 2 * k)
+    let k = (f.0 as usize) * plan.guides + (g.0 as usize);
+    be16(file, plan.table + 2 * k)
 }

@@ -11,16 +11,16 @@ use Rattle.joint_search.specs.Scan.{RowFits}
 use Rattle.joint_search.specs.declared.formula.Formula.{Formula}
 
 -- the coefficients are small enough for every sum of a window
-pub record FormulaInBounds (w : Formula) : Type 0 where
-  pub slope : natAbs (w .slope) ≤ 235497855
-  pub offset : natAbs (w .offset) ≤ 180155859075
+pub record FormulaInBounds (formula : Formula) : Type 0 where
+  pub slope : natAbs (formula .slope) ≤ 235497855
+  pub offset : natAbs (formula .offset) ≤ 180155859075
 
 -- what guide f weighs
 abbrev pub weightBy : List ℕ → Formula → ℕ → ℤ
-weightBy row w f = w .slope *ℤ pos (getD row (w .row + f) 0) +ℤ w .offset
+weightBy row formula f = formula .slope *ℤ pos (getD row (formula .row + f) 0) +ℤ formula .offset
 
 -- they give the weights of the window at (s, t)
-pub record Weighs (p : Frame) (s t : ℕ) (row : List ℕ) (w : Formula) : Type 0 where
-  pub in-row : RowFits (p .set .guides) (w .row) row
-  pub small : FormulaInBounds w
-  pub is : (f : ℕ) → f < p .set .guides → weight p s t f ≡ weightBy row w f
+pub record Weighs (p : Frame) (s t : ℕ) (row : List ℕ) (formula : Formula) : Type 0 where
+  pub in-row : RowFits (p .set .guides) (formula .row) row
+  pub small : FormulaInBounds formula
+  pub is : (f : ℕ) → f < p .set .guides → weight p s t f ≡ weightBy row formula f

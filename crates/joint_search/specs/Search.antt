@@ -17,20 +17,20 @@ use Rattle.joint_search.specs.Levels.{balanceOf, totalOf, weightlessOf, 
 
 -- the weight of level i, of m guides: of each pixel slope times its number in the row, and offset
 unfoldable pub levelWeightIn : ℕ → List ℕ → List ℕ → Formula → ℕ → ℤ
-levelWeightIn m cs row w i = w .slope *ℤ pos (cellDot m i (w .row) cs row m) +ℤ w .offset *ℤ pos (cellSum m i cs m)
+levelWeightIn m cs row formula i = formula .slope *ℤ pos (cellDot m i (formula .row) cs row m) +ℤ formula .offset *ℤ pos (cellSum m i cs m)
 
 -- ---- over the plan's levels
 abbrev pub totalIn : Plan → List ℕ → List ℕ → Formula → ℤ
-totalIn plan cs row w = totalOf (levelWeightIn (plan .guides) cs row w) (plan .levels)
+totalIn plan cs row formula = totalOf (levelWeightIn (plan .guides) cs row formula) (plan .levels)
 
 abbrev pub balanceIn : Plan → List ℕ → List ℕ → Formula → ℕ → ℤ
-balanceIn plan cs row w c = balanceOf (levelWeightIn (plan .guides) cs row w) (plan .levels) c
+balanceIn plan cs row formula c = balanceOf (levelWeightIn (plan .guides) cs row formula) (plan .levels) c
 
 abbrev pub weightlessIn : Plan → List ℕ → List ℕ → Formula → Bool
-weightlessIn plan cs row w = weightlessOf (levelWeightIn (plan .guides) cs row w) (plan .levels)
+weightlessIn plan cs row formula = weightlessOf (levelWeightIn (plan .guides) cs row formula) (plan .levels)
 
 abbrev pub medianIn : Plan → List ℕ → List ℕ → Formula → ℕ
-medianIn plan cs row w = medianOf (levelWeightIn (plan .guides) cs row w) (plan .levels)
+medianIn plan cs row formula = medianOf (levelWeightIn (plan .guides) cs row formula) (plan .levels)
 
 -- the balance box at the cut point c: of each guide, its pixels up to c less those above
 unfoldable pub boxIn : Plan → List ℕ → ℕ → List ℤ
@@ -50,13 +50,13 @@ pub record Searchable (plan : Plan) (cs ws : List ℕ) : Type 0 where
   pub few : pixelsIn plan cs ≤ 961
 
 -- the row has a number for each of m guides, and the sums with the two coefficients stay in 64 bits
-pub record FormulaFits (m : ℕ) (row : List ℕ) (w : Formula) : Type 0 where
-  pub in-row : RowFits m (w .row) row
-  pub small : FormulaInBounds w
+pub record FormulaFits (m : ℕ) (row : List ℕ) (formula : Formula) : Type 0 where
+  pub in-row : RowFits m (formula .row) row
+  pub small : FormulaInBounds formula
 
 -- no guide weighs less than 0, so the balance never falls from level to level
-pub record NoneNegative (m : ℕ) (row : List ℕ) (w : Formula) : Type 0 where
-  pub guide : (f : ℕ) → f < m → pos 0 ≤ℤ weightBy row w f
+pub record NoneNegative (m : ℕ) (row : List ℕ) (formula : Formula) : Type 0 where
+  pub guide : (f : ℕ) → f < m → pos 0 ≤ℤ weightBy row formula f
 
 -- ---- what it finds, by the balance B c of each of l levels
 

@@ -23,74 +23,81 @@ fn add(a: i32, b: i32) -> i32
 }
 
 // The products from cell f on: one, two, and so on.
-fn one(cells: &[i16; 256], weights: &[u16], at: usize, f: usize) -> i32
-    requires { ⌜ PartFits 1 f at (now cells) (now weights) ⌝ }
-    ensures { λ r. ⌜ r ≡ boxPart (now (cells .entry)) (now (weights .entry)) at f 1 ⌝ }
+fn one(balance_box: &[i16; 256], weights: &[u16], at: usize, f: usize) -> i32
+    requires { ⌜ PartFits 1 f at (now «balance_box») (now weights) ⌝ }
+    ensures { λ r. ⌜ r ≡ boxPart (now («balance_box» .entry)) (now (weights .entry)) at f 1 ⌝ }
 {
-    product(cells[f], weights[at + f])
+    product(balance_box[f], weights[at + f])
 }
 
-fn two(cells: &[i16; 256], weights: &[u16], at: usize, f: usize) -> i32
-    requires { ⌜ PartFits 2 f at (now cells) (now weights) ⌝ }
-    ensures { λ r. ⌜ r ≡ boxPart (now (cells .entry)) (now (weights .entry)) at f 2 ⌝ }
+fn two(balance_box: &[i16; 256], weights: &[u16], at: usize, f: usize) -> i32
+    requires { ⌜ PartFits 2 f at (now «balance_box») (now weights) ⌝ }
+    ensures { λ r. ⌜ r ≡ boxPart (now («balance_box» .entry)) (now (weights .entry)) at f 2 ⌝ }
 {
-    let a = one(cells, weights, at, f);
-    let b = one(cells, weights, at, f + 1);
+    let a = one(balance_box, weights, at, f);
+    let b = one(balance_box, weights, at, f + 1);
     add(a, b)
 }
 
-fn four(cells: &[i16; 256], weights: &[u16], at: usize, f: usize) -> i32
-    requires { ⌜ PartFits 4 f at (now cells) (now weights) ⌝ }
-    ensures { λ r. ⌜ r ≡ boxPart (now (cells .entry)) (now (weights .entry)) at f 4 ⌝ }
+fn four(balance_box: &[i16; 256], weights: &[u16], at: usize, f: usize) -> i32
+    requires { ⌜ PartFits 4 f at (now «balance_box») (now weights) ⌝ }
+    ensures { λ r. ⌜ r ≡ boxPart (now («balance_box» .entry)) (now (weights .entry)) at f 4 ⌝ }
 {
-    let a = two(cells, weights, at, f);
-    let b = two(cells, weights, at, f + 2);
+    let a = two(balance_box, weights, at, f);
+    let b = two(balance_box, weights, at, f + 2);
     add(a, b)
 }
 
-fn eight(cells: &[i16; 256], weights: &[u16], at: usize, f: usize) -> i32
-    requires { ⌜ PartFits 8 f at (now cells) (now weights) ⌝ }
-    ensures { λ r. ⌜ r ≡ boxPart (now (cells .entry)) (now (weights .entry)) at f 8 ⌝ }
+fn eight(balance_box: &[i16; 256], weights: &[u16], at: usize, f: usize) -> i32
+    requires { ⌜ PartFits 8 f at (now «balance_box») (now weights) ⌝ }
+    ensures { λ r. ⌜ r ≡ boxPart (now («balance_box» .entry)) (now (weights .entry)) at f 8 ⌝ }
 {
-    let a = four(cells, weights, at, f);
-    let b = four(cells, weights, at, f + 4);
+    let a = four(balance_box, weights, at, f);
+    let b = four(balance_box, weights, at, f + 4);
     add(a, b)
 }
 
-fn sixteen(cells: &[i16; 256], weights: &[u16], at: usize, f: usize) -> i32
-    requires { ⌜ PartFits 16 f at (now cells) (now weights) ⌝ }
-    ensures { λ r. ⌜ r ≡ boxPart (now (cells .entry)) (now (weights .entry)) at f 16 ⌝ }
+fn sixteen(balance_box: &[i16; 256], weights: &[u16], at: usize, f: usize) -> i32
+    requires { ⌜ PartFits 16 f at (now «balance_box») (now weights) ⌝ }
+    ensures { λ r. ⌜ r ≡ boxPart (now («balance_box» .entry)) (now (weights .entry)) at f 16 ⌝ }
 {
-    let a = eight(cells, weights, at, f);
-    let b = eight(cells, weights, at, f + 8);
+    let a = eight(balance_box, weights, at, f);
+    let b = eight(balance_box, weights, at, f + 8);
     add(a, b)
 }
 
 // The cells from one on, added to the sum of those before it.
-fn rest(cells: &[i16; 256], weights: &[u16], at: usize, m: usize, from: usize, sum: i32) -> i32
-    requires { ⌜ (m ≤ 256) × (RowFits m at (now weights)) × (BoxInBounds (now cells)) ⌝ }
-    requires { ⌜ (from ≤ m) × (sum ≡ boxDot (now cells) (now weights) at from) ⌝ }
-    ensures { λ r. ⌜ r ≡ boxDot (now (cells .entry)) (now (weights .entry)) at m ⌝ }
+fn rest(
+    balance_box: &[i16; 256],
+    weights: &[u16],
+    at: usize,
+    m: usize,
+    from: usize,
+    sum: i32,
+) -> i32
+    requires { ⌜ (m ≤ 256) × (RowFits m at (now weights)) × (BoxInBounds (now «balance_box»)) ⌝ }
+    requires { ⌜ (from ≤ m) × (sum ≡ boxDot (now «balance_box») (now weights) at from) ⌝ }
+    ensures { λ r. ⌜ r ≡ boxDot (now («balance_box» .entry)) (now (weights .entry)) at m ⌝ }
 {
     let mut dot = sum;
     let mut f = from;
     while f < m {
-        dot = add(dot, one(cells, weights, at, f));
+        dot = add(dot, one(balance_box, weights, at, f));
         f += 1;
     }
     dot
 }
 
 // Over the first m cells.
-pub fn box_dot(cells: &[i16; 256], weights: &[u16], at: usize, m: usize) -> i32
-    requires { ⌜ (m ≤ 256) × (RowFits m at (now weights)) × (BoxInBounds (now cells)) ⌝ }
-    ensures { λ r. ⌜ r ≡ boxDot (now (cells .entry)) (now (weights .entry)) at m ⌝ }
+pub fn box_dot(balance_box: &[i16; 256], weights: &[u16], at: usize, m: usize) -> i32
+    requires { ⌜ (m ≤ 256) × (RowFits m at (now weights)) × (BoxInBounds (now «balance_box»)) ⌝ }
+    ensures { λ r. ⌜ r ≡ boxDot (now («balance_box» .entry)) (now (weights .entry)) at m ⌝ }
 {
     let mut dot: i32 = 0;
     let mut f = 0;
     while f + 16 <= m {
-        dot = add(dot, sixteen(cells, weights, at, f));
+        dot = add(dot, sixteen(balance_box, weights, at, f));
         f += 16;
     }
-    rest(cells, weights, at, m, f, dot)
+    rest(balance_box, weights, at, m, f, dot)
 }

@@ -21,17 +21,17 @@ pub struct SearchEnd {
 pub fn climb(
     plan: Plan,
     weights: &[u16],
-    w: Formula,
+    formula: Formula,
     from: Level,
     bal: i64,
     shifts: u64,
     counts: &[u16],
     words: &[u64],
 ) -> SearchEnd
-    requires { ⌜ (Searchable plan (now counts) (now words)) × (FormulaFits (plan .guides) (now weights) w) ⌝ }
-    requires { ⌜ (from .0 < plan .levels) × (bal ≡ balanceIn plan (now counts) (now weights) w (from .0)) × (shifts < 1099511627776)
-        × (pos 0 ≤ℤ totalIn plan (now counts) (now weights) w) ⌝ }
-    ensures { λ r. ⌜ Climbed (balanceIn plan (now (counts .entry)) (now (weights .entry)) w) (plan .levels) (from .0) (r .level .0) shifts
+    requires { ⌜ (Searchable plan (now counts) (now words)) × (FormulaFits (plan .guides) (now weights) formula) ⌝ }
+    requires { ⌜ (from .0 < plan .levels) × (bal ≡ balanceIn plan (now counts) (now weights) formula (from .0)) × (shifts < 1099511627776)
+        × (pos 0 ≤ℤ totalIn plan (now counts) (now weights) formula) ⌝ }
+    ensures { λ r. ⌜ Climbed (balanceIn plan (now (counts .entry)) (now (weights .entry)) formula) (plan .levels) (from .0) (r .level .0) shifts
         (r .shifts) ⌝ }
 {
     let mut i = from.0;
@@ -43,7 +43,7 @@ pub fn climb(
         b = formula::step_balance(
             b,
             2,
-            formula::level_weight(weights, w, Level(i), plan.guides, counts, words),
+            formula::level_weight(weights, formula, Level(i), plan.guides, counts, words),
         );
     }
     SearchEnd {
@@ -56,17 +56,17 @@ pub fn climb(
 pub fn descend(
     plan: Plan,
     weights: &[u16],
-    w: Formula,
+    formula: Formula,
     from: Level,
     bal: i64,
     shifts: u64,
     counts: &[u16],
     words: &[u64],
 ) -> SearchEnd
-    requires { ⌜ (Searchable plan (now counts) (now words)) × (FormulaFits (plan .guides) (now weights) w) ⌝ }
-    requires { ⌜ (from .0 < plan .levels) × (bal ≡ balanceIn plan (now counts) (now weights) w (from .0)) × (shifts < 1099511627776)
+    requires { ⌜ (Searchable plan (now counts) (now words)) × (FormulaFits (plan .guides) (now weights) formula) ⌝ }
+    requires { ⌜ (from .0 < plan .levels) × (bal ≡ balanceIn plan (now counts) (now weights) formula (from .0)) × (shifts < 1099511627776)
         × (pos 0 ≤ℤ bal) ⌝ }
-    ensures { λ r. ⌜ Descended (balanceIn plan (now (counts .entry)) (now (weights .entry)) w) (from .0) (r .level .0) shifts (r .shifts) ⌝ }
+    ensures { λ r. ⌜ Descended (balanceIn plan (now (counts .entry)) (now (weights .entry)) formula) (from .0) (r .level .0) shifts (r .shifts) ⌝ }
 {
     let mut i = from.0;
     let mut b = bal;
@@ -75,7 +75,7 @@ pub fn descend(
         let lower = formula::step_balance(
             b,
             -2,
-            formula::level_weight(weights, w, Level(i), plan.guides, counts, words),
+            formula::level_weight(weights, formula, Level(i), plan.guides, counts, words),
         );
         if lower < 0 {
             return SearchEnd {
@@ -98,19 +98,19 @@ pub fn raise_to(
     plan: Plan,
     from: Level,
     to: Level,
-    cells: &mut [i16; 256],
+    balance_box: &mut [i16; 256],
     counts: &[u16],
     words: &[u64],
 )
     requires { ⌜ Searchable plan (now counts) (now words) ⌝ }
-    requires { ⌜ (from .0 ≤ to .0) × (to .0 < plan .levels) × (now cells ≡ boxIn plan (now counts) (from .0)) ⌝ }
-    ensures { λ _. ⌜ now (cells .exit) ≡ boxIn plan (now (counts .entry)) (to .0) ⌝ }
+    requires { ⌜ (from .0 ≤ to .0) × (to .0 < plan .levels) × (now «balance_box» ≡ boxIn plan (now counts) (from .0)) ⌝ }
+    ensures { λ _. ⌜ now («balance_box» .exit) ≡ boxIn plan (now (counts .entry)) (to .0) ⌝ }
 {
     let last = to.0;
     let mut i = from.0;
     while i < last {
         i += 1;
-        shift::shift_level(Level(i), plan.guides, 2, cells, counts, words);
+        shift::shift_level(Level(i), plan.guides, 2, balance_box, counts, words);
     }
 }
 
@@ -119,18 +119,18 @@ pub fn lower_to(
     plan: Plan,
     from: Level,
     to: Level,
-    cells: &mut [i16; 256],
+    balance_box: &mut [i16; 256],
     counts: &[u16],
     words: &[u64],
 )
     requires { ⌜ Searchable plan (now counts) (now words) ⌝ }
-    requires { ⌜ (to .0 ≤ from .0) × (from .0 < plan .levels) × (now cells ≡ boxIn plan (now counts) (from .0)) ⌝ }
-    ensures { λ _. ⌜ now (cells .exit) ≡ boxIn plan (now (counts .entry)) (to .0) ⌝ }
+    requires { ⌜ (to .0 ≤ from .0) × (from .0 < plan .levels) × (now «balance_box» ≡ boxIn plan (now counts) (from .0)) ⌝ }
+    ensures { λ _. ⌜ now («balance_box» .exit) ≡ boxIn plan (now (counts .entry)) (to .0) ⌝ }
 {
     let last = to.0;
     let mut i = from.0;
     while last < i {
-        shift::shift_level(Level(i), plan.guides, -2, cells, counts, words);
+        shift::shift_level(Level(i), plan.guides, -2, balance_box, counts, words);
         i -= 1;
     }
 }
@@ -140,17 +140,17 @@ pub fn move_to(
     plan: Plan,
     from: Level,
     to: Level,
-    cells: &mut [i16; 256],
+    balance_box: &mut [i16; 256],
     counts: &[u16],
     words: &[u64],
 )
     requires { ⌜ Searchable plan (now counts) (now words) ⌝ }
-    requires { ⌜ (from .0 < plan .levels) × (to .0 < plan .levels) × (now cells ≡ boxIn plan (now counts) (from .0)) ⌝ }
-    ensures { λ _. ⌜ now (cells .exit) ≡ boxIn plan (now (counts .entry)) (to .0) ⌝ }
+    requires { ⌜ (from .0 < plan .levels) × (to .0 < plan .levels) × (now «balance_box» ≡ boxIn plan (now counts) (from .0)) ⌝ }
+    ensures { λ _. ⌜ now («balance_box» .exit) ≡ boxIn plan (now (counts .entry)) (to .0) ⌝ }
 {
     if from.0 <= to.0 {
-        raise_to(plan, from, to, cells, counts, words);
+        raise_to(plan, from, to, balance_box, counts, words);
         return;
     }
-    lower_to(plan, from, to, cells, counts, words);
+    lower_to(plan, from, to, balance_box, counts, words);
 }

@@ -27,25 +27,25 @@ pub fn combine(slope: i64, offset: i64, dot: i64, all: i64) -> i64
 // The weight of a level.
 pub fn level_weight(
     weights: &[u16],
-    w: Formula,
+    formula: Formula,
     level: Level,
     m: usize,
     counts: &[u16],
     words: &[u64],
 ) -> i64
-    requires { ⌜ (Marked m (level .0) (now counts) (now words)) × (FormulaFits m (now weights) w) ⌝ }
-    ensures { λ r. ⌜ r ≡ levelWeightIn m (now (counts .entry)) (now (weights .entry)) w (level .0) ⌝ }
+    requires { ⌜ (Marked m (level .0) (now counts) (now words)) × (FormulaFits m (now weights) formula) ⌝ }
+    ensures { λ r. ⌜ r ≡ levelWeightIn m (now (counts .entry)) (now (weights .entry)) formula (level .0) ⌝ }
 {
-    let e = level::level_sums(weights, w.row, level, m, counts, words);
-    combine(w.slope, w.offset, e.dot as i64, e.pixels as i64)
+    let e = level::level_sums(weights, formula.row, level, m, counts, words);
+    combine(formula.slope, formula.offset, e.dot as i64, e.pixels as i64)
 }
 
 // The balance at the box's cut point, by a row of the table.
-pub fn box_balance(cells: &[i16; 256], weights: &[u16], w: Formula, m: usize) -> i64
-    requires { ⌜ (m ≤ 256) × (RowFits m (w .row) (now weights)) × (BoxInBounds (now cells)) × (w .slope ≡ pos 1) × (w .offset ≡ pos 0) ⌝ }
-    ensures { λ r. ⌜ r ≡ w .slope *ℤ boxDot (now (cells .entry)) (now (weights .entry)) (w .row) m +ℤ w .offset *ℤ boxAll (now (cells .entry)) m ⌝ }
+pub fn box_balance(balance_box: &[i16; 256], weights: &[u16], formula: Formula, m: usize) -> i64
+    requires { ⌜ (m ≤ 256) × (RowFits m (formula .row) (now weights)) × (BoxInBounds (now «balance_box»)) × (formula .slope ≡ pos 1) × (formula .offset ≡ pos 0) ⌝ }
+    ensures { λ r. ⌜ r ≡ formula .slope *ℤ boxDot (now («balance_box» .entry)) (now (weights .entry)) (formula .row) m +ℤ formula .offset *ℤ boxAll (now («balance_box» .entry)) m ⌝ }
 {
-    box_dot::box_dot(cells, weights, w.row, m) as i64
+    box_dot::box_dot(balance_box, weights, formula.row, m) as i64
 }
 
 // A balance with a level's weight more or less on both sides: by is 2 or -2.

@@ -20,13 +20,13 @@ pub fn shift_level(
     level: Level,
     m: usize,
     by: i16,
-    cells: &mut [i16; 256],
+    balance_box: &mut [i16; 256],
     counts: &[u16],
     words: &[u64],
 )
     requires { ⌜ Marked m (level .0) (now counts) (now words) ⌝ }
-    requires { ⌜ (natAbs by ≤ 2) × (BoxInBounds (now cells)) ⌝ }
-    ensures { λ _. ⌜ CountsAdded m (level .0) by (now (counts .entry)) m (now (cells .entry)) (now (cells .exit)) ⌝ }
+    requires { ⌜ (natAbs by ≤ 2) × (BoxInBounds (now «balance_box»)) ⌝ }
+    ensures { λ _. ⌜ CountsAdded m (level .0) by (now (counts .entry)) m (now («balance_box» .entry)) (now («balance_box» .exit)) ⌝ }
 {
     let i = level.0 as usize;
     let k = (m + 63) / 64;
@@ -35,7 +35,7 @@ pub fn shift_level(
     let mut c = scan::begin(words, first, k, 0);
     while c.rest != 0 {
         let g = scan::guide(c).0 as usize;
-        cells[g] = plus_times(cells[g], by, counts[base + g]);
+        balance_box[g] = plus_times(balance_box[g], by, counts[base + g]);
         c = scan::next(words, first, k, c);
     }
 }

@@ -66,7 +66,7 @@ module _ {b : List ℕ} {plan : Plan} {s t : ℕ} {cs ws row : List ℕ} {w : Fo
         let q = sym (arrive-weightless (frameOf b) s t c n z) in
         let k : r .cut .0 ≡ c = ap (λ (x : TableArrival). x .cut .0) e in
         record {
-          answer = ap (λ (x : TableArrival). x .answer .0) e ∙ eo ∙ ap (λ (x : State). x .said) q;
+          answer = ap (λ (x : TableArrival). x .answer .0) e ∙ eo ∙ ap (λ (x : State). x .answer) q;
           cut = k ∙ ap (λ (x : State). x .cut) q;
           shifts = ap (λ (x : TableArrival). x .shifts) e ∙ ap (λ (x : State). x .shifts) q;
           box = eb ∙ ap (boxIn plan cs) k ∙ sym (box-of st c h) ∙ ap (balanceBox (frameOf b) s t) (sym k);
@@ -80,7 +80,7 @@ module _ {b : List ℕ} {plan : Plan} {s t : ℕ} {cs ws row : List ℕ} {w : Fo
         let k : r .cut .0 ≡ m = ap (λ (x : TableArrival). x .cut .0) e in
         let l : m < plan .levels = rw (levels-eq st) (median-low (spot st)) in
         record {
-          answer = ap (λ (x : TableArrival). x .answer .0) e ∙ ap (λ (x : State). x .said) q;
+          answer = ap (λ (x : TableArrival). x .answer .0) e ∙ ap (λ (x : State). x .answer) q;
           cut = k ∙ ap (λ (x : State). x .cut) q;
           shifts = ap (λ (x : TableArrival). x .shifts) e ∙ ap (λ (u : Bool). n + (if u then distance m c else m)) (sym (table-monotone (st .planned) s t one)) ∙ ap (λ (x : State). x .shifts) q;
           box = eb ∙ ap (boxIn plan cs) k ∙ sym (box-of st m l) ∙ ap (balanceBox (frameOf b) s t) (sym k);

@@ -29,9 +29,9 @@ arrivalAt a c n = record { answer = record { 0 = a }; cut = record { 0 = c }; sh
 
 -- what is answered, and the cut point and the shifts after it; own is the centre's own level, c and n are the cut point and the shifts before it
 unfoldable pub arrivalIn : Plan → List ℕ → List ℕ → Formula → ℕ → ℕ → ℕ → TableArrival
-arrivalIn plan cs row w own c n =
-    let m = medianIn plan cs row w in
-    if weightlessIn plan cs row w then arrivalAt own c n else arrivalAt m m (n + distance m c)
+arrivalIn plan cs row formula own c n =
+    let m = medianIn plan cs row formula in
+    if weightlessIn plan cs row formula then arrivalAt own c n else arrivalAt m m (n + distance m c)
 
 -- ---- kind 2: a histogram's two lists, the counts of its l levels and behind them the guide sums
 abbrev pub countsIn : ℕ → List ℕ → List ℕ
@@ -52,7 +52,7 @@ pub record Carried (p : Frame) (s t c : ℕ) (a : Sums) (w : Tally) (ns : List �
   pub guided : p .set .kind ≡ 2 → Guided p s t c a w ns
 
 pub record Arrives (p : Frame) (s t c n : ℕ) (r : TableArrival) (bx : List ℤ) : Type 0 where
-  pub answer : r .answer .0 ≡ arrive p s t c n .said
+  pub answer : r .answer .0 ≡ arrive p s t c n .answer
   pub cut : r .cut .0 ≡ arrive p s t c n .cut
   pub shifts : r .shifts ≡ arrive p s t c n .shifts
   pub box : bx ≡ balanceBox p s t (r .cut .0)

@@ -24,15 +24,21 @@ pub struct TableArrival {
 }
 
 // Whether no level weighs anything.
-pub fn none_weighs(plan: Plan, weights: &[u16], w: Formula, counts: &[u16], words: &[u64]) -> bool
-    requires { ⌜ (Searchable plan (now counts) (now words)) × (FormulaFits (plan .guides) (now weights) w)
-        × (NoneNegative (plan .guides) (now weights) w) ⌝ }
-    ensures { λ r. ⌜ r ≡ weightlessIn plan (now (counts .entry)) (now (weights .entry)) w ⌝ }
+pub fn none_weighs(
+    plan: Plan,
+    weights: &[u16],
+    formula: Formula,
+    counts: &[u16],
+    words: &[u64],
+) -> bool
+    requires { ⌜ (Searchable plan (now counts) (now words)) × (FormulaFits (plan .guides) (now weights) formula)
+        × (NoneNegative (plan .guides) (now weights) formula) ⌝ }
+    ensures { λ r. ⌜ r ≡ weightlessIn plan (now (counts .entry)) (now (weights .entry)) formula ⌝ }
 {
     let l = plan.levels as u16;
     let mut i: u16 = 0;
     while i < l {
-        let v = formula::level_weight(weights, w, Level(i), plan.guides, counts, words);
+        let v = formula::level_weight(weights, formula, Level(i), plan.guides, counts, words);
         if 0 < v {
             return false;
         }
@@ -46,29 +52,39 @@ pub fn none_weighs(plan: Plan, weights: &[u16], w: Formula, counts: &[u16], word
 pub fn arrive_by(
     plan: Plan,
     weights: &[u16],
-    w: Formula,
+    formula: Formula,
     own: Level,
     cut: Level,
     shifts: u64,
-    cells: &mut [i16; 256],
+    balance_box: &mut [i16; 256],
     counts: &[u16],
     words: &[u64],
 ) -> TableArrival
-    requires { ⌜ (Searchable plan (now counts) (now words)) × (FormulaFits (plan .guides) (now weights) w) × (w .slope ≡ pos 1)
-        × (w .offset ≡ pos 0) ⌝ }
-    requires { ⌜ (cut .0 < plan .levels) × (shifts < 1099511627776) × (now cells ≡ boxIn plan (now counts) (cut .0)) ⌝ }
-    ensures { λ r. ⌜ (r ≡ arrivalIn plan (now (counts .entry)) (now (weights .entry)) w (own .0) (cut .0) shifts)
-        × (now (cells .exit) ≡ boxIn plan (now (counts .entry)) (r .cut .0)) ⌝ }
+    requires { ⌜ (Searchable plan (now counts) (now words)) × (FormulaFits (plan .guides) (now weights) formula) × (formula .slope ≡ pos 1)
+        × (formula .offset ≡ pos 0) ⌝ }
+    requires { ⌜ (cut .0 < plan .levels) × (shifts < 1099511627776) × (now «balance_box» ≡ boxIn plan (now counts) (cut .0)) ⌝ }
+    ensures { λ r. ⌜ (r ≡ arrivalIn plan (now (counts .entry)) (now (weights .entry)) formula (own .0) (cut .0) shifts)
+        × (now («balance_box» .exit) ≡ boxIn plan (now (counts .entry)) (r .cut .0)) ⌝ }
 {
-    let bal = formula::box_balance(cells, weights, w, plan.guides);
-    if bal == 0 && none_weighs(plan, weights, w, counts, words) {
+    let bal = formula::box_balance(balance_box, weights, formula, plan.guides);
+    if bal == 0 && none_weighs(plan, weights, formula, counts, words) {
         return TableArrival {
             answer: own,
             cut: cut,
             shifts: shifts,
         };
     }
-    let found = answer::from_cut(plan, weights, w, cut, bal, shifts, cells, counts, words);
+    let found = answer::from_cut(
+        plan,
+        weights,
+        formula,
+        cut,
+        bal,
+        shifts,
+        balance_box,
+        counts,
+        words,
+    );
     let level = found.level;
     TableArrival {
         answer: level,
@@ -86,13 +102,13 @@ pub fn arrive_table(
     t: usize,
     cut: Level,
     shifts: u64,
-    cells: &mut [i16; 256],
+    balance_box: &mut [i16; 256],
     counts: &[u16],
     words: &[u64],
 ) -> TableArrival
     requires { ⌜ (Counted (now file) plan s t (now counts) (now words)) × (WeightRows plan (now weights)) × (plan .kind ≡ 1) ⌝ }
-    requires { ⌜ (cut .0 < plan .levels) × (shifts < 1099511627776) × (now cells ≡ balanceBox (frameOf (now file)) s t (cut .0)) ⌝ }
-    ensures { λ r. ⌜ Arrives (frameOf (now (file .entry))) s t (cut .0) shifts r (now (cells .exit)) ⌝ }
+    requires { ⌜ (cut .0 < plan .levels) × (shifts < 1099511627776) × (now «balance_box» ≡ balanceBox (frameOf (now file)) s t (cut .0)) ⌝ }
+    ensures { λ r. ⌜ Arrives (frameOf (now (file .entry))) s t (cut .0) shifts r (now («balance_box» .exit)) ⌝ }
 {
     let place = t * plan.width + s;
     let level = pixel::level_at(file, plan, place);
@@ -105,7 +121,7 @@ pub fn arrive_table(
             level,
             cut,
             shifts,
-            cells,
+            balance_box,
             counts,
             words,
         );
@@ -117,5 +133,15 @@ pub fn arrive_table(
         slope: 1,
         offset: 0,
     };
-    arrive_by(plan, &row, own, level, cut, shifts, cells, counts, words)
+    arrive_by(
+        plan,
+        &row,
+        own,
+        level,
+        cut,
+        shifts,
+        balance_box,
+        counts,
+        words,
+    )
 }

@@ -48,25 +48,25 @@ pub fn arrive(
     t: usize,
     cut: Level,
     shifts: u64,
-    cells: &mut [i16; 256],
+    balance_box: &mut [i16; 256],
     counts: &[u16],
     words: &[u64],
     numbers: &[u32],
 ) -> Visit
     requires { ⌜ (Counted (now file) plan s t (now counts) (now words)) × (plan .kind ≡ 2) × (Histogram (frameOf (now file)) s t (now numbers)) ⌝ }
     requires { ⌜ (SumsAt (frameOf (now file)) s t a) × (Carries (frameOf (now file)) (now entering) (now leaving) s t (cut .0 + 1) before) ⌝ }
-    requires { ⌜ (cut .0 < plan .levels) × (shifts ≤ 4294967296) × (now cells ≡ balanceBox (frameOf (now file)) s t (cut .0)) ⌝ }
-    ensures { λ r. ⌜ Answers (frameOf (now (file .entry))) s t (cut .0) shifts r (now (cells .exit)) (now (numbers .entry)) ⌝ }
+    requires { ⌜ (cut .0 < plan .levels) × (shifts ≤ 4294967296) × (now «balance_box» ≡ balanceBox (frameOf (now file)) s t (cut .0)) ⌝ }
+    ensures { λ r. ⌜ Answers (frameOf (now (file .entry))) s t (cut .0) shifts r (now («balance_box» .exit)) (now (numbers .entry)) ⌝ }
 {
     let l = plan.levels;
     let last = l + l;
-    let k = coefficients::of_window(file, plan, a, s, t);
-    let monotone = coefficients::monotone(plan, k);
+    let coefficients = coefficients::of_window(file, plan, a, s, t);
+    let monotone = coefficients::monotone(plan, coefficients);
     let below = tally::carried_where(monotone, before, entering, leaving, cut.0 as usize + 1);
     let r = answer::answer(
         &numbers[0..l],
         &numbers[l..last],
-        k,
+        coefficients,
         plan.guides,
         monotone,
         below,
@@ -75,7 +75,7 @@ pub fn arrive(
     );
     let level = r.level;
     let tally = r.tally;
-    find::move_to(plan, cut, level, cells, counts, words);
+    find::move_to(plan, cut, level, balance_box, counts, words);
     let free = FreeList { head: 0, count: 0 };
     let running = Running {
         sums: a,
@@ -91,14 +91,14 @@ pub fn enter(
     plan: Plan,
     s: usize,
     t: usize,
-    cells: &mut [i16; 256],
+    balance_box: &mut [i16; 256],
     counts: &[u16],
     words: &[u64],
     numbers: &mut [u32],
 ) -> Visit
     requires { ⌜ (Counted (now file) plan s t (now counts) (now words)) × (plan .kind ≡ 2) × (Blank (plan .levels) (now numbers)) ⌝ }
-    requires { ⌜ now cells ≡ balanceBox (frameOf (now file)) s t 0 ⌝ }
-    ensures { λ r. ⌜ Answers (frameOf (now (file .entry))) s t 0 0 r (now (cells .exit)) (now (numbers .exit)) ⌝ }
+    requires { ⌜ now «balance_box» ≡ balanceBox (frameOf (now file)) s t 0 ⌝ }
+    ensures { λ r. ⌜ Answers (frameOf (now (file .entry))) s t 0 0 r (now («balance_box» .exit)) (now (numbers .exit)) ⌝ }
 {
     histogram::start(file, plan, s, t, numbers);
     let a = sums::start(file, plan, s, t);
@@ -116,7 +116,7 @@ pub fn enter(
         t,
         Level(0),
         0,
-        cells,
+        balance_box,
         counts,
         words,
         numbers,

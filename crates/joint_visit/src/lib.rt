@@ -38,13 +38,13 @@ pub fn table_visit(
     row: usize,
     cut: Level,
     shifts: u64,
-    cells: &mut [i16; 256],
+    balance_box: &mut [i16; 256],
     counts: &[u16],
     words: &[u64],
 ) -> Visit
     requires { ⌜ (Counted (now file) plan column row (now counts) (now words)) × (WeightRows plan (now weights)) × (plan .kind ≡ 1) ⌝ }
-    requires { ⌜ (cut .0 < plan .levels) × (shifts ≤ 4294967296) × (now cells ≡ balanceBox (frameOf (now file)) column row (cut .0)) ⌝ }
-    ensures { λ r. ⌜ AnswersAt (frameOf (now (file .entry))) column row (cut .0) shifts r (now (cells .exit)) ⌝ }
+    requires { ⌜ (cut .0 < plan .levels) × (shifts ≤ 4294967296) × (now «balance_box» ≡ balanceBox (frameOf (now file)) column row (cut .0)) ⌝ }
+    ensures { λ r. ⌜ AnswersAt (frameOf (now (file .entry))) column row (cut .0) shifts r (now («balance_box» .exit)) ⌝ }
 {
     let r = arrive::arrive_table(
         file,
@@ -54,7 +54,7 @@ pub fn table_visit(
         row,
         cut,
         shifts,
-        cells,
+        balance_box,
         counts,
         words,
     );
@@ -86,7 +86,7 @@ pub fn enter(
     weights: &[u16],
     column: usize,
     row: usize,
-    cells: &mut [i16; 256],
+    balance_box: &mut [i16; 256],
     counts: &mut [u16],
     words: &mut [u64],
     numbers: &mut [u32],
@@ -94,11 +94,20 @@ pub fn enter(
     requires { ⌜ (Fresh (now file) plan column row (now counts) (now words)) × (Blank (plan .levels) (now numbers)) ⌝ }
     requires { ⌜ WeightRows plan (now weights) ⌝ }
     ensures { λ r. ⌜ JointVisited (frameOf (now (file .entry))) (arrive (frameOf (now (file .entry))) column row 0 0) r
-        (now (counts .entry)) (now (words .entry)) (now (counts .exit)) (now (words .exit)) (now (cells .exit)) (now (numbers .exit)) ⌝ }
+        (now (counts .entry)) (now (words .entry)) (now (counts .exit)) (now (words .exit)) (now («balance_box» .exit)) (now (numbers .exit)) ⌝ }
 {
-    store_start::build(file, plan, column, row, Level(0), cells, counts, words);
+    store_start::build(
+        file,
+        plan,
+        column,
+        row,
+        Level(0),
+        balance_box,
+        counts,
+        words,
+    );
     if plan.kind == 2 {
-        return guided::enter(file, plan, column, row, cells, counts, words, numbers);
+        return guided::enter(file, plan, column, row, balance_box, counts, words, numbers);
     }
     table_visit(
         file,
@@ -108,7 +117,7 @@ pub fn enter(
         row,
         Level(0),
         0,
-        cells,
+        balance_box,
         counts,
         words,
     )
@@ -122,17 +131,17 @@ pub fn slide(
     from: Visit,
     column: usize,
     row: usize,
-    cells: &mut [i16; 256],
+    balance_box: &mut [i16; 256],
     counts: &mut [u16],
     words: &mut [u64],
     numbers: &mut [u32],
 ) -> Visit
-    requires { ⌜ (Held (now file) plan (from .column) (from .row) (from .cut .0) (now counts) (now words) (now cells))
+    requires { ⌜ (Held (now file) plan (from .column) (from .row) (from .cut .0) (now counts) (now words) (now «balance_box»))
         × (Adjacent plan (from .column) (from .row) column row)
         × (Carried (frameOf (now file)) (from .column) (from .row) (from .cut .0) (from .running .sums) (from .running .below) (now numbers)) ⌝ }
     requires { ⌜ (WeightRows plan (now weights)) × (Within plan from) ⌝ }
     ensures { λ r. ⌜ JointVisited (frameOf (now (file .entry))) (arrive (frameOf (now (file .entry))) column row (from .cut .0) (from .shifts)) r
-        (now (counts .entry)) (now (words .entry)) (now (counts .exit)) (now (words .exit)) (now (cells .exit)) (now (numbers .exit)) ⌝ }
+        (now (counts .entry)) (now (words .entry)) (now (counts .exit)) (now (words .exit)) (now («balance_box» .exit)) (now (numbers .exit)) ⌝ }
 {
     let step = line::step_to(plan, from.column, from.row, column, row);
     let mut entering = [0u16; 62];
@@ -145,7 +154,7 @@ pub fn slide(
         &leaving[0..k],
         plan.guides,
         cut,
-        cells,
+        balance_box,
         counts,
         words,
     );
@@ -166,7 +175,7 @@ pub fn slide(
             row,
             cut,
             from.shifts,
-            cells,
+            balance_box,
             counts,
             words,
             numbers,
@@ -180,7 +189,7 @@ pub fn slide(
         row,
         cut,
         from.shifts,
-        cells,
+        balance_box,
         counts,
         words,
     )

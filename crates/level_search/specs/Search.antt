@@ -25,11 +25,11 @@ pub record TallyTo (counts sums : List ℕ) (n : ℕ) (a : Tally) : Type 0 where
 
 -- whether the cumulative weight of level i is at least half of the total
 unfoldable pub passes : Coefficients → List ℕ → List ℕ → ℕ → Bool
-passes k counts sums i = reachesHalf k (sumTo counts (suc i)) (sumTo sums (suc i))
+passes coefficients counts sums i = reachesHalf coefficients (sumTo counts (suc i)) (sumTo sums (suc i))
 
 -- the answer
 unfoldable pub firstLevel : Coefficients → List ℕ → List ℕ → ℕ
-firstLevel k counts sums = first (passes k counts sums) (length counts)
+firstLevel coefficients counts sums = first (passes coefficients counts sums) (length counts)
 
 -- as many guide sums as counts, and small ones
 pub record LevelCells (counts sums : List ℕ) : Type 0 where
@@ -39,20 +39,20 @@ pub record LevelCells (counts sums : List ℕ) : Type 0 where
   pub sum-high : (n : ℕ) → n ≤ length counts → sumTo sums n ≤ 245055
 
 -- what every search needs: that, and an answer
-pub record Searchable (k : Coefficients) (counts sums : List ℕ) : Type 0 where
+pub record Searchable (coefficients : Coefficients) (counts sums : List ℕ) : Type 0 where
   pub cells : LevelCells counts sums
-  pub small : CoefficientsSmall k
-  pub some : firstLevel k counts sums < length counts
+  pub small : CoefficientsSmall coefficients
+  pub some : firstLevel coefficients counts sums < length counts
 
 -- the cumulative weight never falls
-pub record Rising (k : Coefficients) (counts sums : List ℕ) : Type 0 where
-  pub rises : (i j : ℕ) → i ≤ j → j < length counts → passes k counts sums i ≡ true → passes k counts sums j ≡ true
+pub record Rising (coefficients : Coefficients) (counts sums : List ℕ) : Type 0 where
+  pub rises : (i j : ℕ) → i ≤ j → j < length counts → passes coefficients counts sums i ≡ true → passes coefficients counts sums j ≡ true
 
 -- the answer, with the tally of the levels up to it
-pub record FoundAt (k : Coefficients) (counts sums : List ℕ) (f : Found) : Type 0 where
-  pub level : f .level .0 ≡ firstLevel k counts sums
+pub record FoundAt (coefficients : Coefficients) (counts sums : List ℕ) (f : Found) : Type 0 where
+  pub level : f .level .0 ≡ firstLevel coefficients counts sums
   pub tally : TallyTo counts sums (f .level .0 + 1) (f .tally)
 
 -- the levels below c fall short
-pub record FailTo (k : Coefficients) (counts sums : List ℕ) (c : ℕ) : Type 0 where
-  pub fails : (j : ℕ) → j < c → passes k counts sums j ≡ false
+pub record FailTo (coefficients : Coefficients) (counts sums : List ℕ) (c : ℕ) : Type 0 where
+  pub fails : (j : ℕ) → j < c → passes coefficients counts sums j ≡ false

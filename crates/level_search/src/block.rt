@@ -25,13 +25,13 @@ pub fn larger(a: i64, b: i64) -> i64
 }
 
 // What no pixel outweighs, over so many guides: the larger end of the weight formula, or 0.
-pub fn heaviest(k: Coefficients, guides: usize) -> i64
-    requires { ⌜ CoefficientsSmall k ⌝ }
+pub fn heaviest(coefficients: Coefficients, guides: usize) -> i64
+    requires { ⌜ CoefficientsSmall coefficients ⌝ }
     requires { ⌜ (1 ≤ guides) × (guides ≤ 256) ⌝ }
-    ensures { λ w. ⌜ EndsBelow k guides w ⌝ }
+    ensures { λ w. ⌜ EndsBelow coefficients guides w ⌝ }
 {
-    let low = larger(k.offset, 0);
-    let high = k.slope * ((guides - 1) as i64) + k.offset;
+    let low = larger(coefficients.offset, 0);
+    let high = coefficients.slope * ((guides - 1) as i64) + coefficients.offset;
     larger(low, high)
 }
 
@@ -53,21 +53,23 @@ pub fn total(numbers: &[u32], from: Level) -> usize
 // Whether a whole block begins at the level and cannot reach half; count and sum are the tally of the levels below it.
 pub fn light(
     counts: &[u32],
-    k: Coefficients,
+    coefficients: Coefficients,
     heaviest: i64,
     from: Level,
     count: usize,
     sum: usize,
 ) -> bool
-    requires { ⌜ (CoefficientsSmall k) × (natAbs heaviest ≤ 240207812100) × (count ≤ 961) × (sum ≤ 245055) ⌝ }
+    requires { ⌜ (CoefficientsSmall coefficients) × (natAbs heaviest ≤ 240207812100) × (count ≤ 961) × (sum ≤ 245055) ⌝ }
     requires { ⌜ (from .0 < length (now counts)) × (length (now counts) ≤ 1024) × ((n : ℕ) → n ≤ length (now counts) → sumTo (now counts) n ≤ 961) ⌝ }
-    ensures { λ r. ⌜ (r ≡ true → Light k heaviest (now (counts .entry)) (from .0) count sum) ⌝ }
+    ensures { λ r. ⌜ (r ≡ true → Light coefficients heaviest (now (counts .entry)) (from .0) count sum) ⌝ }
 {
     let i = from.0 as usize;
     if counts.len() < i + BLOCK {
         return false;
     }
     let pixels = total(counts, from);
-    let most = k.slope * (sum as i64) + k.offset * (count as i64) + heaviest * (pixels as i64);
-    2 * most < k.total
+    let most = coefficients.slope * (sum as i64)
+        + coefficients.offset * (count as i64)
+        + heaviest * (pixels as i64);
+    2 * most < coefficients.total
 }

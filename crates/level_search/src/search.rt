@@ -59,17 +59,17 @@ pub fn gather(counts: &[u32], sums: &[u32], end: usize) -> Tally
 pub fn ascend(
     counts: &[u32],
     sums: &[u32],
-    k: Coefficients,
+    coefficients: Coefficients,
     heaviest: i64,
     from: Level,
     a: Tally,
     shifts: u64,
 ) -> Found
-    requires { ⌜ (Searchable k (now counts) (now sums)) × (Heaviest k (now counts) (now sums) heaviest) ⌝ }
+    requires { ⌜ (Searchable coefficients (now counts) (now sums)) × (Heaviest coefficients (now counts) (now sums) heaviest) ⌝ }
     requires { ⌜ (from .0 < length (now counts)) × (shifts ≤ 8589934592) ⌝ }
     requires { ⌜ TallyTo (now counts) (now sums) (from .0) a ⌝ }
-    requires { ⌜ FailTo k (now counts) (now sums) (from .0) ⌝ }
-    ensures { λ f. ⌜ (FoundAt k (now (counts .entry)) (now (sums .entry)) f) × (f .shifts + from .0 ≡ shifts + f .level .0)
+    requires { ⌜ FailTo coefficients (now counts) (now sums) (from .0) ⌝ }
+    ensures { λ f. ⌜ (FoundAt coefficients (now (counts .entry)) (now (sums .entry)) f) × (f .shifts + from .0 ≡ shifts + f .level .0)
         × (from .0 ≤ f .level .0) ⌝ }
 {
     let last = counts.len() - 1;
@@ -79,14 +79,14 @@ pub fn ascend(
     let mut i = first;
     while i < last {
         let level = Level(i as u16);
-        if i % BLOCK == 0 && block::light(counts, k, heaviest, level, count, sum) {
+        if i % BLOCK == 0 && block::light(counts, coefficients, heaviest, level, count, sum) {
             count += block::total(counts, level);
             sum += block::total(sums, level);
             i += BLOCK;
         } else {
             count += counts[i] as usize;
             sum += sums[i] as usize;
-            if reached(k, count, sum) {
+            if reached(coefficients, count, sum) {
                 return ended(level, count, sum, shifts + (i - first) as u64);
             }
             i += 1;
@@ -102,17 +102,17 @@ pub fn ascend(
 pub fn descend(
     counts: &[u32],
     sums: &[u32],
-    k: Coefficients,
+    coefficients: Coefficients,
     cut: Level,
     a: Tally,
     shifts: u64,
 ) -> Found
-    requires { ⌜ Searchable k (now counts) (now sums) ⌝ }
+    requires { ⌜ Searchable coefficients (now counts) (now sums) ⌝ }
     requires { ⌜ (cut .0 < length (now counts)) × (shifts ≤ 4294967296) ⌝ }
     requires { ⌜ TallyTo (now counts) (now sums) (cut .0 + 1) a ⌝ }
-    requires { ⌜ Rising k (now counts) (now sums) ⌝ }
-    requires { ⌜ passes k (now counts) (now sums) (cut .0) ≡ true ⌝ }
-    ensures { λ f. ⌜ (FoundAt k (now (counts .entry)) (now (sums .entry)) f) × (f .shifts + f .level .0 ≡ shifts + cut .0)
+    requires { ⌜ Rising coefficients (now counts) (now sums) ⌝ }
+    requires { ⌜ passes coefficients (now counts) (now sums) (cut .0) ≡ true ⌝ }
+    ensures { λ f. ⌜ (FoundAt coefficients (now (counts .entry)) (now (sums .entry)) f) × (f .shifts + f .level .0 ≡ shifts + cut .0)
         × (f .level .0 ≤ cut .0) ⌝ }
 {
     let mut count = a.count;
@@ -122,7 +122,7 @@ pub fn descend(
     while 0 < c {
         let count2 = count - counts[c] as usize;
         let sum2 = sum - sums[c] as usize;
-        if !reached(k, count2, sum2) {
+        if !reached(coefficients, count2, sum2) {
             return ended(Level(c as u16), count, sum, n);
         }
         count = count2;
@@ -137,20 +137,28 @@ pub fn descend(
 pub fn from_cut(
     counts: &[u32],
     sums: &[u32],
-    k: Coefficients,
+    coefficients: Coefficients,
     heaviest: i64,
     cut: Level,
     a: Tally,
     shifts: u64,
 ) -> Found
-    requires { ⌜ (Searchable k (now counts) (now sums)) × (Heaviest k (now counts) (now sums) heaviest) ⌝ }
+    requires { ⌜ (Searchable coefficients (now counts) (now sums)) × (Heaviest coefficients (now counts) (now sums) heaviest) ⌝ }
     requires { ⌜ (cut .0 < length (now counts)) × (shifts ≤ 4294967296) ⌝ }
     requires { ⌜ TallyTo (now counts) (now sums) (cut .0 + 1) a ⌝ }
-    requires { ⌜ Rising k (now counts) (now sums) ⌝ }
-    ensures { λ f. ⌜ (FoundAt k (now (counts .entry)) (now (sums .entry)) f) × (f .shifts ≡ shifts + distance (f .level .0) (cut .0)) ⌝ }
+    requires { ⌜ Rising coefficients (now counts) (now sums) ⌝ }
+    ensures { λ f. ⌜ (FoundAt coefficients (now (counts .entry)) (now (sums .entry)) f) × (f .shifts ≡ shifts + distance (f .level .0) (cut .0)) ⌝ }
 {
-    if reached(k, a.count, a.sum) {
-        return descend(counts, sums, k, cut, a, shifts);
+    if reached(coefficients, a.count, a.sum) {
+        return descend(counts, sums, coefficients, cut, a, shifts);
     }
-    ascend(counts, sums, k, heaviest, Level(cut.0 + 1), a, shifts + 1)
+    ascend(
+        counts,
+        sums,
+        coefficients,
+        heaviest,
+        Level(cut.0 + 1),
+        a,
+        shifts + 1,
+    )
 }

@@ -181,7 +181,7 @@ answered {p} {s} {t} q cells two w {c} {n} {f} {m} em e sh =
     let h = guided-full q two .1 in
     let l : f .level .0 ≡ median p s t = e .level ∙ median-is q cells two w in
     record {
-      said = rw h l;
+      answer = rw h l;
       cut = rw h l;
       shifts = rw h (sh ∙ rw (em, l) refl);
       below = tally-below q cells (omega (arith, l, median-low q)) (e .tally);

@@ -16,21 +16,21 @@ ghost use Rattle.levels.specs.Answer.{Answerable};
 pub fn answer(
     counts: &[u32],
     sums: &[u32],
-    k: Coefficients,
+    coefficients: Coefficients,
     guides: usize,
     monotone: bool,
     below: Tally,
     cut: Level,
     shifts: u64,
 ) -> Found
-    requires { ⌜ Answerable k guides monotone (cut .0) shifts below (now counts) (now sums) ⌝ }
-    ensures { λ f. ⌜ (FoundAt k (now (counts .entry)) (now (sums .entry)) f) × (f .shifts ≡ shifts + (if monotone then distance (f .level .0)
+    requires { ⌜ Answerable coefficients guides monotone (cut .0) shifts below (now counts) (now sums) ⌝ }
+    ensures { λ f. ⌜ (FoundAt coefficients (now (counts .entry)) (now (sums .entry)) f) × (f .shifts ≡ shifts + (if monotone then distance (f .level .0)
         (cut .0) else f .level .0)) ⌝ }
 {
-    let heaviest = block::heaviest(k, guides);
+    let heaviest = block::heaviest(coefficients, guides);
     if monotone {
-        return search::from_cut(counts, sums, k, heaviest, cut, below, shifts);
+        return search::from_cut(counts, sums, coefficients, heaviest, cut, below, shifts);
     }
     let none = Tally { count: 0, sum: 0 };
-    search::ascend(counts, sums, k, heaviest, Level(0), none, shifts)
+    search::ascend(counts, sums, coefficients, heaviest, Level(0), none, shifts)
 }

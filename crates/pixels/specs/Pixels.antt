@@ -40,7 +40,7 @@ pub record PixelsBelow (l m : ℕ) (p : List ℕ) : Type 0 where
 
 -- the list has the line's pixels: every sum over it is that over the line. Nothing else is said of their order or number, so that a line may have
 -- pixels that count nowhere.
-pub record LinePixels (b : List ℕ) (z : Plan) (d : Line) (p : List ℕ) : Type 0 where
-  pub below : PixelsBelow (z .levels) (z .guides) p
-  pub sum : (h : ℕ → ℕ → ℕ) → pixelFold _+_ 0 p h ≡ lineFold _+_ 0 b d h
-  pub sumℤ : (h : ℕ → ℕ → lib.IntN.ℤ) → pixelFold _+ℤ_ (pos 0) p h ≡ lineFold _+ℤ_ (pos 0) b d h
+pub record LinePixels (b : List ℕ) (plan : Plan) (line : Line) (p : List ℕ) : Type 0 where
+  pub below : PixelsBelow (plan .levels) (plan .guides) p
+  pub sum : (h : ℕ → ℕ → ℕ) → pixelFold _+_ 0 p h ≡ lineFold _+_ 0 b line h
+  pub sumℤ : (h : ℕ → ℕ → lib.IntN.ℤ) → pixelFold _+ℤ_ (pos 0) p h ≡ lineFold _+ℤ_ (pos 0) b line h

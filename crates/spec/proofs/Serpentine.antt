@@ -20,7 +20,7 @@ use Rattle.spec.specs.Walk.{State, arrive, start, move, step, after, wal
 use Rattle.spec.specs.Filter.{turn, serpentine, filtered}
 use Rattle.spec.proofs.First.{length-tabulate, getD-tabulate}
 use Rattle.spec.proofs.Steps.{getD-answers}
-use Rattle.spec.proofs.Walks.{step-to, after-next, arrive-column, arrive-row, arrive-said}
+use Rattle.spec.proofs.Walks.{step-to, after-next, arrive-column, arrive-row, arrive-answer}
 use Rattle.spec.specs.Checks.{SettingsLimits}
 use Rattle.spec.proofs.Limits.{FrameLimits}
 
@@ -176,10 +176,10 @@ serpentine-byte k i h = getD-tabulate (pixels k - 1) (turn (k .width)) i 0 (omeg
 pub record At (p : Frame) (x : State) (s t : ℕ) : Type 0 where
   pub column : x .column ≡ s
   pub row : x .row ≡ t
-  pub said : x .said ≡ answer p s t
+  pub answer : x .answer ≡ answer p s t
 
 pub at-arrive : (p : Frame) (s t c n : ℕ) → At p (arrive p s t c n) s t
-at-arrive p s t c n = record { column = arrive-column p s t c n; row = arrive-row p s t c n; said = arrive-said p s t c n }
+at-arrive p s t c n = record { column = arrive-column p s t c n; row = arrive-row p s t c n; answer = arrive-answer p s t c n }
 
 pub at-turn : (p : Frame) (x : State) (i : ℕ) → 0 < p .set .width → i + 1 < pixels (p .set) → At p x (columnAfter (p .set .width) i) (i / p .set .width)
     → At p (step p x (turn (p .set .width) i)) (columnAfter (p .set .width) (i + 1)) ((i + 1) / p .set .width)
@@ -215,7 +215,7 @@ serpentine-at {p} g (suc i) h =
 pub serpentine-answers : {p : Frame} → FrameLimits p → (i : ℕ) → i < pixels (p .set)
     → getD (walkAnswers p 0 0 (serpentine (p .set))) i 0 ≡ answer p (columnAfter (p .set .width) i) (i / p .set .width)
 unfolding walkAnswers walkEnd
-serpentine-answers {p} g i h = getD-answers p (start p 0 0) (serpentine (p .set)) i (omega (arith, serpentine-length (p .set))) ∙ serpentine-at g i h .said
+serpentine-answers {p} g i h = getD-answers p (start p 0 0) (serpentine (p .set)) i (omega (arith, serpentine-length (p .set))) ∙ serpentine-at g i h .answer
 
 -- ---- the plane
 pub filtered-at : (p : Frame) (q : ℕ) → q < pixels (p .set) → getD (filtered p) q 0 ≡ answer p (q % p .set .width) (q / p .set .width)

@@ -19,7 +19,7 @@ length-answers p x [] = refl
 length-answers p x (b ∷ bs) = ap suc (length-answers p (step p x b) bs)
 
 -- the answer at place k is what the walk says after the first k bytes
-pub getD-answers : (p : Frame) (x : State) (bs : List ℕ) (k : ℕ) → k ≤ length bs → getD (answers p x bs) k 0 ≡ after p x (take k bs) .said
+pub getD-answers : (p : Frame) (x : State) (bs : List ℕ) (k : ℕ) → k ≤ length bs → getD (answers p x bs) k 0 ≡ after p x (take k bs) .answer
 unfolding answers after
 getD-answers p x [] zero h = refl
 getD-answers p x [] (suc k) h = absurd (not-suc-le-zero h)

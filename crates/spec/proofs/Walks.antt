@@ -54,12 +54,12 @@ move-fine k s t b hs ht = go (eqb b 0) refl (eqb b 1) refl (eqb b 2) refl (eqb b
 
 -- ---- arriving: what the cut and the shift count become
 pub arrive-weightless : (p : Frame) (s t c n : ℕ) → weightless p s t ≡ true
-    → arrive p s t c n ≡ record { column = s; row = t; cut = c; shifts = n; said = level p s t }
+    → arrive p s t c n ≡ record { column = s; row = t; cut = c; shifts = n; answer = level p s t }
 unfolding arrive
 arrive-weightless p s t c n e = rw e refl
 
 pub arrive-full : (p : Frame) (s t c n : ℕ) → weightless p s t ≡ false
-    → arrive p s t c n ≡ record { column = s; row = t; cut = median p s t; shifts = n + (if monotone p s t then distance (median p s t) c else median p s t); said = median p s t }
+    → arrive p s t c n ≡ record { column = s; row = t; cut = median p s t; shifts = n + (if monotone p s t then distance (median p s t) c else median p s t); answer = median p s t }
 unfolding arrive
 arrive-full p s t c n e = rw e refl
 
@@ -77,12 +77,12 @@ arrive-row p s t c n = go (weightless p s t) refl
     go true e = ap (λ (x : State). x .row) (arrive-weightless p s t c n e)
     go false e = ap (λ (x : State). x .row) (arrive-full p s t c n e)
 
-pub arrive-said : (p : Frame) (s t c n : ℕ) → arrive p s t c n .said ≡ answer p s t
-arrive-said p s t c n = go (weightless p s t) refl
+pub arrive-answer : (p : Frame) (s t c n : ℕ) → arrive p s t c n .answer ≡ answer p s t
+arrive-answer p s t c n = go (weightless p s t) refl
   where
-    go : (b : Bool) → weightless p s t ≡ b → arrive p s t c n .said ≡ answer p s t
-    go true e = ap (λ (x : State). x .said) (arrive-weightless p s t c n e) ∙ sym (answer-weightless p s t e)
-    go false e = ap (λ (x : State). x .said) (arrive-full p s t c n e) ∙ sym (answer-median p s t e)
+    go : (b : Bool) → weightless p s t ≡ b → arrive p s t c n .answer ≡ answer p s t
+    go true e = ap (λ (x : State). x .answer) (arrive-weightless p s t c n e) ∙ sym (answer-weightless p s t e)
+    go false e = ap (λ (x : State). x .answer) (arrive-full p s t c n e) ∙ sym (answer-median p s t e)
 
 -- ---- one byte
 pub step-to : (p : Frame) (x : State) (b s t : ℕ) → move (p .set) (x .column) (x .row) b ≡ To s t → step p x b ≡ arrive p s t (x .cut) (x .shifts)
@@ -90,7 +90,7 @@ unfolding step follow
 step-to p x b s t e = rw e refl
 
 pub step-nowhere : (p : Frame) (x : State) (b m : ℕ) → move (p .set) (x .column) (x .row) b ≡ Nowhere m
-    → step p x b ≡ record { column = x .column; row = x .row; cut = x .cut; shifts = x .shifts; said = m }
+    → step p x b ≡ record { column = x .column; row = x .row; cut = x .cut; shifts = x .shifts; answer = m }
 unfolding step follow
 step-nowhere p x b m e = rw e refl
 
@@ -146,16 +146,16 @@ held-after {p} {x} {n} h [] = let e : n + 0 ≡ n = omega arith in rw e h
 held-after {p} {x} {n} h (b ∷ bs) = let e : n + suc (length bs) ≡ suc n + length bs = omega arith in rw e (held-after (held-step h b) bs)
 
 -- ---- what a byte's answer says
-pub step-level : (p : Frame) (x : State) (b s t : ℕ) → move (p .set) (x .column) (x .row) b ≡ To s t → step p x b .said ≡ answer p s t
-step-level p x b s t e = rw (step-to p x b s t e) (arrive-said p s t (x .cut) (x .shifts))
+pub step-level : (p : Frame) (x : State) (b s t : ℕ) → move (p .set) (x .column) (x .row) b ≡ To s t → step p x b .answer ≡ answer p s t
+step-level p x b s t e = rw (step-to p x b s t e) (arrive-answer p s t (x .cut) (x .shifts))
 
-pub step-mark : (p : Frame) (x : State) (b m : ℕ) → move (p .set) (x .column) (x .row) b ≡ Nowhere m → step p x b .said ≡ m
+pub step-mark : (p : Frame) (x : State) (b m : ℕ) → move (p .set) (x .column) (x .row) b ≡ Nowhere m → step p x b .answer ≡ m
 step-mark p x b m e = rw (step-nowhere p x b m e) refl
 
 -- a level, below 1,024, where the byte moves; where it does not, 65,534 for a move off the picture and 65,533 for another byte
 abbrev pub Told : Frame → State → ℕ → Move → Type 0
-Told p x b (To s t) = (step p x b .said ≡ answer p s t) × (answer p s t < 1024) × (s < p .set .width) × (t < p .set .height) × (b ≤ 3)
-Told p x b (Nowhere m) = ((step p x b .said ≡ 65534) × (b ≤ 3)) ⊎ ((step p x b .said ≡ 65533) × (3 < b))
+Told p x b (To s t) = (step p x b .answer ≡ answer p s t) × (answer p s t < 1024) × (s < p .set .width) × (t < p .set .height) × (b ≤ 3)
+Told p x b (Nowhere m) = ((step p x b .answer ≡ 65534) × (b ≤ 3)) ⊎ ((step p x b .answer ≡ 65533) × (3 < b))
 
 pub told : {p : Frame} {x : State} {n : ℕ} → Held p x n → (b : ℕ) → Told p x b (move (p .set) (x .column) (x .row) b)
 told {p} {x} {n} h b = go (move (p .set) (x .column) (x .row) b) refl (move-fine (p .set) (x .column) (x .row) b (h .in-column) (h .in-row))
@@ -168,9 +168,9 @@ told {p} {x} {n} h b = go (move (p .set) (x .column) (x .row) b) refl (move-fine
 
 -- so a mark is exactly where a byte moves nothing
 pub record Marks (p : Frame) (x : State) (b : ℕ) : Type 0 where
-  pub off : (step p x b .said ≡ 65534) ↔ (move (p .set) (x .column) (x .row) b ≡ Nowhere 65534)
-  pub other : (step p x b .said ≡ 65533) ↔ (3 < b)
-  pub level : (step p x b .said < 1024) ↔ ((s : ℕ) × (t : ℕ) × (move (p .set) (x .column) (x .row) b ≡ To s t))
+  pub off : (step p x b .answer ≡ 65534) ↔ (move (p .set) (x .column) (x .row) b ≡ Nowhere 65534)
+  pub other : (step p x b .answer ≡ 65533) ↔ (3 < b)
+  pub level : (step p x b .answer < 1024) ↔ ((s : ℕ) × (t : ℕ) × (move (p .set) (x .column) (x .row) b ≡ To s t))
 
 apart-moves : {A : Type 0} {s t m : ℕ} → To s t ≡ Nowhere m → A
 apart-moves {A} {s} {t} {m} e = absurd (subst (λ (q : Move). Is q) e tt)
@@ -203,7 +203,7 @@ marks {p} {x} {n} h b = go (move (p .set) (x .column) (x .row) b) refl (told h b
         }
 
 -- ---- place by place
-pub answers-first : (p : Frame) (x : State) (bs : List ℕ) → getD (answers p x bs) 0 0 ≡ x .said
+pub answers-first : (p : Frame) (x : State) (bs : List ℕ) → getD (answers p x bs) 0 0 ≡ x .answer
 unfolding answers
 answers-first p x [] = refl
 answers-first p x (b ∷ bs) = refl
@@ -212,15 +212,15 @@ pub after-next : (p : Frame) (x : State) (bs : List ℕ) (j : ℕ) → j < lengt
 after-next p x bs j h = ap (after p x) (take-suc bs j 0 h) ∙ after-one p x (take j bs) (getD bs j 0)
 
 pub answers-next : (p : Frame) (x : State) (bs : List ℕ) (j : ℕ) → j < length bs
-    → getD (answers p x bs) (suc j) 0 ≡ step p (after p x (take j bs)) (getD bs j 0) .said
-answers-next p x bs j h = getD-answers p x bs (suc j) h ∙ ap (λ (y : State). y .said) (after-next p x bs j h)
+    → getD (answers p x bs) (suc j) 0 ≡ step p (after p x (take j bs)) (getD bs j 0) .answer
+answers-next p x bs j h = getD-answers p x bs (suc j) h ∙ ap (λ (y : State). y .answer) (after-next p x bs j h)
 
 pub walk-first : (p : Frame) (s t : ℕ) (bs : List ℕ) → getD (walkAnswers p s t bs) 0 0 ≡ answer p s t
 unfolding walkAnswers
-walk-first p s t bs = answers-first p (arrive p s t 0 0) bs ∙ arrive-said p s t 0 0
+walk-first p s t bs = answers-first p (arrive p s t 0 0) bs ∙ arrive-answer p s t 0 0
 
 pub walk-next : (p : Frame) (s t : ℕ) (bs : List ℕ) (j : ℕ) → j < length bs
-    → getD (walkAnswers p s t bs) (suc j) 0 ≡ step p (walkEnd p s t (take j bs)) (getD bs j 0) .said
+    → getD (walkAnswers p s t bs) (suc j) 0 ≡ step p (walkEnd p s t (take j bs)) (getD bs j 0) .answer
 unfolding walkAnswers walkEnd
 walk-next p s t bs j h = answers-next p (arrive p s t 0 0) bs j h
 

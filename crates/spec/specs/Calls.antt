@@ -27,13 +27,13 @@ wayOf n = if eqb n 1 then Joint else if eqb n 2 then Columns else Chain
 
 -- way 1 serves both kinds, the others kind 2
 unfoldable pub badWay : Settings → ℕ → Bool
-badWay k n = outside 1 3 n || (not (eqb n 1) && not (eqb (k .kind) 2))
+badWay settings n = outside 1 3 n || (not (eqb n 1) && not (eqb (settings .kind) 2))
 
 -- how much of each store a way uses
 unfoldable pub roomOf : Way → Settings → Room
-roomOf Joint k = record { counts = k .levels * k .guides; words = k .levels * wordsPerLevel k; numbers = 0 }
-roomOf Columns k = record { counts = 0; words = 0; numbers = 2 * (k .width * k .levels) + 2 * k .levels }
-roomOf Chain k = record { counts = 0; words = 0; numbers = 1 + 4 * nodeCount k }
+roomOf Joint settings = record { counts = settings .levels * settings .guides; words = settings .levels * wordsPerLevel settings; numbers = 0 }
+roomOf Columns settings = record { counts = 0; words = 0; numbers = 2 * (settings .width * settings .levels) + 2 * settings .levels }
+roomOf Chain settings = record { counts = 0; words = 0; numbers = 1 + 4 * nodeCount settings }
 
 -- ---- what the stores hold for the window at (s, t): nothing where a way has no such store
 
@@ -64,7 +64,7 @@ boxOf Chain p s t c = zeros
 -- ---- checks 8 to 11
 
 unfoldable pub badPixel : Settings → ℕ → ℕ → Bool
-badPixel k s t = not (ltb s (k .width) && ltb t (k .height))
+badPixel settings s t = not (ltb s (settings .width) && ltb t (settings .height))
 
 -- what a call was lent falls short of what the way uses
 unfoldable pub lacks : Room → Room → Bool
@@ -72,24 +72,24 @@ lacks need have = ltb (have .counts) (need .counts) || ltb (have .words) (need .
 
 -- a store, or an answer buffer or output that is to take n numbers, is too short
 unfoldable pub short : Settings → ℕ → Room → ℕ → ℕ → Bool
-short k way have out n = lacks (roomOf (wayOf way) k) have || ltb out n
+short settings way have out n = lacks (roomOf (wayOf way) settings) have || ltb out n
 
 -- a walk of n moves from (s, t), lent these stores and an answer buffer of so many numbers: its own checks, and all of them
 unfoldable pub walkChecks : Settings → ℕ → ℕ → ℕ → ℕ → Room → ℕ → Outcome
-walkChecks k way s t n have out =
-    refuse 8 (badWay k way) ▷ refuse 9 (badPixel k s t) ▷ refuse 10 (ltb 1048576 n) ▷ refuse 11 (short k way have out (n + 1))
+walkChecks settings way s t n have out =
+    refuse 8 (badWay settings way) ▷ refuse 9 (badPixel settings s t) ▷ refuse 10 (ltb 1048576 n) ▷ refuse 11 (short settings way have out (n + 1))
 
 unfoldable pub walkOutcome : List ℕ → ℕ → ℕ → ℕ → ℕ → Room → ℕ → Outcome
 walkOutcome b way s t n have out = verdict b ▷ walkChecks (settingsOf b) way s t n have out
 
 unfoldable pub filterChecks : Settings → ℕ → Room → ℕ → Outcome
-filterChecks k way have out = refuse 8 (badWay k way) ▷ refuse 11 (short k way have out (pixels k))
+filterChecks settings way have out = refuse 8 (badWay settings way) ▷ refuse 11 (short settings way have out (pixels settings))
 
 unfoldable pub filterOutcome : List ℕ → ℕ → Room → ℕ → Outcome
 filterOutcome b way have out = verdict b ▷ filterChecks (settingsOf b) way have out
 
 unfoldable pub balanceChecks : Settings → ℕ → ℕ → ℕ → Outcome
-balanceChecks k s t i = refuse 9 (badPixel k s t || not (ltb i (k .levels)))
+balanceChecks settings s t i = refuse 9 (badPixel settings s t || not (ltb i (settings .levels)))
 
 unfoldable pub balanceOutcome : List ℕ → ℕ → ℕ → ℕ → Outcome
 balanceOutcome b s t i = verdict b ▷ balanceChecks (settingsOf b) s t i

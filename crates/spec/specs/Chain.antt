@@ -27,7 +27,7 @@ entries p s t zero = []
 entries p s t (suc n) = entries p s t n ++ entryOf p s t n
 
 abbrev pub nodeCount : Settings → ℕ
-nodeCount k = (2 * k .radius + 1) * (2 * k .radius + 1)
+nodeCount settings = (2 * settings .radius + 1) * (2 * settings .radius + 1)
 
 -- node j of a store: level, count, guide sum and next stand at 4j − 3 to 4j. Read from node j on, a store of n nodes gives the entries
 unfoldable pub Reads : ℕ → List ℕ → ℕ → List Entry → Type 0

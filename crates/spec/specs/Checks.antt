@@ -23,37 +23,37 @@ unfoldable pub badMark : List ℕ → Bool
 badMark b = ltb (length b) 28 || not (eqb (be32 b (trailerAt b + 24)) 0x49434531)
 
 unfoldable pub badSize : Settings → Bool
-badSize k = outside 1 1024 (k .width) || outside 1 1024 (k .height) || ltb 262144 (pixels k)
+badSize settings = outside 1 1024 (settings .width) || outside 1 1024 (settings .height) || ltb 262144 (pixels settings)
 
 unfoldable pub badCounts : Settings → Bool
-badCounts k = outside 2 1024 (k .levels) || outside 2 256 (k .guides)
+badCounts settings = outside 2 1024 (settings .levels) || outside 2 256 (settings .guides)
 
 unfoldable pub badKind : Settings → Bool
-badKind k =
-    if eqb (k .kind) 1 then not (eqb (k .smoothing) 0)
-    else if eqb (k .kind) 2 then outside 1 65025 (k .smoothing)
+badKind settings =
+    if eqb (settings .kind) 1 then not (eqb (settings .smoothing) 0)
+    else if eqb (settings .kind) 2 then outside 1 65025 (settings .smoothing)
     else true
 
 unfoldable pub badRadius : Settings → Bool
-badRadius k = ltb 15 (k .radius)
+badRadius settings = ltb 15 (settings .radius)
 
 -- checks 2 to 5, which the writer shares
 unfoldable pub settingsOutcome : Settings → Outcome
-settingsOutcome k = refuse 2 (badSize k) ▷ refuse 3 (badCounts k) ▷ refuse 4 (badKind k) ▷ refuse 5 (badRadius k)
+settingsOutcome settings = refuse 2 (badSize settings) ▷ refuse 3 (badCounts settings) ▷ refuse 4 (badKind settings) ▷ refuse 5 (badRadius settings)
 
 -- document 01's limits, as checks 2 to 5 leave them (`settings-limits` of proofs/Limits)
-pub record SettingsLimits (k : Settings) : Type 0 where
-  pub width-low : 1 ≤ k .width
-  pub width-high : k .width ≤ 1024
-  pub height-low : 1 ≤ k .height
-  pub height-high : k .height ≤ 1024
-  pub pixels-high : k .width * k .height ≤ 262144
-  pub levels-low : 2 ≤ k .levels
-  pub levels-high : k .levels ≤ 1024
-  pub guides-low : 2 ≤ k .guides
-  pub guides-high : k .guides ≤ 256
-  pub radius-high : k .radius ≤ 15
-  pub kinds : ((k .kind ≡ 1) × (k .smoothing ≡ 0)) ⊎ ((k .kind ≡ 2) × (1 ≤ k .smoothing) × (k .smoothing ≤ 65025))
+pub record SettingsLimits (settings : Settings) : Type 0 where
+  pub width-low : 1 ≤ settings .width
+  pub width-high : settings .width ≤ 1024
+  pub height-low : 1 ≤ settings .height
+  pub height-high : settings .height ≤ 1024
+  pub pixels-high : settings .width * settings .height ≤ 262144
+  pub levels-low : 2 ≤ settings .levels
+  pub levels-high : settings .levels ≤ 1024
+  pub guides-low : 2 ≤ settings .guides
+  pub guides-high : settings .guides ≤ 256
+  pub radius-high : settings .radius ≤ 15
+  pub kinds : ((settings .kind ≡ 1) × (settings .smoothing ≡ 0)) ⊎ ((settings .kind ≡ 2) × (1 ≤ settings .smoothing) × (settings .smoothing ≤ 65025))
 
 -- check 6, of a file whose trailer begins at an offset
 unfoldable pub badDistance : ℕ → Trailer → Bool
@@ -76,16 +76,16 @@ unfoldable pub scanFile : List ℕ → ℕ → ℕ → ℕ → Outcome
 scanFile b offset n limit = scan (plane b offset) n limit offset
 
 unfoldable pub valueScan : List ℕ → Plan → Outcome
-valueScan b z = scanFile b (z .value) (z .width * z .height) (z .levels)
+valueScan b plan = scanFile b (plan .value) (plan .width * plan .height) (plan .levels)
 
 unfoldable pub guideScan : List ℕ → Plan → Outcome
-guideScan b z = scanFile b (z .guide) (z .width * z .height) (z .guides)
+guideScan b plan = scanFile b (plan .guide) (plan .width * plan .height) (plan .guides)
 
 unfoldable pub tableScan : List ℕ → Plan → Outcome
-tableScan b z = scanFile b (z .table) (z .weights) (heaviest + 1)
+tableScan b plan = scanFile b (plan .table) (plan .weights) (heaviest + 1)
 
 unfoldable pub contents : List ℕ → Plan → Outcome
-contents b z = valueScan b z ▷ guideScan b z ▷ tableScan b z
+contents b plan = valueScan b plan ▷ guideScan b plan ▷ tableScan b plan
 
 -- checks 1 to 6, of trailer and distances
 unfoldable pub trailerOutcome : List ℕ → Outcome
@@ -95,6 +95,6 @@ unfoldable pub verdict : List ℕ → Outcome
 verdict b = trailerOutcome b ▷ contents b (planOf b)
 
 -- an accepted file and its plan
-pub record Planned (b : List ℕ) (z : Plan) : Type 0 where
+pub record Planned (b : List ℕ) (layout : Plan) : Type 0 where
   pub accepts : verdict b ≡ accepted
-  pub plan : z ≡ planOf b
+  pub plan : layout ≡ planOf b

@@ -14,7 +14,7 @@ unfoldable pub turn : ℕ → ℕ → ℕ
 turn w i = if eqb ((i + 1) % w) 0 then 2 else (i / w) % 2
 
 unfoldable pub serpentine : Settings → List ℕ
-serpentine k = tabulate (pixels k - 1) (turn (k .width))
+serpentine settings = tabulate (pixels settings - 1) (turn (settings .width))
 
 -- each answer at its pixel's place
 unfoldable pub filtered : Frame → List ℕ

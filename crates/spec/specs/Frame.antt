@@ -61,11 +61,11 @@ trailerOf b =
 -- ---- the planes and the table
 
 abbrev pub pixels : Settings → ℕ
-pixels k = k .width * k .height
+pixels settings = settings .width * settings .height
 
 -- how many weights a table has, and how many the file itself has: none for distance 0
 abbrev pub tableSize : Settings → ℕ
-tableSize k = k .guides * k .guides
+tableSize settings = settings .guides * settings .guides
 
 unfoldable pub ownWeights : Trailer → ℕ
 ownWeights t = if eqb (t .table) 0 then 0 else tableSize (t .settings)
@@ -110,15 +110,15 @@ planOf b =
 
 -- the settings that a plan holds
 abbrev pub settingsIn : Plan → Settings
-settingsIn z =
+settingsIn plan =
     record {
-      width = z .width;
-      height = z .height;
-      levels = z .levels;
-      guides = z .guides;
-      kind = z .kind;
-      radius = z .radius;
-      smoothing = z .smoothing;
+      width = plan .width;
+      height = plan .height;
+      levels = plan .levels;
+      guides = plan .guides;
+      kind = plan .kind;
+      radius = plan .radius;
+      smoothing = plan .smoothing;
     }
 
 -- number q of a plane that begins at a byte

@@ -13,9 +13,9 @@ use Rattle.spec.specs.Window.{Σℤ, count}
 unfoldable pub jointCounts : Frame → ℕ → ℕ → List ℕ
 jointCounts p s t = tabulate (p .set .levels * p .set .guides) (λ k. count p s t (k / p .set .guides) (k % p .set .guides))
 
--- occupancy words of one level: document 01's k
+-- occupancy words of one level: document 01's settings
 abbrev pub wordsPerLevel : Settings → ℕ
-wordsPerLevel k = (k .guides + 63) / 64
+wordsPerLevel settings = (settings .guides + 63) / 64
 
 -- word j of level i: bit b is set where a pixel has guide 64j + b
 unfoldable pub occupancyWord : Frame → ℕ → ℕ → ℕ → ℕ → ℕ

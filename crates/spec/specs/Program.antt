@@ -56,7 +56,7 @@ ways p =
 
 -- check 12: too many bytes first, and after opening too large a picture
 unfoldable pub tooLarge : Settings → Bool
-tooLarge k = ltb 64 (k .width) || ltb 64 (k .levels) || ltb 64 (k .guides)
+tooLarge settings = ltb 64 (settings .width) || ltb 64 (settings .levels) || ltb 64 (settings .guides)
 
 unfoldable pub programOutcome : List ℕ → Outcome
 programOutcome b = refuse 12 (ltb 16384 (length b)) ▷ verdict b ▷ refuse 12 (tooLarge (settingsOf b))

@@ -25,14 +25,14 @@ pub record State : Type 0 where
   pub row : ℕ
   pub cut : ℕ
   pub shifts : ℕ
-  pub said : ℕ
+  pub answer : ℕ
 
 -- at a new pixel, with cut point c and shift count n before it: what the window there answers and adds
 unfoldable pub arrive : Frame → ℕ → ℕ → ℕ → ℕ → State
 arrive p s t c n =
     let m = median p s t in
-    if weightless p s t then record { column = s; row = t; cut = c; shifts = n; said = level p s t }
-    else record { column = s; row = t; cut = m; shifts = n + (if monotone p s t then distance m c else m); said = m }
+    if weightless p s t then record { column = s; row = t; cut = c; shifts = n; answer = level p s t }
+    else record { column = s; row = t; cut = m; shifts = n + (if monotone p s t then distance m c else m); answer = m }
 
 -- where a byte leads
 abbrev pub toIf : Bool → ℕ → ℕ → Move
@@ -40,16 +40,16 @@ toIf true s t = To s t
 toIf false s t = Nowhere 65534
 
 unfoldable pub move : Settings → ℕ → ℕ → ℕ → Move
-move k s t b =
-    if eqb b 0 then toIf (ltb (s + 1) (k .width)) (s + 1) t
+move settings s t b =
+    if eqb b 0 then toIf (ltb (s + 1) (settings .width)) (s + 1) t
     else if eqb b 1 then toIf (ltb 0 s) (s - 1) t
-    else if eqb b 2 then toIf (ltb (t + 1) (k .height)) s (t + 1)
+    else if eqb b 2 then toIf (ltb (t + 1) (settings .height)) s (t + 1)
     else if eqb b 3 then toIf (ltb 0 t) s (t - 1)
     else Nowhere 65533
 
 unfoldable pub follow : Frame → State → Move → State
 follow p x (To s t) = arrive p s t (x .cut) (x .shifts)
-follow p x (Nowhere mark) = record { column = x .column; row = x .row; cut = x .cut; shifts = x .shifts; said = mark }
+follow p x (Nowhere mark) = record { column = x .column; row = x .row; cut = x .cut; shifts = x .shifts; answer = mark }
 
 unfoldable pub step : Frame → State → ℕ → State
 step p x b = follow p x (move (p .set) (x .column) (x .row) b)
@@ -60,8 +60,8 @@ after p x [] = x
 after p x (b ∷ bs) = after p (step p x b) bs
 
 unfoldable pub answers : Frame → State → List ℕ → List ℕ
-answers p x [] = x .said ∷ []
-answers p x (b ∷ bs) = x .said ∷ answers p (step p x b) bs
+answers p x [] = x .answer ∷ []
+answers p x (b ∷ bs) = x .answer ∷ answers p (step p x b) bs
 
 -- a walk from a pixel: its first state, its last one, and its answers
 abbrev pub start : Frame → ℕ → ℕ → State

@@ -13,7 +13,7 @@ use Rattle.spec.specs.Checks.{heaviest, settingsOutcome, scan}
 
 -- the trailer's first 12 bytes
 unfoldable pub fieldBytes : Settings → List ℕ
-fieldBytes k = to16 (k .width) ++ to16 (k .height) ++ to16 (k .levels) ++ to16 (k .guides) ++ (k .kind ∷ k .radius ∷ []) ++ to16 (k .smoothing)
+fieldBytes settings = to16 (settings .width) ++ to16 (settings .height) ++ to16 (settings .levels) ++ to16 (settings .guides) ++ (settings .kind ∷ settings .radius ∷ []) ++ to16 (settings .smoothing)
 
 -- the last 16, with a table of n weights and planes of p pixels: the table ends where the trailer begins
 unfoldable pub distanceBytes : ℕ → ℕ → List ℕ
@@ -21,15 +21,15 @@ distanceBytes n p = to32 (2 * n + 4 * p) ++ to32 (2 * n + 2 * p) ++ to32 (2 * n)
 
 -- value plane, guide plane, table, trailer
 unfoldable pub written : Settings → List ℕ → List ℕ → List ℕ → List ℕ
-written k v g a = all16 v ++ all16 g ++ all16 a ++ fieldBytes k ++ distanceBytes (length a) (pixels k)
+written settings v g a = all16 v ++ all16 g ++ all16 a ++ fieldBytes settings ++ distanceBytes (length a) (pixels settings)
 
 unfoldable pub writtenSize : Settings → ℕ → ℕ
-writtenSize k n = 4 * pixels k + 2 * n + 28
+writtenSize settings n = 4 * pixels settings + 2 * n + 28
 
 -- a plane of the wrong length, or a table that is neither empty nor, in kind 1, M·M
 unfoldable pub badLength : Settings → ℕ → ℕ → ℕ → Bool
-badLength k v g a =
-    not (eqb v (pixels k)) || not (eqb g (pixels k)) || (not (eqb a 0) && not (eqb (k .kind) 1 && eqb a (tableSize k)))
+badLength settings v g a =
+    not (eqb v (pixels settings)) || not (eqb g (pixels settings)) || (not (eqb a 0) && not (eqb (settings .kind) 1 && eqb a (tableSize settings)))
 
 -- check 7 of numbers that would begin at an offset
 unfoldable pub scanList : List ℕ → ℕ → ℕ → Outcome
@@ -37,10 +37,10 @@ scanList l limit offset = scan (λ j. getD l j 0) (length l) limit offset
 
 -- into an output of room bytes
 unfoldable pub writerOutcome : Settings → List ℕ → List ℕ → List ℕ → ℕ → Outcome
-writerOutcome k v g a room =
-    settingsOutcome k ▷ refuse 6 (badLength k (length v) (length g) (length a))
-    ▷ scanList v (k .levels) 0 ▷ scanList g (k .guides) (2 * pixels k) ▷ scanList a (heaviest + 1) (4 * pixels k)
-    ▷ refuse 11 (ltb room (writtenSize k (length a)))
+writerOutcome settings v g a room =
+    settingsOutcome settings ▷ refuse 6 (badLength settings (length v) (length g) (length a))
+    ▷ scanList v (settings .levels) 0 ▷ scanList g (settings .guides) (2 * pixels settings) ▷ scanList a (heaviest + 1) (4 * pixels settings)
+    ▷ refuse 11 (ltb room (writtenSize settings (length a)))
 
 -- the output afterwards: the file and then the rest as it was; or all as it was
 abbrev pub stored : Outcome → List ℕ → List ℕ → List ℕ

@@ -13,10 +13,10 @@ use Rattle.visit.specs.Visit.{stateOf}
 
 -- it is the definition's where the pixel is the window's and cut point, shift count and answer are the definition's
 pub state-is : (p : Frame) (s t c n : ℕ) (cut : Level) (shifts : ℕ) (answer : Level) (running : Running) → cut .0 ≡ arrive p s t c n .cut
-    → shifts ≡ arrive p s t c n .shifts → answer .0 ≡ arrive p s t c n .said
+    → shifts ≡ arrive p s t c n .shifts → answer .0 ≡ arrive p s t c n .answer
     → stateOf (record { column = s; row = t; cut = cut; shifts = shifts; answer = Answer.Level answer; running = running }) ≡ arrive p s t c n
 state-is p s t c n cut shifts answer running e f g =
-    λ i. record { column = sym (arrive-column p s t c n) i; row = sym (arrive-row p s t c n) i; cut = e i; shifts = f i; said = g i }
+    λ i. record { column = sym (arrive-column p s t c n) i; row = sym (arrive-row p s t c n) i; cut = e i; shifts = f i; answer = g i }
 
 -- and then the window is the visit's own
 pub at-visit : (p : Frame) (s t c n : ℕ) (P : ℕ → ℕ → Type 0) (v : Visit) → stateOf v ≡ arrive p s t c n → P s t → P (v .column) (v .row)

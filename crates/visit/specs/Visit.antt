@@ -10,7 +10,7 @@ use Rattle.visit.specs.declared.Visit.{Visit}
 
 -- the state of the definitions that a visit stands for
 abbrev pub stateOf : Visit → State
-stateOf v = record { column = v .column; row = v .row; cut = v .cut .0; shifts = v .shifts; said = answerNumber (v .answer) }
+stateOf v = record { column = v .column; row = v .row; cut = v .cut .0; shifts = v .shifts; answer = answerNumber (v .answer) }
 
 -- the visit of a window that weighs something: its level is the answer and the new cut point
 abbrev pub answered : ℕ → ℕ → Level → ℕ → Running → Visit

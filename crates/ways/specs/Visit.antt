@@ -37,10 +37,10 @@ abbrev pub lent : Stores → Room
 lent held = record { counts = length (held .counts); words = length (held .words); numbers = length (held .numbers) }
 
 -- there is room for what the way uses
-pub record Fit (way : Way) (k : Settings) (held : Stores) : Type 0 where
-  pub counts : roomOf way k .counts ≤ length (held .counts)
-  pub words : roomOf way k .words ≤ length (held .words)
-  pub numbers : roomOf way k .numbers ≤ length (held .numbers)
+pub record Fit (way : Way) (settings : Settings) (held : Stores) : Type 0 where
+  pub counts : roomOf way settings .counts ≤ length (held .counts)
+  pub words : roomOf way settings .words ≤ length (held .words)
+  pub numbers : roomOf way settings .numbers ≤ length (held .numbers)
 
 -- the stores and the box are those of the window at (s, t), at the cut point c
 pub record Holds (way : Way) (p : Frame) (s t c : ℕ) (held : Stores) (box : List ℤ) : Type 0 where
@@ -55,10 +55,10 @@ pub record KeptBeyond (n : ℕ) (before after : List ℕ) : Type 0 where
   pub beyond : drop n after ≡ drop n before
 
 -- the stores keep all that lies beyond what the way uses
-pub record Kept (way : Way) (k : Settings) (before after : Stores) : Type 0 where
-  pub counts : KeptBeyond (roomOf way k .counts) (before .counts) (after .counts)
-  pub words : KeptBeyond (roomOf way k .words) (before .words) (after .words)
-  pub numbers : KeptBeyond (roomOf way k .numbers) (before .numbers) (after .numbers)
+pub record Kept (way : Way) (settings : Settings) (before after : Stores) : Type 0 where
+  pub counts : KeptBeyond (roomOf way settings .counts) (before .counts) (after .counts)
+  pub words : KeptBeyond (roomOf way settings .words) (before .words) (after .words)
+  pub numbers : KeptBeyond (roomOf way settings .numbers) (before .numbers) (after .numbers)
 
 -- what the way carries to the next window of a file, beside the window's sums: columns the tally up to the cut point, joint that tally and the
 -- histogram of levels, the chain its free list in the numbers

@@ -49,13 +49,13 @@ pub fn of_window(file: &[u8], plan: Plan, a: Sums, s: usize, t: usize) -> Coeffi
 }
 
 // Document 01: steady. The weight formula at guide 0 and at the last guide.
-pub fn monotone(plan: Plan, k: Coefficients) -> bool
+pub fn monotone(plan: Plan, coefficients: Coefficients) -> bool
     requires { ⌜ (1 ≤ plan .guides) × (plan .guides ≤ 256) ⌝ }
-    requires { ⌜ CoefficientsSmall k ⌝ }
-    ensures { λ r. ⌜ r ≡ endsNotNegative k (plan .guides) ⌝ }
+    requires { ⌜ CoefficientsSmall coefficients ⌝ }
+    ensures { λ r. ⌜ r ≡ endsNotNegative coefficients (plan .guides) ⌝ }
 {
-    let low = k.offset;
-    let high = k.slope * ((plan.guides - 1) as i64) + k.offset;
+    let low = coefficients.offset;
+    let high = coefficients.slope * ((plan.guides - 1) as i64) + coefficients.offset;
     if low < 0 {
         return false;
     }
@@ -66,10 +66,11 @@ pub fn monotone(plan: Plan, k: Coefficients) -> bool
 }
 
 // Whether so many of the window's pixels, with that guide sum, weigh at least half of the total.
-pub fn reached(k: Coefficients, count: usize, sum: usize) -> bool
-    requires { ⌜ CoefficientsSmall k ⌝ }
+pub fn reached(coefficients: Coefficients, count: usize, sum: usize) -> bool
+    requires { ⌜ CoefficientsSmall coefficients ⌝ }
     requires { ⌜ (count ≤ 961) × (sum ≤ 245055) ⌝ }
-    ensures { λ r. ⌜ r ≡ reachesHalf k count sum ⌝ }
+    ensures { λ r. ⌜ r ≡ reachesHalf coefficients count sum ⌝ }
 {
-    k.total <= 2 * (k.slope * (sum as i64) + k.offset * (count as i64))
+    coefficients.total
+        <= 2 * (coefficients.slope * (sum as i64) + coefficients.offset * (count as i64))
 }

@@ -48,14 +48,14 @@ pub fn span_of(c: usize, r: usize, size: usize) -> usize
 }
 
 // Column x over the rows of the windows of row t.
-pub fn column_line(z: Plan, x: usize, t: usize) -> Line
-    requires { ⌜ PlanLimits z ⌝ }
-    requires { ⌜ (x ≤ 1024) × (t < z .height) ⌝ }
-    ensures { λ e. ⌜ e ≡ columnLine z x t ⌝ }
+pub fn column_line(plan: Plan, x: usize, t: usize) -> Line
+    requires { ⌜ PlanLimits plan ⌝ }
+    requires { ⌜ (x ≤ 1024) × (t < plan .height) ⌝ }
+    ensures { λ e. ⌜ e ≡ columnLine plan x t ⌝ }
 {
-    let w = z.width;
-    let count = span_of(t, z.radius, z.height);
-    let top = low(t, z.radius);
+    let w = plan.width;
+    let count = span_of(t, plan.radius, plan.height);
+    let top = low(t, plan.radius);
     Line {
         first: top * w + x,
         stride: w,
@@ -64,14 +64,14 @@ pub fn column_line(z: Plan, x: usize, t: usize) -> Line
 }
 
 // Row y over the columns of the windows of column s.
-pub fn row_line(z: Plan, s: usize, y: usize) -> Line
-    requires { ⌜ PlanLimits z ⌝ }
-    requires { ⌜ (y ≤ 1024) × (s < z .width) ⌝ }
-    ensures { λ e. ⌜ e ≡ rowLine z s y ⌝ }
+pub fn row_line(plan: Plan, s: usize, y: usize) -> Line
+    requires { ⌜ PlanLimits plan ⌝ }
+    requires { ⌜ (y ≤ 1024) × (s < plan .width) ⌝ }
+    ensures { λ e. ⌜ e ≡ rowLine plan s y ⌝ }
 {
-    let w = z.width;
-    let count = span_of(s, z.radius, w);
-    let left = low(s, z.radius);
+    let w = plan.width;
+    let count = span_of(s, plan.radius, w);
+    let left = low(s, plan.radius);
     Line {
         first: y * w + left,
         stride: 1,
@@ -80,45 +80,45 @@ pub fn row_line(z: Plan, s: usize, y: usize) -> Line
 }
 
 // The line that begins so many pixels later, with no pixel where it is off the picture.
-pub fn shifted(d: Line, by: usize, on: bool) -> Line
-    requires { ⌜ d .first + by ≤ 4294967296 ⌝ }
-    ensures { λ e. ⌜ e ≡ shift d by on ⌝ }
+pub fn shifted(line: Line, by: usize, on: bool) -> Line
+    requires { ⌜ line .first + by ≤ 4294967296 ⌝ }
+    ensures { λ e. ⌜ e ≡ shift line by on ⌝ }
 {
-    let first = d.first + by;
+    let first = line.first + by;
     if on {
         return Line {
             first: first,
-            stride: d.stride,
-            count: d.count,
+            stride: line.stride,
+            count: line.count,
         };
     }
     Line {
         first: first,
-        stride: d.stride,
+        stride: line.stride,
         count: 0,
     }
 }
 
 // The window's centre goes from c to c + 1 among size parallel lines: d is the one at 0, and the next begins apart pixels later.
-pub fn forward(d: Line, apart: usize, c: usize, r: usize, size: usize) -> Step
-    requires { ⌜ (d .first ≤ 2097152) × (apart ≤ 1024) × (c < size) × (size ≤ 1024) × (r ≤ 15) ⌝ }
-    ensures { λ e. ⌜ e ≡ advance d apart c r size ⌝ }
+pub fn forward(line: Line, apart: usize, c: usize, r: usize, size: usize) -> Step
+    requires { ⌜ (line .first ≤ 2097152) × (apart ≤ 1024) × (c < size) × (size ≤ 1024) × (r ≤ 15) ⌝ }
+    ensures { λ e. ⌜ e ≡ advance line apart c r size ⌝ }
 {
     let old = low(c, r);
     let new = c + r + 1;
-    let leaving = shifted(d, old * apart, r <= c);
-    let entering = shifted(d, new * apart, new < size);
+    let leaving = shifted(line, old * apart, r <= c);
+    let entering = shifted(line, new * apart, new < size);
     Step {
         leaving: leaving,
         entering: entering,
     }
 }
 
-pub fn backward(d: Step) -> Step
-    ensures { λ e. ⌜ e ≡ reverse d ⌝ }
+pub fn backward(step: Step) -> Step
+    ensures { λ e. ⌜ e ≡ reverse step ⌝ }
 {
-    let leaving = d.entering;
-    let entering = d.leaving;
+    let leaving = step.entering;
+    let entering = step.leaving;
     Step {
         leaving: leaving,
         entering: entering,
@@ -126,41 +126,41 @@ pub fn backward(d: Step) -> Step
 }
 
 // From column c to c + 1 of row t.
-pub fn column_step(z: Plan, c: usize, t: usize) -> Step
-    requires { ⌜ PlanLimits z ⌝ }
-    requires { ⌜ (c < z .width) × (t < z .height) ⌝ }
-    ensures { λ e. ⌜ e ≡ columnStep z c t ⌝ }
+pub fn column_step(plan: Plan, c: usize, t: usize) -> Step
+    requires { ⌜ PlanLimits plan ⌝ }
+    requires { ⌜ (c < plan .width) × (t < plan .height) ⌝ }
+    ensures { λ e. ⌜ e ≡ columnStep plan c t ⌝ }
 {
-    let d = column_line(z, 0, t);
-    forward(d, 1, c, z.radius, z.width)
+    let d = column_line(plan, 0, t);
+    forward(d, 1, c, plan.radius, plan.width)
 }
 
 // From row c to c + 1 of column s.
-pub fn row_step(z: Plan, s: usize, c: usize) -> Step
-    requires { ⌜ PlanLimits z ⌝ }
-    requires { ⌜ (s < z .width) × (c < z .height) ⌝ }
-    ensures { λ e. ⌜ e ≡ rowStep z s c ⌝ }
+pub fn row_step(plan: Plan, s: usize, c: usize) -> Step
+    requires { ⌜ PlanLimits plan ⌝ }
+    requires { ⌜ (s < plan .width) × (c < plan .height) ⌝ }
+    ensures { λ e. ⌜ e ≡ rowStep plan s c ⌝ }
 {
-    let d = row_line(z, s, 0);
-    forward(d, z.width, c, z.radius, z.height)
+    let d = row_line(plan, s, 0);
+    forward(d, plan.width, c, plan.radius, plan.height)
 }
 
 // From (s, t) to the neighbour (s2, t2).
-pub fn step_to(z: Plan, s: usize, t: usize, s2: usize, t2: usize) -> Step
-    requires { ⌜ PlanLimits z ⌝ }
-    requires { ⌜ Adjacent z s t s2 t2 ⌝ }
-    ensures { λ e. ⌜ e ≡ stepOf z s t s2 t2 ⌝ }
+pub fn step_to(plan: Plan, s: usize, t: usize, s2: usize, t2: usize) -> Step
+    requires { ⌜ PlanLimits plan ⌝ }
+    requires { ⌜ Adjacent plan s t s2 t2 ⌝ }
+    ensures { λ e. ⌜ e ≡ stepOf plan s t s2 t2 ⌝ }
 {
     if s < s2 {
-        return column_step(z, s, t);
+        return column_step(plan, s, t);
     }
     if s2 < s {
-        let d = column_step(z, s2, t);
+        let d = column_step(plan, s2, t);
         return backward(d);
     }
     if t < t2 {
-        return row_step(z, s, t);
+        return row_step(plan, s, t);
     }
-    let d = row_step(z, s, t2);
+    let d = row_step(plan, s, t2);
     backward(d)
 }

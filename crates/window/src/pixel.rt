@@ -9,18 +9,18 @@ ghost use Prim.Native.Nat.{_*_, _<_};
 ghost use Rattle.spec.specs.Checks.{Planned};
 ghost use Rattle.spec.specs.Frame.{pixelLevel, pixelGuide};
 
-pub fn level_at(file: &[u8], z: Plan, q: usize) -> Level
-    requires { ⌜ Planned (now file) z ⌝ }
-    requires { ⌜ q < z .width * z .height ⌝ }
+pub fn level_at(file: &[u8], plan: Plan, q: usize) -> Level
+    requires { ⌜ Planned (now file) plan ⌝ }
+    requires { ⌜ q < plan .width * plan .height ⌝ }
     ensures { λ r. ⌜ r .0 ≡ pixelLevel (now (file .entry)) q ⌝ }
 {
-    level(file, z.value + 2 * q)
+    level(file, plan.value + 2 * q)
 }
 
-pub fn guide_at(file: &[u8], z: Plan, q: usize) -> Guide
-    requires { ⌜ Planned (now file) z ⌝ }
-    requires { ⌜ q < z .width * z .height ⌝ }
+pub fn guide_at(file: &[u8], plan: Plan, q: usize) -> Guide
+    requires { ⌜ Planned (now file) plan ⌝ }
+    requires { ⌜ q < plan .width * plan .height ⌝ }
     ensures { λ r. ⌜ r .0 ≡ pixelGuide (now (file .entry)) q ⌝ }
 {
-    guide(file, z.guide + 2 * q)
+    guide(file, plan.guide + 2 * q)
 }

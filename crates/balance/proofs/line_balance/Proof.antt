@@ -36,7 +36,7 @@ turn-low : (c : tie.In-loop Inv-loop μ-loop) → c .before .loop .k < 31
 turn-low c = omega (arith, c .loop-test .taken, start (c .before) .pre .few)
 
 -- its guide's weight is in the row
-inside : (g : tie.After-struct-known Inv-loop μ-loop) → let at = start (turn g .before) in at .args .w .row + guideIn (at .args .p .now) (turn g .before .loop .k) < length (at .args .weights .now)
+inside : (g : tie.After-struct-known Inv-loop μ-loop) → let at = start (turn g .before) in at .args .formula .row + guideIn (at .args .p .now) (turn g .before .loop .k) < length (at .args .weights .now)
 inside g = start (turn g .before) .pre .inside (turn g .before .loop .k) (turn g .loop-test .taken)
 
 -- both of its numbers have 16 bits
@@ -45,8 +45,8 @@ numbers g = let k = turn g .before .loop .k in (omega (arith, g .before .shared-
 
 -- the weight has 16 bits too
 number-low : (c : tie.After-shared-slice-known5 Inv-loop μ-loop) → let t = turn (c .before) in let at = start (t .before) in
-    getD (at .args .weights .now) (at .args .w .row + guideIn (at .args .p .now) (t .before .loop .k)) 0 ≤ 65535
-number-low c = let t = turn (c .before) in let at = start (t .before) in omega (arith, c .shared-slice-known5 .given (at .args .w .row + guideIn (at .args .p .now) (t .before .loop .k)))
+    getD (at .args .weights .now) (at .args .formula .row + guideIn (at .args .p .now) (t .before .loop .k)) 0 ≤ 65535
+number-low c = let t = turn (c .before) in let at = start (t .before) in omega (arith, c .shared-slice-known5 .given (at .args .formula .row + guideIn (at .args .p .now) (t .before .loop .k)))
 
 loop-holds : tie.Need-loop-holds Inv-loop μ-loop
 loop-holds c = (omega arith, sym (pixels-none _+ℤ_ (pos 0) _ _))
@@ -92,7 +92,7 @@ combine-requires c κs =
     weight-asks (at .pre) (at .args .top .0) (t .loop-test .taken) (number-low r)
 
 -- what the call gave is the guide's weight
-weighed : (e : tie.After-combine Inv-loop μ-loop) → let t = turn (read e .before) in let at = start (t .before) in e .combine .result ≡ weightBy (at .args .weights .now) (at .args .w) (guideIn (at .args .p .now) (t .before .loop .k))
+weighed : (e : tie.After-combine Inv-loop μ-loop) → let t = turn (read e .before) in let at = start (t .before) in e .combine .result ≡ weightBy (at .args .weights .now) (at .args .formula) (guideIn (at .args .p .now) (t .before .loop .k))
 weighed e =
     let t = turn (read e .before) in
     let at = start (t .before) in
@@ -126,7 +126,7 @@ returns c =
     let h = c .before in
     let at = start h in
     let done : h .loop .k ≡ countOf (at .args .p .now) = omega (arith, h .loop .inv .0, c .loop-test .left) in
-    h .loop .inv .1 ∙ ap (pixelFoldTo _+ℤ_ (pos 0) (at .args .p .now) (signedBy (at .args .weights .now) (at .args .w) (at .args .top .0))) done
+    h .loop .inv .1 ∙ ap (pixelFoldTo _+ℤ_ (pos 0) (at .args .p .now) (signedBy (at .args .weights .now) (at .args .formula) (at .args .top .0))) done
 
 pub line-balance-spec : {M : Type 1} → statement M
 line-balance-spec =

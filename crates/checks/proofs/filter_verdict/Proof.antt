@@ -17,7 +17,7 @@ unfolding filterChecks
 returns c = simp (known (c .before .bad-way .ensures) (c .if1 .taken))
 
 mul-short : tie.Need-mul-short
-mul-short c = omega (arith, products (c .before .before .before .args .z) (c .before .before .before .pre) .pixels)
+mul-short c = omega (arith, products (c .before .before .before .args .plan) (c .before .before .before .pre) .pixels)
 
 short-requires : tie.Need-short-requires
 short-requires c κs = search needs

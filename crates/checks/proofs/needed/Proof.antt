@@ -17,40 +17,40 @@ enum-told : tie.Need-enum-told
 enum-told c = search needs
 
 mul-t8 : tie.Need-mul-t8
-mul-t8 c = omega (arith, products (c .before .before .before .args .z) (c .before .before .before .pre) .cells)
+mul-t8 c = omega (arith, products (c .before .before .before .args .plan) (c .before .before .before .pre) .cells)
 
 add-t9 : tie.Need-add-t9
 add-t9 c = search needs
 
 mul-t11 : tie.Need-mul-t11
-mul-t11 c = omega (arith, products (c .before .before .before .args .z) (c .before .before .before .pre) .words)
+mul-t11 c = omega (arith, products (c .before .before .before .args .plan) (c .before .before .before .pre) .words)
 
 enum-told-2 : tie.Need-enum-told-2
 enum-told-2 c = search needs
 
 mul-t12 : tie.Need-mul-t12
-mul-t12 c = omega (arith, products (c .before .before .before .before .args .z) (c .before .before .before .before .pre) .columns)
+mul-t12 c = omega (arith, products (c .before .before .before .before .args .plan) (c .before .before .before .before .pre) .columns)
 
 mul-t13 : tie.Need-mul-t13
-mul-t13 c = omega (arith, products (c .before .before .before .before .args .z) (c .before .before .before .before .pre) .columns)
+mul-t13 c = omega (arith, products (c .before .before .before .before .args .plan) (c .before .before .before .before .pre) .columns)
 
 mul-t14 : tie.Need-mul-t14
 mul-t14 c = search needs
 
 add-t15 : tie.Need-add-t15
-add-t15 c = omega (arith, products (c .before .before .before .before .args .z) (c .before .before .before .before .pre) .columns)
+add-t15 c = omega (arith, products (c .before .before .before .before .args .plan) (c .before .before .before .before .pre) .columns)
 
 enum-told-3 : tie.Need-enum-told-3
 enum-told-3 c = search needs
 
 mul-t16 : tie.Need-mul-t16
-mul-t16 c = omega (arith, products (c .before .before .before .args .z) (c .before .before .before .pre) .nodes)
+mul-t16 c = omega (arith, products (c .before .before .before .args .plan) (c .before .before .before .pre) .nodes)
 
 mul-t17 : tie.Need-mul-t17
-mul-t17 c = omega (arith, products (c .before .before .before .args .z) (c .before .before .before .pre) .nodes)
+mul-t17 c = omega (arith, products (c .before .before .before .args .plan) (c .before .before .before .pre) .nodes)
 
 add-t18 : tie.Need-add-t18
-add-t18 c = omega (arith, products (c .before .before .before .args .z) (c .before .before .before .pre) .nodes)
+add-t18 c = omega (arith, products (c .before .before .before .args .plan) (c .before .before .before .pre) .nodes)
 
 returns : tie.Need-returns
 unfolding roomOf

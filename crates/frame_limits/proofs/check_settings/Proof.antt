@@ -35,14 +35,14 @@ unfolding settingsOutcome badRadius
 returns-4 c =
     let e = c .before .before in
     let d = e .before .before in
-    simp (same (d .before .before .before .bad-size .ensures) (d .before .before .if1 .left), same (d .before .bad-counts .ensures) (d .if2 .left), same (e .before .bad-kind .ensures) (e .if3 .left), lt-ltb 15 (d .before .before .before .before .args .k .radius) (omega arith))
+    simp (same (d .before .before .before .bad-size .ensures) (d .before .before .if1 .left), same (d .before .bad-counts .ensures) (d .if2 .left), same (e .before .bad-kind .ensures) (e .if3 .left), lt-ltb 15 (d .before .before .before .before .args .settings .radius) (omega arith))
 
 returns-5 : tie.Need-returns-5
 unfolding settingsOutcome badRadius
 returns-5 c =
     let e = c .before .before in
     let d = e .before .before in
-    simp (same (d .before .before .before .bad-size .ensures) (d .before .before .if1 .left), same (d .before .bad-counts .ensures) (d .if2 .left), same (e .before .bad-kind .ensures) (e .if3 .left), le-ltb 15 (d .before .before .before .before .args .k .radius) (omega arith))
+    simp (same (d .before .before .before .bad-size .ensures) (d .before .before .if1 .left), same (d .before .bad-counts .ensures) (d .if2 .left), same (e .before .bad-kind .ensures) (e .if3 .left), le-ltb 15 (d .before .before .before .before .args .settings .radius) (omega arith))
 
 pub check-settings-spec : {M : Type 1} → statement M
 check-settings-spec =

@@ -38,11 +38,11 @@ abbrev start : tie.At-loop Inv-loop μ-loop → tie.Start Inv-loop μ-loop
 start h = sized h .before .before .before
 
 -- the column of a turn
-within : (c : tie.In-loop Inv-loop μ-loop) → c .before .loop .k < span (start (c .before) .args .z .radius) (start (c .before) .args .s) (start (c .before) .args .z .width)
+within : (c : tie.In-loop Inv-loop μ-loop) → c .before .loop .k < span (start (c .before) .args .plan .radius) (start (c .before) .args .s) (start (c .before) .args .plan .width)
 within c = subst (λ (n : ℕ). c .before .loop .k < n) (spanned (c .before) .span-of .ensures) (c .loop-test .taken)
 
-wide : (c : tie.In-loop Inv-loop μ-loop) → spanned (c .before) .before .low .result + c .before .loop .k < start (c .before) .args .z .width
-wide c = subst (λ (n : ℕ). n + c .before .loop .k < start (c .before) .args .z .width) (sym (spanned (c .before) .before .low .ensures)) (span-in _ _ _ _ (within c))
+wide : (c : tie.In-loop Inv-loop μ-loop) → spanned (c .before) .before .low .result + c .before .loop .k < start (c .before) .args .plan .width
+wide c = subst (λ (n : ℕ). n + c .before .loop .k < start (c .before) .args .plan .width) (sym (spanned (c .before) .before .low .ensures)) (span-in _ _ _ _ (within c))
 
 node-count-requires : tie.Need-node-count-requires Inv-loop μ-loop
 node-count-requires c κs = let at = c .before .before in plan-limits (at .pre .0) .radius
@@ -81,12 +81,12 @@ abbrev turn : tie.After-read Inv-loop μ-loop → tie.In-loop Inv-loop μ-loop
 turn r = line r .before
 
 line-is : (r : tie.After-read Inv-loop μ-loop) → let at = start (turn r .before) in
-    line r .column-line .result ≡ columnLine (at .args .z) (at .args .s - at .args .z .radius + turn r .before .loop .k) (at .args .t)
+    line r .column-line .result ≡ columnLine (at .args .plan) (at .args .s - at .args .plan .radius + turn r .before .loop .k) (at .args .t)
 line-is r =
     let h = turn r .before in
-    line r .column-line .ensures ∙ ap (λ (x : ℕ). columnLine (start h .args .z) (x + h .loop .k) (start h .args .t)) (spanned h .before .low .ensures)
+    line r .column-line .ensures ∙ ap (λ (x : ℕ). columnLine (start h .args .plan) (x + h .loop .k) (start h .args .t)) (spanned h .before .low .ensures)
 
-listed : (r : tie.After-read Inv-loop μ-loop) → let at = start (turn r .before) in LinePixels (at .args .file .now) (at .args .z) (line r .column-line .result)
+listed : (r : tie.After-read Inv-loop μ-loop) → let at = start (turn r .before) in LinePixels (at .args .file .now) (at .args .plan) (line r .column-line .result)
     (take (r .read .result - 0) (drop 0 (r .read .last .1 .1 .1 .0)))
 listed r = line-part (r .read .result) (r .read .last .1 .1 .1 .0) (r .read .ensures .1)
 
@@ -123,7 +123,7 @@ add-k : tie.Need-add-k Inv-loop μ-loop
 add-k c =
     let i = turn (read c) in
     let at = start (i .before) in
-    omega (arith, within i, span-high (at .args .z .radius) (at .args .s) (at .args .z .width) (plan-limits (at .pre .0) .radius))
+    omega (arith, within i, span-high (at .args .plan .radius) (at .args .s) (at .args .plan .width) (plan-limits (at .pre .0) .radius))
 
 loop-less : tie.Need-loop-less Inv-loop μ-loop
 loop-less c = omega (arith, turn (read c) .loop-test .taken)
@@ -149,7 +149,7 @@ returns c =
     let h = c .before in
     let at = start h in
     let v = h .loop .inv in
-    let e : h .loop .k ≡ span (at .args .z .radius) (at .args .s) (at .args .z .width) = omega (arith, v .1, c .loop-test .left, spanned h .span-of .ensures) in
+    let e : h .loop .k ≡ span (at .args .plan .radius) (at .args .s) (at .args .plan .width) = omega (arith, v .1, c .loop-test .left, spanned h .span-of .ensures) in
     listed-stored (at .pre .0) _ _ _ (v .2 ∙ cleared h .clear .kept .0)
     (λ j b. v .3 j b ∙ cleared h .clear .ensures .beyond j (rw (sized h .node-count .ensures .0) b))
     (columns-listed (at .pre .0) _ _ (at .pre .1 .0 .0) (at .pre .1 .0 .1) (rw e at (v .0)))

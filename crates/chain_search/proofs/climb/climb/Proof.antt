@@ -19,7 +19,7 @@ abbrev start : tie.At-loop Inv-loop μ-loop → tie.Start Inv-loop μ-loop
 start h = h .before .before .before .before .before
 
 -- the state there, at the list of the `requires`
-state : (h : tie.At-loop Inv-loop μ-loop) → AtNode (start h .args .levels) (start h .args .numbers .now) (start h .args .k) (start h .pre .0) (h .loop .count) (h .loop .sum) (h .loop .at) (h .loop .next)
+state : (h : tie.At-loop Inv-loop μ-loop) → AtNode (start h .args .levels) (start h .args .numbers .now) (start h .args .coefficients) (start h .pre .0) (h .loop .count) (h .loop .sum) (h .loop .at) (h .loop .next)
 state h = h .loop .inv (start h .pre .0)
 
 shared-slice-read-place : tie.Need-shared-slice-read-place Inv-loop μ-loop

@@ -14,10 +14,10 @@ use Rattle.columns.proofs.store.count_pixel.Tie as tie
 abbrev frame : (c : tie.Start) → Rattle.spec.specs.Frame.Frame
 frame c = frameOf (c .args .file .now)
 
-place : (c : tie.Start) → c .args .y * c .args .z .width + c .args .x < c .args .z .width * c .args .z .height
-place c = place-low (c .args .z) (c .args .x) (c .args .y) (c .pre .1 .0 .0) (c .pre .1 .0 .1)
+place : (c : tie.Start) → c .args .y * c .args .plan .width + c .args .x < c .args .plan .width * c .args .plan .height
+place c = place-low (c .args .plan) (c .args .x) (c .args .y) (c .pre .1 .0 .0) (c .pre .1 .0 .1)
 
-first-able : (c : tie.Start) → Able (c .args .add) (c .args .z .levels) (block (c .args .a) (hit (frame c) (λ u v. 1) (c .args .x) (c .args .y))) (c .args .numbers .now)
+first-able : (c : tie.Start) → Able (c .args .add) (c .args .plan .levels) (block (c .args .a) (hit (frame c) (λ u v. 1) (c .args .x) (c .args .y))) (c .args .numbers .now)
 first-able c = able-first (frame c) (c .args .x) (c .args .y) (c .args .add) (c .args .a) (c .args .b) (c .pre .1 .1 .1)
 
 -- the pixel's level and guide
@@ -30,22 +30,22 @@ gd c = c .guide-at .ensures ∙ facts (c .before .before .before .before .before
 gd-low : (c : tie.After-guide-at) → c .guide-at .result .0 ≤ 255
 gd-low c = omega (arith, c .guide-at .ensures, guide-low (c .before .before .before .before .before .pre .0) (place (c .before .before .before .before .before)), guides-high (c .before .before .before .before .before .pre .0))
 
-hi : (c : tie.After-guide-at) → c .before .level-at .result .0 < c .before .before .before .before .before .args .z .levels
-hi c = subst (λ (n : ℕ). n < c .before .before .before .before .before .args .z .levels) (sym (c .before .level-at .ensures)) (level-low (c .before .before .before .before .before .pre .0) (place (c .before .before .before .before .before)))
+hi : (c : tie.After-guide-at) → c .before .level-at .result .0 < c .before .before .before .before .before .args .plan .levels
+hi c = subst (λ (n : ℕ). n < c .before .before .before .before .before .args .plan .levels) (sym (c .before .level-at .ensures)) (level-low (c .before .before .before .before .before .pre .0) (place (c .before .before .before .before .before)))
 
-first-in : (c : tie.After-guide-at) → c .before .before .before .before .before .args .a * c .before .before .before .before .before .args .z .levels + c .before .level-at .result .0 < 2 * (c .before .before .before .before .before .args .z .width * c .before .before .before .before .before .args .z .levels) + 2 * c .before .before .before .before .before .args .z .levels
-first-in c = in-store (c .before .before .before .before .before .args .z .width) (c .before .before .before .before .before .pre .1 .1 .0 .0) (hi c)
+first-in : (c : tie.After-guide-at) → c .before .before .before .before .before .args .a * c .before .before .before .before .before .args .plan .levels + c .before .level-at .result .0 < 2 * (c .before .before .before .before .before .args .plan .width * c .before .before .before .before .before .args .plan .levels) + 2 * c .before .before .before .before .before .args .plan .levels
+first-in c = in-store (c .before .before .before .before .before .args .plan .width) (c .before .before .before .before .before .pre .1 .1 .0 .0) (hi c)
 
-second-in : (c : tie.After-guide-at) → c .before .before .before .before .before .args .b * c .before .before .before .before .before .args .z .levels + c .before .level-at .result .0 < 2 * (c .before .before .before .before .before .args .z .width * c .before .before .before .before .before .args .z .levels) + 2 * c .before .before .before .before .before .args .z .levels
-second-in c = in-store (c .before .before .before .before .before .args .z .width) (c .before .before .before .before .before .pre .1 .1 .0 .1) (hi c)
+second-in : (c : tie.After-guide-at) → c .before .before .before .before .before .args .b * c .before .before .before .before .before .args .plan .levels + c .before .level-at .result .0 < 2 * (c .before .before .before .before .before .args .plan .width * c .before .before .before .before .before .args .plan .levels) + 2 * c .before .before .before .before .before .args .plan .levels
+second-in c = in-store (c .before .before .before .before .before .args .plan .width) (c .before .before .before .before .before .pre .1 .1 .0 .1) (hi c)
 
 -- after the count's change
-counted : (c : tie.After-change) → Put (c .before .before .before .before .before .before .before .before .args .add) (c .before .before .before .before .before .before .before .before .args .z .levels) (block (c .before .before .before .before .before .before .before .before .args .a) (hit (frame (c .before .before .before .before .before .before .before .before)) (λ u v. 1) (c .before .before .before .before .before .before .before .before .args .x) (c .before .before .before .before .before .before .before .before .args .y))) (c .before .before .before .before .before .before .before .before .args .numbers .now) (c .change .last .0)
+counted : (c : tie.After-change) → Put (c .before .before .before .before .before .before .before .before .args .add) (c .before .before .before .before .before .before .before .before .args .plan .levels) (block (c .before .before .before .before .before .before .before .before .args .a) (hit (frame (c .before .before .before .before .before .before .before .before)) (λ u v. 1) (c .before .before .before .before .before .before .before .before .args .x) (c .before .before .before .before .before .before .before .before .args .y))) (c .before .before .before .before .before .before .before .before .args .numbers .now) (c .change .last .0)
 counted c =
     changed (frame (c .before .before .before .before .before .before .before .before)) (c .before .before .before .before .before .before .before .before .args .x) (c .before .before .before .before .before .before .before .before .args .y) (λ u v. 1) (c .before .before .before .before .before .before .before .before .args .add) (c .before .before .before .before .before .before .before .before .args .a) _ 1 (lv (c .before .before .before)) refl (hi (c .before .before .before)) (omega (arith, first-in (c .before .before .before), c .before .before .before .before .before .before .before .before .pre .1 .1 .0 .2))
     (first-able (c .before .before .before .before .before .before .before .before)) (c .change .ensures)
 
-second-able : (c : tie.After-change) → Able (c .before .before .before .before .before .before .before .before .args .add) (c .before .before .before .before .before .before .before .before .args .z .levels) (block (c .before .before .before .before .before .before .before .before .args .b) (hit (frame (c .before .before .before .before .before .before .before .before)) (guide (frame (c .before .before .before .before .before .before .before .before))) (c .before .before .before .before .before .before .before .before .args .x) (c .before .before .before .before .before .before .before .before .args .y))) (c .change .last .0)
+second-able : (c : tie.After-change) → Able (c .before .before .before .before .before .before .before .before .args .add) (c .before .before .before .before .before .before .before .before .args .plan .levels) (block (c .before .before .before .before .before .before .before .before .args .b) (hit (frame (c .before .before .before .before .before .before .before .before)) (guide (frame (c .before .before .before .before .before .before .before .before))) (c .before .before .before .before .before .before .before .before .args .x) (c .before .before .before .before .before .before .before .before .args .y))) (c .change .last .0)
 second-able c = able-second (frame (c .before .before .before .before .before .before .before .before)) (c .before .before .before .before .before .before .before .before .args .x) (c .before .before .before .before .before .before .before .before .args .y) (c .before .before .before .before .before .before .before .before .args .add) (c .before .before .before .before .before .before .before .before .args .a) (c .before .before .before .before .before .before .before .before .args .b) (c .before .before .before .before .before .before .before .before .pre .1 .1 .1) (counted c)
 
 mul-q : tie.Need-mul-q

@@ -14,12 +14,12 @@ Inv-loop file z numbers₀ y a b apart first count add k₀ numbers k = Piled ad
 abbrev μ-loop : tie.MeasureT-loop
 μ-loop file z numbers₀ y a b apart first count add k₀ numbers k = count - k
 
-in-width : (c : tie.In-loop Inv-loop μ-loop) → c .before .before .before .before .args .first + c .before .loop .k < c .before .before .before .before .args .z .width
+in-width : (c : tie.In-loop Inv-loop μ-loop) → c .before .before .before .before .args .first + c .before .loop .k < c .before .before .before .before .args .plan .width
 in-width c = omega (arith, c .loop-test .taken, c .before .before .before .before .pre .1 .0 .1)
 
 places : (c : tie.In-loop Inv-loop μ-loop)
-    → (c .before .before .before .before .args .a + (c .before .before .before .before .args .first + c .before .loop .k) * c .before .before .before .before .args .apart < 2 * c .before .before .before .before .args .z .width + 2)
-    × (c .before .before .before .before .args .b + (c .before .before .before .before .args .first + c .before .loop .k) * c .before .before .before .before .args .apart < 2 * c .before .before .before .before .args .z .width + 2)
+    → (c .before .before .before .before .args .a + (c .before .before .before .before .args .first + c .before .loop .k) * c .before .before .before .before .args .apart < 2 * c .before .before .before .before .args .plan .width + 2)
+    × (c .before .before .before .before .args .b + (c .before .before .before .before .args .first + c .before .loop .k) * c .before .before .before .before .args .apart < 2 * c .before .before .before .before .args .plan .width + 2)
 places c = c .before .before .before .before .pre .1 .1 .0 (c .before .before .before .before .args .first + c .before .loop .k) (in-width c)
 
 loop-holds : tie.Need-loop-holds Inv-loop μ-loop

@@ -20,8 +20,8 @@ Inv-loop file z numbers₀ s t n top rows k₀ numbers k = Piled true (z .levels
 abbrev μ-loop : tie.MeasureT-loop
 μ-loop file z numbers₀ s t n top rows k₀ numbers k = rows - k
 
-in-rows : (c : tie.In-loop Inv-loop μ-loop) → c .before .before .before .low .result + c .before .loop .k < c .before .before .before .before .before .before .before .before .before .before .before .before .args .z .height
-in-rows c = rw (c .before .before .before .low .ensures) (span-in (c .before .before .before .before .before .before .before .before .before .before .before .before .args .z .radius) (c .before .before .before .before .before .before .before .before .before .before .before .before .args .t) (c .before .before .before .before .before .before .before .before .before .before .before .before .args .z .height) (c .before .loop .k) (subst (λ (n : ℕ). c .before .loop .k < n) (c .before .before .span-of .ensures) (c .loop-test .taken)))
+in-rows : (c : tie.In-loop Inv-loop μ-loop) → c .before .before .before .low .result + c .before .loop .k < c .before .before .before .before .before .before .before .before .before .before .before .before .args .plan .height
+in-rows c = rw (c .before .before .before .low .ensures) (span-in (c .before .before .before .before .before .before .before .before .before .before .before .before .args .plan .radius) (c .before .before .before .before .before .before .before .before .before .before .before .before .args .t) (c .before .before .before .before .before .before .before .before .before .before .before .before .args .plan .height) (c .before .loop .k) (subst (λ (n : ℕ). c .before .loop .k < n) (c .before .before .span-of .ensures) (c .loop-test .taken)))
 
 mul-n : tie.Need-mul-n Inv-loop μ-loop
 mul-n c = omega (arith, size-small (c .before .before .before .pre .0))

@@ -34,7 +34,7 @@ turn-low t = omega (arith, t .loop-test .taken, start (t .before) .pre .0 .below
 cell : (t : tie.In-loop Inv-loop μ-loop) → guideIn (start (t .before) .args .p .now) (t .before .loop .k) < 256
 cell t = let a = start (t .before) .pre .0 in omega (arith, a .below .guide (t .before .loop .k) (t .loop-test .taken), a .guides-high)
 
-room : (t : tie.In-loop Inv-loop μ-loop) → natAbs (getD (t .before .loop .cells) (guideIn (start (t .before) .args .p .now) (t .before .loop .k)) (pos 0)) ≤ 32766
+room : (t : tie.In-loop Inv-loop μ-loop) → natAbs (getD (t .before .loop .balance-box) (guideIn (start (t .before) .args .p .now) (t .before .loop .k)) (pos 0)) ≤ 32766
 room t = let at = start (t .before) in cell-room (at .args .enters) (at .args .cut .0) (at .args .p .now) (at .pre .1) (t .loop-test .taken) (cell t) (t .before .loop .inv .2)
 
 loop-holds : tie.Need-loop-holds Inv-loop μ-loop
@@ -77,13 +77,13 @@ element-copy-out-side-changed c = cell (c .before .before .before .before .befor
 side-changed-requires : tie.Need-side-changed-requires Inv-loop μ-loop
 side-changed-requires c κs =
     let t = c .before .before .before .before .before .before .before .before .before .before .before in
-    let x = getD (t .before .loop .cells) (guideIn (start (t .before) .args .p .now) (t .before .loop .k)) (pos 0) in
+    let x = getD (t .before .loop .balance-box) (guideIn (start (t .before) .args .p .now) (t .before .loop .k)) (pos 0) in
     rw (read-bounded w16 {z = x} 32766 (room t) tt) (room t)
 
 mul-t30 : tie.Need-mul-t30 Inv-loop μ-loop
 mul-t30 c = omega (arith, cell (c .before .before .before .before .before .before .before .before .before .before .before .before))
 
-element-set-from-cells : tie.Need-element-set-from-cells Inv-loop μ-loop
+element-set-from-cells : tie.Need-element-set-from-balance-box Inv-loop μ-loop
 element-set-from-cells c = cell (c .before .before .before .before .before .before .before .before .before .before .before .before)
 
 add-k : tie.Need-add-k Inv-loop μ-loop
@@ -98,13 +98,13 @@ loop-again c =
     let at = start (t .before) in
     let p = at .args .p .now in
     let k = t .before .loop .k in
-    let x = getD (t .before .loop .cells) (guideIn p k) (pos 0) in
+    let x = getD (t .before .loop .balance-box) (guideIn p k) (pos 0) in
     let stored : toZ w16 (ofZ w16 (c .side-changed .result)) ≡ changedℤ (at .args .enters) x (side (at .args .cut .0) (levelIn p k)) =
     toZ-ofZ (record { sfits = c .side-changed .ok }) ∙ (rw (read-bounded w16 {z = x} 32766 (room t) tt) at (c .side-changed .ensures)) in
     let new = c .before .before .before .before .before .before .before .change-pixel .ensures in (
       omega (arith, t .loop-test .taken),
       λ a. counts-next a (t .loop-test .taken) (t .before .loop .inv .1 a) (new .0) (new .1),
-      box-next (at .args .enters) (at .args .cut .0) p (at .pre .1) (t .loop-test .taken) (cell t) (t .before .loop .inv .2) (ap (set (t .before .loop .cells) (guideIn p k)) stored),
+      box-next (at .args .enters) (at .args .cut .0) p (at .pre .1) (t .loop-test .taken) (cell t) (t .before .loop .inv .2) (ap (set (t .before .loop .balance-box) (guideIn p k)) stored),
     )
 
 same-length : tie.Need-same-length Inv-loop μ-loop

@@ -17,10 +17,10 @@ abbrev μ-loop : tie.MeasureT-loop
 
 -- the row's place, small and in the file
 module _ (at : tie.Start Inv-loop μ-loop) where
-  small : at .args .f .0 * at .args .z .guides + 0 < 65536
+  small : at .args .f .0 * at .args .plan .guides + 0 < 65536
   small = weight-place (at .pre .0) (at .pre .2) (at .args .f .0) 0 (at .pre .1) (omega (arith, guides-within (at .pre .0) .0)) .0
 
-  inside : at .args .z .table + 2 * (at .args .f .0 * at .args .z .guides) + 2 * at .args .z .guides ≤ length (at .args .file .now)
+  inside : at .args .plan .table + 2 * (at .args .f .0 * at .args .plan .guides) + 2 * at .args .plan .guides ≤ length (at .args .file .now)
   inside = row-inside (at .pre .0) (at .pre .1) (at .pre .2)
 
 abbrev begin : tie.At-loop Inv-loop μ-loop → tie.Start Inv-loop μ-loop

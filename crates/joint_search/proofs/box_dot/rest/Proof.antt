@@ -51,7 +51,7 @@ returns c =
     let h = c .before in
     let at = start h in
     let done : h .loop .f ≡ at .args .m = omega (arith, h .loop .inv .0, c .loop-test .left) in
-    h .loop .inv .1 ∙ ap (boxDot (at .args .cells .now) (at .args .weights .now) (at .args .at)) done
+    h .loop .inv .1 ∙ ap (boxDot (at .args .balance-box .now) (at .args .weights .now) (at .args .at)) done
 
 pub rest-spec : {M : Type 1} → statement M
 rest-spec =

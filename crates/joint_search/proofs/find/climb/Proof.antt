@@ -27,7 +27,7 @@ start h = h .before .before .before .before
 
 -- the balance at level j, by the call's lists
 abbrev bal : tie.Start Inv-loop μ-loop → ℕ → ℤ
-bal at j = balanceIn (at .args .plan) (at .args .counts .now) (at .args .weights .now) (at .args .w) j
+bal at j = balanceIn (at .args .plan) (at .args .counts .now) (at .args .weights .now) (at .args .formula) j
 
 -- a level that is passed falls short
 below : (c : tie.In-loop Inv-loop μ-loop) → bal (start (c .before)) (c .before .loop .i) <ℤ pos 0

@@ -25,7 +25,7 @@ start h = h .before .before .before .before
 
 -- the balance at level j, by the call's lists
 abbrev bal : tie.Start Inv-loop μ-loop → ℕ → ℤ
-bal at j = balanceIn (at .args .plan) (at .args .counts .now) (at .args .weights .now) (at .args .w) j
+bal at j = balanceIn (at .args .plan) (at .args .counts .now) (at .args .weights .now) (at .args .formula) j
 
 inside : (c : tie.In-loop Inv-loop μ-loop) → c .before .loop .i < (start (c .before)) .args .plan .levels
 inside c = omega (arith, (start (c .before)) .pre .1 .0, c .before .loop .inv .0)

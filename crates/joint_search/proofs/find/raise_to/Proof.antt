@@ -38,7 +38,7 @@ loop-again c =
     let t = c .before .before in
     let h = t .before in
     let at = start h in
-    (omega (arith, t .loop-test .taken), raised (at .args .plan) (at .args .counts .now) (h .loop .i) _ _ (h .loop .cells) (c .shift-level .last .1 .1 .1 .0) (h .loop .inv .1) (c .shift-level .ensures) (omega arith) refl)
+    (omega (arith, t .loop-test .taken), raised (at .args .plan) (at .args .counts .now) (h .loop .i) _ _ (h .loop .balance-box) (c .shift-level .last .1 .1 .1 .0) (h .loop .inv .1) (c .shift-level .ensures) (omega arith) refl)
 
 returns : tie.Need-returns Inv-loop μ-loop
 returns c =

@@ -19,17 +19,17 @@ abbrev start : tie.After-box-balance → tie.Start
 start r = r .before .before .before .before .before
 
 -- no level weighs less than 0
-low : (at : tie.Start) (i : ℕ) → i < at .args .plan .levels → pos 0 ≤ℤ levelWeightIn (at .args .plan .guides) (at .args .counts .now) (at .args .weights .now) (at .args .w) i
+low : (at : tie.Start) (i : ℕ) → i < at .args .plan .levels → pos 0 ≤ℤ levelWeightIn (at .args .plan .guides) (at .args .counts .now) (at .args .weights .now) (at .args .formula) i
 low at i h = level-low (table-weights (at .pre .0 .2) (at .pre .0 .3)) (at .args .counts .now) i
 
 -- the box gives the balance at the cut point
-here : (r : tie.After-box-balance) → let at = start r in r .box-balance .result ≡ balanceIn (at .args .plan) (at .args .counts .now) (at .args .weights .now) (at .args .w) (at .args .cut .0)
+here : (r : tie.After-box-balance) → let at = start r in r .box-balance .result ≡ balanceIn (at .args .plan) (at .args .counts .now) (at .args .weights .now) (at .args .formula) (at .args .cut .0)
 here r =
     let at = start r in
     box-balance (at .pre .0 .0) (at .pre .0 .1) (at .args .cut .0) _ (r .box-balance .result) (at .pre .1 .0) (at .pre .1 .2) (r .box-balance .ensures)
 
 -- past the test the window weighs something: its balance is not 0, or a level weighs
-weighs : (j : tie.Joined1) → let at = start (j .before) in false ≡ weightlessIn (at .args .plan) (at .args .counts .now) (at .args .weights .now) (at .args .w)
+weighs : (j : tie.Joined1) → let at = start (j .before) in false ≡ weightlessIn (at .args .plan) (at .args .counts .now) (at .args .weights .now) (at .args .formula)
 weighs j =
     let at = start (j .before) in
     ⊎-elim (λ q. sym (q .2 .left) ∙ q .1 .ensures)

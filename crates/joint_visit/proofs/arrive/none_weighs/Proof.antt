@@ -29,7 +29,7 @@ start h = h .before .before .before .before .before
 
 -- the weight of level j, by the call's lists
 abbrev weight : tie.Start Inv-loop μ-loop → ℕ → ℤ
-weight at j = levelWeightIn (at .args .plan .guides) (at .args .counts .now) (at .args .weights .now) (at .args .w) j
+weight at j = levelWeightIn (at .args .plan .guides) (at .args .counts .now) (at .args .weights .now) (at .args .formula) j
 
 low : (at : tie.Start Inv-loop μ-loop) (i : ℕ) → i < at .args .plan .levels → pos 0 ≤ℤ weight at i
 low at i h = level-low (at .pre .2) (at .args .counts .now) i

@@ -108,7 +108,7 @@ returns c =
     rw (c .answered .ensures)
     (record {
       same = record {
-        state = state-is (frameOf (at .args .file .now)) (at .args .s) (at .args .t) (at .args .cut .0) (at .args .shifts) (f .level) (f .shifts) (f .level) (record { sums = at .args .a; below = f .tally; free = record { head = 0; count = 0 } }) (h .cut) (h .shifts) (h .said);
+        state = state-is (frameOf (at .args .file .now)) (at .args .s) (at .args .t) (at .args .cut .0) (at .args .shifts) (f .level) (f .shifts) (f .level) (record { sums = at .args .a; below = f .tally; free = record { head = 0; count = 0 } }) (h .cut) (h .shifts) (h .answer);
         box = box-moved k _ (f .level .0) (m .move-to .ensures) (omega arith) (answer-low (k .planned) (k .column) (k .row) (at .pre .0 .1) h);
       };
       guided = record { sums = at .pre .1 .0 .0; below = h .below; histogram = at .pre .0 .2 };

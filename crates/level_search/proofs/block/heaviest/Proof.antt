@@ -20,8 +20,8 @@ guides-low c = omega (arith, c .pre .1)
 
 abbrev env : tie.Start → List Cell
 env c =
-    paramCell w64 (c .args .k .slope) 235497855 (c .pre .0 .slope) tt
-    ∷ paramCell w64 (c .args .k .offset) 180155859075 (c .pre .0 .offset) tt
+    paramCell w64 (c .args .coefficients .slope) 235497855 (c .pre .0 .slope) tt
+    ∷ paramCell w64 (c .args .coefficients .offset) 180155859075 (c .pre .0 .offset) tt
     ∷ unsignedCell w64 (c .args .guides - 1) 255 (guides-low c) tt
     ∷ []
 
@@ -60,7 +60,7 @@ returns c =
     let u = l .larger .ensures in
     let v = c .larger2 .ensures in
     let up = ≤-trans (≤-of-eq (sym (larger-is l))) (v .0) in
-    subst (EndsBelow (st .args .k) (st .args .guides)) (sym (read-bounded w64 240207812100 (v .2) tt))
+    subst (EndsBelow (st .args .coefficients) (st .args .guides)) (sym (read-bounded w64 240207812100 (v .2) tt))
     (record {
       low = ≤-trans (≤-of-eq (sym (computes w64 (env st) x₁ tt))) (≤-trans (u .0) up);
       high = ≤-trans (≤-of-eq (sym (computes w64 (env st) (x₀ ⊗ x₂ ⊕ x₁) tt))) (v .1);

@@ -29,9 +29,9 @@ pixels-few c = let st = c .before .before .before .before in omega (arith, c .to
 abbrev env : tie.After-total → List Cell
 env c =
     let st = c .before .before .before .before in
-    paramCell w64 (st .args .k .slope) 235497855 (st .pre .0 .0 .slope) tt
-    ∷ paramCell w64 (st .args .k .offset) 180155859075 (st .pre .0 .0 .offset) tt
-    ∷ paramCell w64 (st .args .k .total) 173129780571075 (st .pre .0 .0 .total) tt
+    paramCell w64 (st .args .coefficients .slope) 235497855 (st .pre .0 .0 .slope) tt
+    ∷ paramCell w64 (st .args .coefficients .offset) 180155859075 (st .pre .0 .0 .offset) tt
+    ∷ paramCell w64 (st .args .coefficients .total) 173129780571075 (st .pre .0 .0 .total) tt
     ∷ unsignedCell w64 (st .args .count) 961 (st .pre .0 .2) tt
     ∷ unsignedCell w64 (st .args .sum) 245055 (st .pre .0 .3) tt
     ∷ paramCell w64 (st .args .heaviest) 240207812100 (st .pre .0 .1) tt
@@ -83,7 +83,7 @@ returns-2 c = λ e.
     let st = a .before .before .before .before in
     record {
       whole = whole (a .before);
-      short = subst (λ (n : ℕ). (pos 2 *ℤ (weightOf (st .args .k) (st .args .count) (st .args .sum) +ℤ st .args .heaviest *ℤ pos n)) <ℤ st .args .k .total) (pixels-is a)
+      short = subst (λ (n : ℕ). (pos 2 *ℤ (weightOf (st .args .coefficients) (st .args .count) (st .args .sum) +ℤ st .args .heaviest *ℤ pos n)) <ℤ st .args .coefficients .total) (pixels-is a)
           (lt-true (computes w64 (env a) (# 2 ⊗ (x₀ ⊗ x₄ ⊕ x₁ ⊗ x₃ ⊕ var 5 ⊗ var 6)) tt) (computes w64 (env a) x₂ tt) e);
     }
 

@@ -33,11 +33,11 @@ start h = h .before .before .before .before
 abbrev head : tie.Then2 Inv-loop μ-loop → tie.At-loop Inv-loop μ-loop
 head c = c .before .before .before .before
 
-is-light : (c : tie.Then2 Inv-loop μ-loop) → Light (start (head c) .args .k) (start (head c) .args .heaviest) (start (head c) .args .counts .now) (head c .loop .i) (head c .loop .count) (head c .loop .sum)
+is-light : (c : tie.Then2 Inv-loop μ-loop) → Light (start (head c) .args .coefficients) (start (head c) .args .heaviest) (start (head c) .args .counts .now) (head c .loop .i) (head c .loop .count) (head c .loop .sum)
 is-light c =
     let st = start (head c) in
     let v = head c .loop in
-    subst (λ (w : ℤ). Light (st .args .k) w (st .args .counts .now) (v .i) (v .count) (v .sum)) (heaviest-is st) (c .before .light .ensures (c .if2 .taken))
+    subst (λ (w : ℤ). Light (st .args .coefficients) w (st .args .counts .now) (v .i) (v .count) (v .sum)) (heaviest-is st) (c .before .light .ensures (c .if2 .taken))
 
 after-block : (c : tie.After-total2 Inv-loop μ-loop)
     → TallyTo (start (head (c .before .before)) .args .counts .now) (start (head (c .before .before)) .args .sums .now) (head (c .before .before) .loop .i + 16) (tally (head (c .before .before) .loop .count + c .before .total .result) (head (c .before .before) .loop .sum + c .total2 .result))
@@ -138,8 +138,8 @@ add-sum-2 c = omega (arith, level-small (c .before .before .before .before) .1)
 reached-requires : tie.Need-reached-requires Inv-loop μ-loop
 reached-requires c κs = let h = c .before .before .before .before in (start h .pre .0 .0 .small, level-small h)
 
-passes-is : (c : tie.After-reached Inv-loop μ-loop) → c .reached .result ≡ passes (start (c .before .before .before .before .before) .args .k) (start (c .before .before .before .before .before) .args .counts .now) (start (c .before .before .before .before .before) .args .sums .now) (c .before .before .before .before .before .loop .i)
-passes-is c = let h = c .before .before .before .before .before in c .reached .ensures ∙ half-at (start h .args .k) (h .loop .i) (after-level h)
+passes-is : (c : tie.After-reached Inv-loop μ-loop) → c .reached .result ≡ passes (start (c .before .before .before .before .before) .args .coefficients) (start (c .before .before .before .before .before) .args .counts .now) (start (c .before .before .before .before .before) .args .sums .now) (c .before .before .before .before .before .loop .i)
+passes-is c = let h = c .before .before .before .before .before in c .reached .ensures ∙ half-at (start h .args .coefficients) (h .loop .i) (after-level h)
 
 sub-ended : tie.Need-sub-ended Inv-loop μ-loop
 sub-ended c = c .before .before .before .before .before .before .loop .inv .from-low

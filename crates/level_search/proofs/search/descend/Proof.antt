@@ -24,11 +24,11 @@ lower : (c : tie.After-shared-slice-known3 Inv-loop μ-loop)
 lower c = tally-end (omega (arith, c .before .loop-test .taken)) (omega (arith, c .before .loop-test .taken)) (tally-back (c .before .before .loop .c) (c .before .before .loop .inv .tally))
 
 -- where it falls short, every level below does
-short : (c : tie.Then1 Inv-loop μ-loop) → FailTo (c .before .before .before .before .before .before .before .before .before .args .k) (c .before .before .before .before .before .before .before .before .before .args .counts .now) (c .before .before .before .before .before .before .before .before .before .args .sums .now) (c .before .before .before .before .before .loop .c)
+short : (c : tie.Then1 Inv-loop μ-loop) → FailTo (c .before .before .before .before .before .before .before .before .before .args .coefficients) (c .before .before .before .before .before .before .before .before .before .args .counts .now) (c .before .before .before .before .before .before .before .before .before .args .sums .now) (c .before .before .before .before .before .loop .c)
 short c =
     let e : c .before .before .before .before .before .loop .c - 1 + 1 ≡ c .before .before .before .before .before .loop .c = omega (arith, c .before .before .before .before .loop-test .taken) in
-    subst (FailTo (c .before .before .before .before .before .before .before .before .before .args .k) (c .before .before .before .before .before .before .before .before .before .args .counts .now) (c .before .before .before .before .before .before .before .before .before .args .sums .now)) e
-    (fail-below (c .before .before .before .before .before .before .before .before .before .pre .1 .1 .1 .0) (omega (arith, in-levels (c .before .before .before .before))) (sym (half-at (c .before .before .before .before .before .before .before .before .before .args .k) (c .before .before .before .before .before .loop .c - 1) (lower (c .before .before .before))) ∙ sym (c .before .reached .ensures) ∙ not-true _ (c .if1 .taken)))
+    subst (FailTo (c .before .before .before .before .before .before .before .before .before .args .coefficients) (c .before .before .before .before .before .before .before .before .before .args .counts .now) (c .before .before .before .before .before .before .before .before .before .args .sums .now)) e
+    (fail-below (c .before .before .before .before .before .before .before .before .before .pre .1 .1 .1 .0) (omega (arith, in-levels (c .before .before .before .before))) (sym (half-at (c .before .before .before .before .before .before .before .before .before .args .coefficients) (c .before .before .before .before .before .loop .c - 1) (lower (c .before .before .before))) ∙ sym (c .before .reached .ensures) ∙ not-true _ (c .if1 .taken)))
 
 cast-c : tie.Need-cast-c Inv-loop μ-loop
 cast-c c = omega (arith, c .before .before .before .pre .1 .0 .0, c .before .before .before .pre .0 .cells .levels)
@@ -85,7 +85,7 @@ loop-less : tie.Need-loop-less Inv-loop μ-loop
 loop-less c = omega (arith, c .before .before .before .before .loop-test .taken)
 
 loop-again : tie.Need-loop-again Inv-loop μ-loop
-loop-again c = let v = c .before .before .before .before .before .loop .inv in record { to = omega (arith, v .to); tally = lower (c .before .before .before); pass = sym (half-at (c .before .before .before .before .before .before .before .before .before .args .k) (c .before .before .before .before .before .loop .c - 1) (lower (c .before .before .before))) ∙ sym (c .before .reached .ensures) ∙ not-false _ (c .if1 .left); counted = omega (arith, v .counted, c .before .before .before .before .loop-test .taken) }
+loop-again c = let v = c .before .before .before .before .before .loop .inv in record { to = omega (arith, v .to); tally = lower (c .before .before .before); pass = sym (half-at (c .before .before .before .before .before .before .before .before .before .args .coefficients) (c .before .before .before .before .before .loop .c - 1) (lower (c .before .before .before))) ∙ sym (c .before .reached .ensures) ∙ not-false _ (c .if1 .left); counted = omega (arith, v .counted, c .before .before .before .before .loop-test .taken) }
 
 cast-t22 : tie.Need-cast-t22 Inv-loop μ-loop
 cast-t22 c = omega (arith, c .before .loop .inv .to, c .before .before .before .before .before .pre .1 .0 .0, c .before .before .before .before .before .pre .0 .cells .levels)

@@ -21,8 +21,8 @@ guides-low c = omega (arith, c .pre .0)
 
 abbrev env : tie.Start → List Cell
 env c =
-    paramCell w64 (c .args .k .slope) 235497855 (c .pre .1 .slope) tt
-    ∷ paramCell w64 (c .args .k .offset) 180155859075 (c .pre .1 .offset) tt
+    paramCell w64 (c .args .coefficients .slope) 235497855 (c .pre .1 .slope) tt
+    ∷ paramCell w64 (c .args .coefficients .offset) 180155859075 (c .pre .1 .offset) tt
     ∷ unsignedCell w64 (c .args .plan .guides - 1) 255 (guides-low c) tt
     ∷ []
 
@@ -40,11 +40,11 @@ add-high c = need! w64 (env (c .before .before .before .before .before .before))
 
 returns : tie.Need-returns
 unfolding endsNotNegative
-returns c = let st = c .before .before .before .before .before .before .before in let k = st .args .k in sym (ap (λ (b : Bool). b && nonNeg (k .slope *ℤ pos (st .args .plan .guides - 1) +ℤ k .offset)) (is-neg (k .offset) (lt-true (computes w64 (env st) x₁ tt) refl (c .if1 .taken))))
+returns c = let st = c .before .before .before .before .before .before .before in let k = st .args .coefficients in sym (ap (λ (b : Bool). b && nonNeg (k .slope *ℤ pos (st .args .plan .guides - 1) +ℤ k .offset)) (is-neg (k .offset) (lt-true (computes w64 (env st) x₁ tt) refl (c .if1 .taken))))
 
 returns-2 : tie.Need-returns-2
 unfolding endsNotNegative
-returns-2 c = let st = c .before .before .before .before .before .before .before .before in sym (both-false (nonNeg (st .args .k .offset)) (is-neg _ (lt-true (computes w64 (env st) (x₀ ⊗ x₂ ⊕ x₁) tt) refl (c .if2 .taken))))
+returns-2 c = let st = c .before .before .before .before .before .before .before .before in sym (both-false (nonNeg (st .args .coefficients .offset)) (is-neg _ (lt-true (computes w64 (env st) (x₀ ⊗ x₂ ⊕ x₁) tt) refl (c .if2 .taken))))
 
 returns-3 : tie.Need-returns-3
 unfolding endsNotNegative

@@ -13,9 +13,9 @@ use Rattle.window.proofs.coefficients.reached.Tie as tie
 
 abbrev env : tie.Start → List Cell
 env c =
-    paramCell w64 (c .args .k .slope) 235497855 (c .pre .0 .slope) tt
-    ∷ paramCell w64 (c .args .k .offset) 180155859075 (c .pre .0 .offset) tt
-    ∷ paramCell w64 (c .args .k .total) 173129780571075 (c .pre .0 .total) tt
+    paramCell w64 (c .args .coefficients .slope) 235497855 (c .pre .0 .slope) tt
+    ∷ paramCell w64 (c .args .coefficients .offset) 180155859075 (c .pre .0 .offset) tt
+    ∷ paramCell w64 (c .args .coefficients .total) 173129780571075 (c .pre .0 .total) tt
     ∷ unsignedCell w64 (c .args .count) 961 (c .pre .1 .0) tt
     ∷ unsignedCell w64 (c .args .sum) 245055 (c .pre .1 .1) tt
     ∷ []
