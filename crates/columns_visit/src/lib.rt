@@ -1,4 +1,6 @@
 // Way 2 at a window of a walk: its store and its sums made or moved, its answer, the cut point after it, and the shift count.
+pub mod guide_sums;
+
 use chain_nodes::FreeList;
 use columns::store;
 use level_search::Tally;
@@ -13,7 +15,6 @@ use visit::Visit;
 use window::coefficients;
 use window::coefficients::Coefficients;
 use window::line;
-use window::sums as guide_sums;
 ghost use mathlib.Core.Path.{_≡_};
 ghost use mathlib.Core.Bool.{true};
 ghost use Prim.Native.Nat.{_+_, _*_, _<_, _≤_};
@@ -63,7 +64,7 @@ pub fn answer_from(
 }
 
 // The tally of the levels up to the cut point, carried to the neighbouring window at (column, row) where that is asked for: the two lines are read
-// only there. For the sums their guides are enough, and reading no more than those is quicker.
+// only there.
 pub fn carried(
     file: &[u8],
     plan: Plan,

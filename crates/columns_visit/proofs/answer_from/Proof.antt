@@ -44,7 +44,9 @@ part-answer-start-2 : tie.Need-part-answer-start-2
 part-answer-start-2 c = search needs
 
 part-answer-end-2 : tie.Need-part-answer-end-2
-part-answer-end-2 c = let st = c .before .before .before in places-in (st .args .plan .width) (st .args .plan .levels) (st .pre .0 .0) (st .pre .0 .1) _ (st .pre .0 .2)
+part-answer-end-2 c =
+    let st = c .before .before .before in
+    omega (arith, places-in (st .args .plan .width) (st .args .plan .levels) (st .pre .0 .0) (st .pre .0 .1) _ (st .pre .0 .2))
 
 answer-requires : tie.Need-answer-requires
 answer-requires c κs =

@@ -7,10 +7,10 @@ use Rattle.window.specs.Sums.{SumsAt}
 use Rattle.window.proofs.FormLaws.{both-in}
 use Rattle.window.proofs.LineLaws.{lines-in}
 use Rattle.window.proofs.PixelLaws.{plan-limits}
-use Rattle.window.proofs.SumLaws.{movable, moved-at}
 use Rattle.levels.specs.Answer.{Profiled}
 use Rattle.levels.proofs.AnswerLaws.{guides-range, answerable, answered-at}
 use Rattle.columns_visit.specs.Visit.{windowCounts, windowGuides}
+use Rattle.columns_visit.proofs.GuideSumLaws.{movable, moved-at}
 use Rattle.columns_visit.proofs.VisitLaws.{as-made, made-self, store-places, window-cells, visited}
 use Rattle.columns_visit.proofs.slide.Statement.{statement}
 use Rattle.columns_visit.proofs.slide.Tie as tie
