@@ -21,8 +21,7 @@ use Rattle.window.specs.declared.line.Step.{Step}
 use Rattle.window.specs.Line.{columnLine, stepOf, Adjacent, lineFold}
 use Rattle.window.proofs.FormLaws.{both-in}
 use Rattle.window.proofs.LineLaws.{fold-none, fold-more, columns-law}
-use Rattle.window.proofs.SumLaws.{columnsTo}
-use Rattle.pixels.specs.Pixels.{countOf, pixelFold, PixelsBelow, LinePixels}
+use Rattle.pixels.specs.Pixels.{countOf, pixelFold, columnsFold, PixelsBelow, LinePixels}
 use Rattle.pixels.proofs.AdditiveLaws.{stepped}
 use Rattle.pixels.proofs.SumLaws.{below-most}
 use Rattle.chain_nodes.specs.declared.FreeList.{FreeList}
@@ -57,7 +56,11 @@ module _ {e l : List ℕ} {free : FreeList} {m : List ℕ} where
     }
 
 -- ---- the window
--- the first k columns
+-- a sum over the window's first k columns
+abbrev columnsTo : List ℕ → Plan → ℕ → ℕ → (ℕ → ℕ → ℕ) → ℕ → ℕ
+columnsTo b z s t h k = columnsFold _+_ 0 b z (s - z .radius) t h k
+
+-- their list
 abbrev pub ColumnsListed : List ℕ → Plan → ℕ → ℕ → ℕ → FreeList → List ℕ → Type 0
 ColumnsListed b z s t k free m = ListOf (sizeOf z) (λ i. columnsTo b z s t (counted i) k) (λ i. columnsTo b z s t (guided i) k) free m
 
@@ -112,19 +115,15 @@ module _ {b : List ℕ} {z : Plan} (pl : Planned b z) where
   -- ---- column by column
   module _ (s t : ℕ) (hs : s < z .width) (ht : t < z .height) where
     columns-more : (h : ℕ → ℕ → ℕ) (k : ℕ) → columnsTo b z s t h k + lineFold _+_ 0 b (columnLine z (s - z .radius + k) t) h ≡ columnsTo b z s t h (k + 1)
-    unfolding columnsTo
     columns-more h k = sym (fold-more _+_ 0 _ _ k)
 
     columns-none : (h : ℕ → ℕ → ℕ) → 0 ≡ columnsTo b z s t h 0
-    unfolding columnsTo
     columns-none h = sym (fold-none _+_ 0 _ _)
 
     columns-all : (h : ℕ → ℕ → ℕ) → columnsTo b z s t h (span (z .radius) s (z .width)) ≡ window pl h s t
-    unfolding columnsTo
     columns-all h = sym (columns-law _+_ 0 pl h s t)
 
     columns-part : (h : ℕ → ℕ → ℕ) (k : ℕ) → k ≤ span (z .radius) s (z .width) → columnsTo b z s t h k ≤ window pl h s t
-    unfolding columnsTo
     columns-part h k l =
         let n = span (z .radius) s (z .width) in
         let e : k + (n - k) ≡ n = omega arith in

@@ -4,28 +4,12 @@ use level_search::block;
 use level_search::search;
 use level_search::search::Found;
 use spec::Level;
-use spec::Plan;
-use window::coefficients;
 use window::coefficients::Coefficients;
-use window::sums::Sums;
 ghost use mathlib.Core.Path.{_≡_};
-ghost use Prim.Native.Nat.{_+_, _<_};
+ghost use Prim.Native.Nat.{_+_};
 ghost use Rattle.spec.specs.Base.{if_then_else_, distance};
-ghost use Rattle.spec.specs.Checks.{Planned};
-ghost use Rattle.spec.specs.Frame.{frameOf};
-ghost use Rattle.window.specs.Sums.{SumsAt};
-ghost use Rattle.window.specs.Coefficients.{WeighsAt, CoefficientsSmall};
 ghost use Rattle.level_search.specs.Search.{FoundAt};
 ghost use Rattle.levels.specs.Answer.{Answerable};
-
-// The coefficients of the window at (s, t), whose sums are a.
-pub fn coefficients_at(file: &[u8], z: Plan, a: Sums, s: usize, t: usize) -> Coefficients
-    requires { ⌜ (Planned (now file) z) × (z .kind ≡ 2) ⌝ }
-    requires { ⌜ (s < z .width) × (t < z .height) × (SumsAt (frameOf (now file)) s t a) ⌝ }
-    ensures { λ k. ⌜ (WeighsAt (frameOf (now (file .entry))) s t k) × (CoefficientsSmall k) ⌝ }
-{
-    coefficients::of_window(file, z, a, s, t)
-}
 
 // By the coefficients k over so many guides: from the cut point where the window is monotone, with the tally of the levels up to it; else, and that
 // is often, from level 0, where no tally is asked for.

@@ -63,12 +63,6 @@ module _ {A : Type 0} (_⊕_ : A → A → A) (e : A) where
   unfolding lineFoldTo
   line-none b d h = fold-none _ 0
 
-  pub line-more : (b : List ℕ) (d : Line) (h : ℕ → ℕ → A) (k : ℕ)
-      → lineFoldTo _⊕_ e b d h (k + 1) ≡ lineFoldTo _⊕_ e b d h k ⊕ h (pixelLevel b (pixelOf d k)) (pixelGuide b (pixelOf d k))
-  unfolding lineFoldTo
-  line-more b d h k =
-      fold-more _ 0 k ∙ ap (λ (q : ℕ). lineFoldTo _⊕_ e b d h k ⊕ h (pixelLevel b (pixelOf d q)) (pixelGuide b (pixelOf d q))) (zero-add k)
-
   shift-fold : (b : List ℕ) (h : ℕ → ℕ → A) (d : Line) (by : ℕ) (on : Bool)
       → lineFold _⊕_ e b (shift d by on) h ≡ (if on then lineFold _⊕_ e b (shift d by true) h else e)
   unfolding shift lineFoldTo fold
@@ -179,11 +173,6 @@ module _ {A : Type 0} (_⊕_ : A → A → A) (e : A) where
           rw (is-up z s t s′ t′ (omega arith) (omega arith) (omega arith), es, et) (sym (row-law s t′ (omega arith)))
 
 -- the same for plain sums, by the step that the code makes
-pub step-sum : {b : List ℕ} {z : Plan} → Planned b z → {s t s′ t′ : ℕ} → Adjacent z s t s′ t′ → {d : Step} → d ≡ stepOf z s t s′ t′ → (h : ℕ → ℕ → ℕ)
-    → over _+_ 0 (frameOf b) s′ t′ (λ x y. h (level (frameOf b) x y) (guide (frameOf b) x y)) + lineFold _+_ 0 b (d .leaving) h
-    ≡ over _+_ 0 (frameOf b) s t (λ x y. h (level (frameOf b) x y) (guide (frameOf b) x y)) + lineFold _+_ 0 b (d .entering) h
-step-sum pl adj ed h = rw ed (step-law _+_ 0 pl h natSums adj)
-
 -- ---- every line is in the picture
 module _ {z : Plan} (lim : PlanLimits z) where
   in-column : (first x t : ℕ) → first ≡ (t - z .radius) * z .width + x → x < z .width

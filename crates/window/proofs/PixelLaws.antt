@@ -46,6 +46,3 @@ module _ {b : List ℕ} {z : Plan} (pl : Planned b z) where
 
   pub levels-high : z .levels ≤ 1024
   levels-high = let f = facts pl in omega (arith, f .levels, f .limits .sound .levels-high)
-
-  pub guide-byte : {q f : ℕ} → q < z .width * z .height → f ≡ pixelGuide b q → f ≤ 255
-  guide-byte h e = omega (arith, guide-low h, guides-high)
