@@ -52,7 +52,8 @@ pub fn count_pixel(
 )
     requires { ⌜ Planned (now file) plan ⌝ }
     requires { ⌜ (x < plan .width) × (y < plan .height) ⌝ }
-    requires { ⌜ (a < 2 * plan .width + 2) × (b < 2 * plan .width + 2) × (2 * (plan .width * plan .levels) + 2 * plan .levels ≤ length (now numbers)) ⌝ }
+    requires { ⌜ (a < 2 * plan .width + 2) × (b < 2 * plan .width + 2)
+        × (2 * (plan .width * plan .levels) + 2 * plan .levels ≤ length (now numbers)) ⌝ }
     requires { ⌜ Able add (plan .levels) (pixelD (frameOf (now file)) a b x y) (now numbers) ⌝ }
     ensures { λ _. ⌜ Put add (plan .levels) (pixelD (frameOf (now (file .entry))) a b x y) (now (numbers .entry)) (now (numbers .exit)) ⌝ }
 {

@@ -1,1 +1,2 @@
+pub mod GuideSumLaws
 pub mod VisitLaws

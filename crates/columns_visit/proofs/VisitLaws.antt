@@ -41,6 +41,14 @@ module _ (w l : ℕ) (hw : w ≤ 1024) (hl : l ≤ 1024) where
 pub part-is : (at n : ℕ) (xs : List ℕ) → take (at + n - at) (drop at xs) ≡ take n (drop at xs)
 part-is at n xs = let e : at + n - at ≡ n = omega arith in ap (λ (m : ℕ). take m (drop at xs)) e
 
+-- the window's two blocks, as they are lent to a search
+pub lent-blocks : (z : Plan) (xs : List ℕ) (P : List ℕ → List ℕ → Type 0) → P (windowCounts z xs) (windowGuides z xs) → let at = 2 * z .width * z .levels in
+    P (take (at + z .levels - at) (drop at xs)) (take (at + z .levels + z .levels - (at + z .levels)) (drop (at + z .levels) xs))
+lent-blocks z xs P h =
+    let at = 2 * z .width * z .levels in
+    subst (λ (cs : List ℕ). P cs (take (at + z .levels + z .levels - (at + z .levels)) (drop (at + z .levels) xs))) (sym (part-is at (z .levels) xs))
+    (subst (λ (gs : List ℕ). P (windowCounts z xs) gs) (sym (part-is (at + z .levels) (z .levels) xs)) h)
+
 module _ (p : Frame) (s t : ℕ) (xs ys : List ℕ) where
   -- the store's length and the room for it are one number
   pub made : ys ≡ columnStore p s t ++ drop (storeSize p) xs → ys ≡ storeAt p s t xs

@@ -1,1 +1,2 @@
+pub mod GuideSums
 pub mod Visit

@@ -1,4 +1,6 @@
 // Way 2 at a window of a walk: its store and its sums made or moved, its answer, the cut point after it, and the shift count.
+pub mod guide_sums;
+
 use chain_nodes::FreeList;
 use columns::store;
 use level_search::Tally;
@@ -14,6 +16,7 @@ use window::coefficients;
 use window::coefficients::Coefficients;
 use window::line;
 ghost use mathlib.Core.Path.{_≡_};
+ghost use mathlib.Core.Bool.{true};
 ghost use Prim.Native.Nat.{_+_, _*_, _<_, _≤_};
 ghost use lib.ListN.{length};
 ghost use Rattle.spec.specs.declared.Way.the-variants.{Columns};
@@ -24,6 +27,7 @@ ghost use Rattle.spec.specs.Frame.{frameOf};
 ghost use Rattle.spec.specs.Walk.{arrive};
 ghost use Rattle.window.specs.Line.{Adjacent};
 ghost use Rattle.levels.specs.Answer.{Answerable};
+ghost use Rattle.levels.specs.Tally.{BelowAt};
 ghost use Rattle.level_search.specs.Search.{FoundAt};
 ghost use Rattle.visit.specs.Visit.{Within};
 ghost use Rattle.columns_visit.specs.Visit.{windowCounts, windowGuides, ColumnsAt, ColumnsVisited};
@@ -39,7 +43,8 @@ pub fn answer_from(
     shifts: u64,
 ) -> Found
     requires { ⌜ (plan .width ≤ 1024) × (plan .levels ≤ 1024) × (2 * (plan .width * plan .levels) + 2 * plan .levels ≤ length (now numbers)) ⌝ }
-    requires { ⌜ Answerable coefficients (plan .guides) monotone (cut .0) shifts below (windowCounts plan (now numbers)) (windowGuides plan (now numbers)) ⌝ }
+    requires { ⌜ Answerable coefficients (plan .guides) monotone (cut .0) shifts below
+        (windowCounts plan (now numbers)) (windowGuides plan (now numbers)) ⌝ }
     ensures { λ f. ⌜ (FoundAt coefficients (windowCounts plan (now (numbers .entry))) (windowGuides plan (now (numbers .entry))) f)
         × (f .shifts ≡ shifts + (if monotone then distance (f .level .0) (cut .0) else f .level .0)) ⌝ }
 {
@@ -57,6 +62,34 @@ pub fn answer_from(
         cut,
         shifts,
     )
+}
+
+// The tally of the levels up to the cut point, carried to the neighbouring window at (column, row) where that is asked for: the two lines are read
+// only there.
+pub fn carried(
+    file: &[u8],
+    plan: Plan,
+    asked: bool,
+    from: Visit,
+    column: usize,
+    row: usize,
+) -> Tally
+    requires { ⌜ (Planned (now file) plan) × (Adjacent plan (from .column) (from .row) column row)
+        × (BelowAt (frameOf (now file)) (from .column) (from .row) (from .cut .0 + 1) (from .running .below)) ⌝ }
+    ensures { λ r. ⌜ (asked ≡ true → BelowAt (frameOf (now (file .entry))) column row (from .cut .0 + 1) r) ⌝ }
+{
+    let known = from.running;
+    let earlier = known.below;
+    if asked {
+        let cut = from.cut;
+        let step = line::step_to(plan, from.column, from.row, column, row);
+        let mut entering = [0u16; 62];
+        let mut leaving = [0u16; 62];
+        let n = pixels::read(file, plan, step.entering, &mut entering);
+        let m = pixels::read(file, plan, step.leaving, &mut leaving);
+        return tally::carried(earlier, &entering[0..n], &leaving[0..m], cut.0 as usize + 1);
+    }
+    earlier
 }
 
 // A walk comes to its first window, whatever the store held. From cut point 0 a monotone window is searched like any other.
@@ -95,20 +128,14 @@ pub fn slide(
         (now (numbers .entry)) r (now (numbers .exit)) ⌝ }
 {
     let step = line::step_to(plan, from.column, from.row, column, row);
-    let mut entering = [0u16; 62];
-    let mut leaving = [0u16; 62];
-    let n = pixels::read(file, plan, step.entering, &mut entering);
-    let m = pixels::read(file, plan, step.leaving, &mut leaving);
-    store::slide(file, plan, numbers, from.column, from.row, column, row);
     let known = from.running;
     let former = known.sums;
-    let earlier = known.below;
-    let cut = from.cut;
-    let sums = sums::moved(former, &entering[0..n], &leaving[0..m]);
+    let sums = guide_sums::moved(file, plan, former, step);
+    store::slide(file, plan, numbers, from.column, from.row, column, row);
     let coefficients = coefficients::of_window(file, plan, sums, column, row);
     let monotone = coefficients::monotone(plan, coefficients);
-    let end = cut.0 as usize + 1;
-    let tally = tally::carried_where(monotone, earlier, &entering[0..n], &leaving[0..m], end);
+    let tally = carried(file, plan, monotone, from, column, row);
+    let cut = from.cut;
     let found = answer_from(
         plan,
         numbers,

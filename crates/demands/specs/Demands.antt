@@ -38,8 +38,10 @@ abbrev pub WalkedOrRefused : Type 0
 WalkedOrRefused =
     (b : List ℕ) (way s t : ℕ) (moves : List ℕ) (before after : Stores) (old new : List ℕ) (r : Walked) → Walks b way s t moves before after old new r
     → ((r .verdict ≡ Accepted)
-    × Ended (wayOf way) (frameOf b) (walkEnd (frameOf b) s t moves) before after (walkAnswers (frameOf b) s t moves ++ drop (length moves + 1) old) new r)
-    ⊎ ((n : ℕ) × (l : List ℕ) × (numbered (r .verdict) ≡ refused n l) × (walkOutcome b way s t (length moves) (lent before) (length old) ≡ refused n l)
+    × Ended (wayOf way) (frameOf b) (walkEnd (frameOf b) s t moves) before after
+    (walkAnswers (frameOf b) s t moves ++ drop (length moves + 1) old) new r)
+    ⊎ ((n : ℕ) × (l : List ℕ) × (numbered (r .verdict) ≡ refused n l)
+    × (walkOutcome b way s t (length moves) (lent before) (length old) ≡ refused n l)
     × Untouched before after old new r)
 
 abbrev pub FilteredOrRefused : Type 0
@@ -95,7 +97,8 @@ EveryPixel =
 
 -- the first n bytes of the output of a writer that answers n: accepted, and the settings, planes and table as given
 abbrev pub ReadsBack : Type 0
-ReadsBack = (settings : Settings) (v g a old : List ℕ) (n : ℕ) (new : List ℕ) → Writes settings v g a old (Length n) new → Returned settings v g a (take n new)
+ReadsBack = (settings : Settings) (v g a old : List ℕ) (n : ℕ) (new : List ℕ) → Writes settings v g a old (Length n) new
+    → Returned settings v g a (take n new)
 
 pub record Demand2 : Type 0 where
   pub filter : EveryPixel
@@ -135,7 +138,8 @@ pub record Agreed (p : Frame) (s t : ℕ) (moves new new′ : List ℕ) (r r′ 
 abbrev pub AllWaysAgree : Type 0
 AllWaysAgree =
     (b : List ℕ) (s t : ℕ) (moves : List ℕ) (way way′ : ℕ) (before after before′ after′ : Stores) (old new old′ new′ : List ℕ) (r r′ : Walked)
-    → Walks b way s t moves before after old new r → Walks b way′ s t moves before′ after′ old′ new′ r′ → r .verdict ≡ Accepted → r′ .verdict ≡ Accepted
+    → Walks b way s t moves before after old new r → Walks b way′ s t moves before′ after′ old′ new′ r′
+    → r .verdict ≡ Accepted → r′ .verdict ≡ Accepted
     → Agreed (frameOf b) s t moves new new′ r r′
 
 -- every pixel of a filtered frame

@@ -109,7 +109,8 @@ fn answer(v: Verdict, n: usize) -> Written
 // The whole file.
 fn put_file(out: &mut [u8], settings: Settings, values: &[u16], guides: &[u16], table: &[u16])
     requires { ⌜ Fit settings (now values) (now guides) (now table) (length (now out)) ⌝ }
-    ensures { λ _. ⌜ now (out .exit) ≡ sets (now (out .entry)) 0 (written settings (now (values .entry)) (now (guides .entry)) (now (table .entry))) ⌝ }
+    ensures { λ _. ⌜ now (out .exit)
+        ≡ sets (now (out .entry)) 0 (written settings (now (values .entry)) (now (guides .entry)) (now (table .entry))) ⌝ }
 {
     let p = values.len();
     let n = table.len();

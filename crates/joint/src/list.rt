@@ -22,7 +22,8 @@ pub fn change_pixels(
     ensures { λ _. ⌜ ((a : Countable enters m (now (p .entry)) (now (counts .entry)) (now (words .entry)))
         → CountsPassed enters (a .levels) m (now (p .entry)) (countOf (now (p .entry))) (now (counts .entry)) (now (words .entry)) (now
         (counts .exit)) (now (words .exit))) ⌝ }
-    ensures { λ _. ⌜ BoxPassed enters (cut .0) (now (p .entry)) (countOf (now (p .entry))) (now («balance_box» .entry)) (now («balance_box» .exit)) ⌝ }
+    ensures { λ _. ⌜ BoxPassed enters (cut .0) (now (p .entry)) (countOf (now (p .entry)))
+        (now («balance_box» .entry)) (now («balance_box» .exit)) ⌝ }
 {
     let n = p.len() / 2;
     let mut k = 0;

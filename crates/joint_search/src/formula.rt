@@ -42,8 +42,10 @@ pub fn level_weight(
 
 // The balance at the box's cut point, by a row of the table.
 pub fn box_balance(balance_box: &[i16; 256], weights: &[u16], formula: Formula, m: usize) -> i64
-    requires { ⌜ (m ≤ 256) × (RowFits m (formula .row) (now weights)) × (BoxInBounds (now «balance_box»)) × (formula .slope ≡ pos 1) × (formula .offset ≡ pos 0) ⌝ }
-    ensures { λ r. ⌜ r ≡ formula .slope *ℤ boxDot (now («balance_box» .entry)) (now (weights .entry)) (formula .row) m +ℤ formula .offset *ℤ boxAll (now («balance_box» .entry)) m ⌝ }
+    requires { ⌜ (m ≤ 256) × (RowFits m (formula .row) (now weights)) × (BoxInBounds (now «balance_box»)) × (formula .slope ≡ pos 1)
+        × (formula .offset ≡ pos 0) ⌝ }
+    ensures { λ r. ⌜ r ≡ formula .slope *ℤ boxDot (now («balance_box» .entry)) (now (weights .entry)) (formula .row) m
+        +ℤ formula .offset *ℤ boxAll (now («balance_box» .entry)) m ⌝ }
 {
     box_dot::box_dot(balance_box, weights, formula.row, m) as i64
 }

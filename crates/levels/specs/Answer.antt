@@ -23,7 +23,7 @@ pub record Profiled (p : Frame) (s t : ℕ) (counts sums : List ℕ) : Type 0 wh
   pub count-cell : (i : ℕ) → i < p .set .levels → getD counts i 0 ≡ levelSum p s t (λ x y. 1) i
   pub sum-cell : (i : ℕ) → i < p .set .levels → getD sums i 0 ≡ levelSum p s t (guide p) i
 
--- what an answer asks, by the coefficients coefficients over so many guides: a search that ends, and what no pixel outweighs; from the cut point c of a
+-- what an answer asks, by the coefficients over so many guides: a search that ends, and what no pixel outweighs; from the cut point c of a
 -- monotone window also the tally of the levels up to it, and that the cumulative weight never falls
 pub record Answerable (coefficients : Coefficients) (guides : ℕ) (monotone : Bool) (c n : ℕ) (a : Tally) (counts sums : List ℕ) : Type 0 where
   pub search : Searchable coefficients counts sums

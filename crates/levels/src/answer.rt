@@ -24,8 +24,8 @@ pub fn answer(
     shifts: u64,
 ) -> Found
     requires { ⌜ Answerable coefficients guides monotone (cut .0) shifts below (now counts) (now sums) ⌝ }
-    ensures { λ f. ⌜ (FoundAt coefficients (now (counts .entry)) (now (sums .entry)) f) × (f .shifts ≡ shifts + (if monotone then distance (f .level .0)
-        (cut .0) else f .level .0)) ⌝ }
+    ensures { λ f. ⌜ (FoundAt coefficients (now (counts .entry)) (now (sums .entry)) f)
+        × (f .shifts ≡ shifts + (if monotone then distance (f .level .0) (cut .0) else f .level .0)) ⌝ }
 {
     let heaviest = block::heaviest(coefficients, guides);
     if monotone {

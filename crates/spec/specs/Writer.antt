@@ -13,7 +13,9 @@ use Rattle.spec.specs.Checks.{heaviest, settingsOutcome, scan}
 
 -- the trailer's first 12 bytes
 unfoldable pub fieldBytes : Settings → List ℕ
-fieldBytes settings = to16 (settings .width) ++ to16 (settings .height) ++ to16 (settings .levels) ++ to16 (settings .guides) ++ (settings .kind ∷ settings .radius ∷ []) ++ to16 (settings .smoothing)
+fieldBytes settings =
+    to16 (settings .width) ++ to16 (settings .height) ++ to16 (settings .levels) ++ to16 (settings .guides) ++
+    (settings .kind ∷ settings .radius ∷ []) ++ to16 (settings .smoothing)
 
 -- the last 16, with a table of n weights and planes of p pixels: the table ends where the trailer begins
 unfoldable pub distanceBytes : ℕ → ℕ → List ℕ

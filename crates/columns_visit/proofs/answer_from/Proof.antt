@@ -2,7 +2,8 @@
 use native.Mathlib.Omega.{arith}
 use Prim.Native.Nat.{_+_, _*_, _≤_}
 use borrow.Author.Needs.{needs}
-use Rattle.columns_visit.proofs.VisitLaws.{places-small, places-in, part-is}
+use Rattle.levels.specs.Answer.{Answerable}
+use Rattle.columns_visit.proofs.VisitLaws.{places-small, places-in, part-is, lent-blocks}
 use Rattle.columns_visit.proofs.answer_from.Statement.{statement}
 use Rattle.columns_visit.proofs.answer_from.Tie as tie
 
@@ -44,13 +45,14 @@ part-answer-start-2 : tie.Need-part-answer-start-2
 part-answer-start-2 c = search needs
 
 part-answer-end-2 : tie.Need-part-answer-end-2
-part-answer-end-2 c = let st = c .before .before .before in places-in (st .args .plan .width) (st .args .plan .levels) (st .pre .0 .0) (st .pre .0 .1) _ (st .pre .0 .2)
+part-answer-end-2 c =
+    let st = c .before .before .before in
+    omega (arith, places-in (st .args .plan .width) (st .args .plan .levels) (st .pre .0 .0) (st .pre .0 .1) _ (st .pre .0 .2))
 
 answer-requires : tie.Need-answer-requires
 answer-requires c κs =
-    let st = c .before .before .before .before in
-    let z = st .args .plan in
-    rw (part-is (2 * z .width * z .levels) (z .levels) (st .args .numbers .now), part-is (2 * z .width * z .levels + z .levels) (z .levels) (st .args .numbers .now)) (st .pre .1)
+    let x = c .before .before .before .before .args in
+    lent-blocks (x .plan) (x .numbers .now) (Answerable (x .k) (x .plan .guides) (x .monotone) (x .cut .0) (x .shifts) (x .below)) (c .before .before .before .before .pre .1)
 
 returns : tie.Need-returns
 returns c =
