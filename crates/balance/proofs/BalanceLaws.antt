@@ -78,10 +78,12 @@ module _ {p row : List ℕ} {w : Formula} (v : PixelsWeighed p row w) (c : ℕ) 
       natural : toZ w64 number ≡ pos number
       natural = toZ-pos w64 (omega arith)
 
-      pub weight-asks : (natAbs (toZ w64 (ofZ w64 (w .slope))) ≤ 235497855) × (natAbs (toZ w64 (ofZ w64 (w .offset))) ≤ 180155859075) × (natAbs (toZ w64 number) ≤ 62979135) × (1 ≤ 961)
+      pub weight-asks : (natAbs (toZ w64 (ofZ w64 (w .slope))) ≤ 235497855) × (natAbs (toZ w64 (ofZ w64 (w .offset))) ≤ 180155859075) ×
+          (natAbs (toZ w64 number) ≤ 62979135) × (1 ≤ 961)
       weight-asks = (rw slope-back (v .small .slope), rw offset-back (v .small .offset), rw natural (omega (arith, l)), omega arith)
 
-      pub weight-is : (r : ℤ) → r ≡ toZ w64 (ofZ w64 (w .slope)) *ℤ toZ w64 number +ℤ toZ w64 (ofZ w64 (w .offset)) *ℤ pos 1 → r ≡ weightBy row w (guideIn p k)
+      pub weight-is : (r : ℤ) → r ≡ toZ w64 (ofZ w64 (w .slope)) *ℤ toZ w64 number +ℤ toZ w64 (ofZ w64 (w .offset)) *ℤ pos 1 →
+          r ≡ weightBy row w (guideIn p k)
       weight-is r e = (rw (slope-back, offset-back, natural) at e) ∙ ap (λ (q : ℤ). w .slope *ℤ pos number +ℤ q) (mul-one (w .offset))
 
     module _ (x y : ℤ) (ex : x ≡ added k) (ey : y ≡ weightBy row w (guideIn p k)) where
@@ -111,13 +113,15 @@ module _ {b : List ℕ} {z : Plan} {s t : ℕ} {row : List ℕ} {w : Formula} (w
       few = v .below .few;
       small = wd .weighs .small;
       inside = λ k h. omega (arith, wd .weighs .in-row .inside, row-in k h);
-      low = λ k h. subst (λ (q : ℤ). natAbs q ≤ 180155859075) (wd .weighs .is (guideIn p k) (row-in k h)) (weight-abs pixel (guideIn p k) (row-in k h));
+      low =
+          λ k h. subst (λ (q : ℤ). natAbs q ≤ 180155859075) (wd .weighs .is (guideIn p k) (row-in k h)) (weight-abs pixel (guideIn p k) (row-in k h));
     }
 
     list-adds : (c : ℕ) → pixelFold _+ℤ_ (pos 0) p (signedBy row w c) ≡ pixelFold _+ℤ_ (pos 0) p (signedWeight (frameOf b) s t c)
     unfolding pixelFoldTo signedBy signedWeight
     list-adds c =
-        fold-same _+ℤ_ (pos 0) intSums _ _ 0 _ (λ k x y. ap (λ (q : ℤ). side c (levelIn p k) *ℤ q) (sym (wd .weighs .is (guideIn p k) (row-in k (omega arith)))))
+        fold-same _+ℤ_ (pos 0) intSums _ _ 0 _
+        (λ k x y. ap (λ (q : ℤ). side c (levelIn p k) *ℤ q) (sym (wd .weighs .is (guideIn p k) (row-in k (omega arith)))))
 
     -- ---- one column more, whose list adds y
     module _ (c : ℕ) {y : ℤ} (ey : y ≡ pixelFold _+ℤ_ (pos 0) p (signedBy row w c)) where
@@ -133,17 +137,23 @@ module _ {b : List ℕ} {z : Plan} {s t : ℕ} {row : List ℕ} {w : Formula} (w
 
         pub column-again : (x : ℕ) → d ≡ columnLine z (x + k) t → a ≡ columnsFold _+ℤ_ (pos 0) b z x t (signedWeight (frameOf b) s t c) k
             → {r : ℤ} → mag r < 2 ^ hbits w64 → r ≡ a +ℤ toZ w64 (ofZ w64 y)
-            → (toZ w64 (ofZ w64 r) ≡ columnsFold _+ℤ_ (pos 0) b z x t (signedWeight (frameOf b) s t c) (k + 1)) × (natAbs (toZ w64 (ofZ w64 r)) ≤ (k + 1) * 5584831631325)
+            →
+            (toZ w64 (ofZ w64 r) ≡ columnsFold _+ℤ_ (pos 0) b z x t (signedWeight (frameOf b) s t c) (k + 1)) ×
+            (natAbs (toZ w64 (ofZ w64 r)) ≤ (k + 1) * 5584831631325)
         column-again x ed ea m e =
             let h = signedWeight (frameOf b) s t c in
-            let q = toZ-ofZ (record { sfits = m }) ∙ e ∙ ap (λ (u : ℤ). a +ℤ u) handed-on in
-            (q ∙ ap₂ _+ℤ_ ea (list-adds c) ∙ sym (columns-more _+ℤ_ (pos 0) b z x t h k p ed (v .sumℤ h)), rw q (omega (arith, abs-add a (pixelFold _+ℤ_ (pos 0) p (signedBy row w c)), low, small)))
+            let q = toZ-ofZ (record { sfits = m }) ∙ e ∙ ap (λ (u : ℤ). a +ℤ u) handed-on in (
+              q ∙ ap₂ _+ℤ_ ea (list-adds c) ∙ sym (columns-more _+ℤ_ (pos 0) b z x t h k p ed (v .sumℤ h)),
+              rw q
+                  (omega (arith, abs-add a (pixelFold _+ℤ_ (pos 0) p (signedBy row w c)), low, small)),
+            )
 
   -- all columns
   pub columns-balance : (c : ℕ) {x n : ℕ} → x ≡ s - z .radius → n ≡ span (z .radius) s (z .width)
       → columnsFold _+ℤ_ (pos 0) b z x t (signedWeight (frameOf b) s t c) n ≡ balance (frameOf b) s t c
   unfolding signedWeight side
-  columns-balance c {x} ex en = columns-window _+ℤ_ (pos 0) b z x t (signedWeight (frameOf b) s t c) (wd .planned) s ex en ∙ sym (balance-signed (frameOf b) s t c)
+  columns-balance c {x} ex en =
+      columns-window _+ℤ_ (pos 0) b z x t (signedWeight (frameOf b) s t c) (wd .planned) s ex en ∙ sym (balance-signed (frameOf b) s t c)
 
 -- ---- the table's row of a guide, after k turns
 pub row-start : (p : Frame) (f : ℕ) → TableRow p 0 f (replicate 256 0)
@@ -152,25 +162,37 @@ row-start p f = record { long = length-replicate {A = ℕ} 256 0; is = λ g h. a
 pub row-next : {p : Frame} {k f v : ℕ} {row : List ℕ} → k < 256 → TableRow p k f row → v ≡ table p f k → TableRow p (k + 1) f (set row k v)
 row-next {p} {k} {f} {v} {row} h r e = record {
   long = length-set row k v ∙ r .long;
-  is = λ g l. ⊎-elim (λ q. rw q (getD-set-same row k v 0 (rw (r .long) h) ∙ e)) (λ n. getD-set-other row k g v 0 n ∙ r .is g (omega arith)) (eq-or-ne g k);
+  is =
+      λ g l. ⊎-elim (λ q. rw q (getD-set-same row k v 0 (rw (r .long) h) ∙ e)) (λ n. getD-set-other row k g v 0 n ∙ r .is g (omega arith))
+      (eq-or-ne g k);
 }
 
 -- it weighs the window of kind 1
-pub row-formula : {b : List ℕ} {z : Plan} {s t f : ℕ} {row : List ℕ} → Planned b z → z .kind ≡ 1 → s < z .width → t < z .height → f ≡ guide (frameOf b) s t → TableRow (frameOf b) (z .guides) f row
+pub row-formula : {b : List ℕ} {z : Plan} {s t f : ℕ} {row : List ℕ} → Planned b z → z .kind ≡ 1 → s < z .width → t < z .height →
+    f ≡ guide (frameOf b) s t → TableRow (frameOf b) (z .guides) f row
     → Weighed b z s t row (record { row = 0; slope = pos 1; offset = pos 0 })
 row-formula {b} {z} {s} {t} {f} {row} pl one hs ht ef r =
     let q = facts pl in
     let px = pixel-of pl hs ht in
     let low : f < frameOf b .set .guides = rw ef (px .good .guide-low s t (px .in-column) (px .in-row)) in
-    let value : (g : ℕ) → g < frameOf b .set .guides → getD row (0 + g) 0 ≡ table (frameOf b) f g = λ g l. ap (λ (n : ℕ). getD row n 0) (zero-add g) ∙ r .is g (rw (q .guides) l) in
+    let value : (g : ℕ) → g < frameOf b .set .guides → getD row (0 + g) 0 ≡ table (frameOf b) f g =
+    λ g l. ap (λ (n : ℕ). getD row n 0) (zero-add g) ∙ r .is g (rw (q .guides) l) in
     record {
       planned = pl;
       column = hs;
       row = ht;
       weighs = record {
-        in-row = record { inside = omega (arith, r .long, q .limits .sound .guides-high); start = omega arith; low = λ g l. rw (value g l) (omega (arith, px .good .table-low f g low l)) };
+        in-row =
+            record {
+              inside = omega (arith, r .long, q .limits .sound .guides-high);
+              start = omega arith;
+              low =
+                  λ g l. rw (value g l) (omega (arith, px .good .table-low f g low l));
+            };
         small = record { slope = omega arith; offset = omega arith };
-        is = λ g l. weight-table (frameOf b) s t g (sym (q .kind) ∙ one) ∙ ap (λ (n : ℕ). pos (table (frameOf b) n g)) (sym ef) ∙ ap pos (sym (value g l))
+        is =
+            λ g l. weight-table (frameOf b) s t g (sym (q .kind) ∙ one) ∙ ap (λ (n : ℕ). pos (table (frameOf b) n g)) (sym ef) ∙ ap pos
+            (sym (value g l))
             ∙ sym (+ℤ-idr (pos 1 *ℤ pos (getD row (0 + g) 0)) ∙ one-mul (pos (getD row (0 + g) 0)));
       };
     }

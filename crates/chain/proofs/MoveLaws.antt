@@ -35,18 +35,30 @@ use Rattle.chain.proofs.ReadLaws.{chain-reads, rest-kept}
 use Rattle.chain.proofs.WindowLaws.{level-total, window, window-mixed, leaving-part}
 
 -- counts and guide sums that are the same level by level
-list-ext : (z : Size) (cnt sm cnt′ sm′ : ℕ → ℕ) (free : FreeList) (m : List ℕ) → ListOf z cnt sm free m → ((i : ℕ) → cnt i ≡ cnt′ i) → ((i : ℕ) → sm i ≡ sm′ i) → ListOf z cnt′ sm′ free m
+list-ext : (z : Size) (cnt sm cnt′ sm′ : ℕ → ℕ) (free : FreeList) (m : List ℕ) → ListOf z cnt sm free m → ((i : ℕ) → cnt i ≡ cnt′ i) →
+    ((i : ℕ) → sm i ≡ sm′ i) → ListOf z cnt′ sm′ free m
 list-ext z cnt sm cnt′ sm′ free m c p q = chain-ext (z .cap) (z .levels) (free .head) (free .count) cnt sm cnt′ sm′ m c p q
 
 -- ---- one list of pixels out, another in
 module _ {e l : List ℕ} {free : FreeList} {m : List ℕ} where
   pub slide-removable : Slides e l free m → MergeableLine false l free m
-  slide-removable a = record { size = a .size; small = a .small; below = a .leaving; cnt = a .cnt; sm = a .sm; chain = a .chain; ready = a .none-left }
+  slide-removable a =
+      record { size = a .size; small = a .small; below = a .leaving; cnt = a .cnt; sm = a .sm; chain = a .chain; ready = a .none-left }
 
   module _ {kept : FreeList} {m₁ : List ℕ} (o : MergedLine false l free m kept m₁) where
     pub slide-insertable : Slides e l free m → MergeableLine true e kept m₁
     unfolding slide-removable
-    slide-insertable a = record { size = a .size; small = a .small; below = a .entering; cnt = a .cnt; sm = a .sm; chain = o .chain (slide-removable a); ready = a .ready }
+    slide-insertable a =
+        record {
+          size = a .size;
+          small = a .small;
+          below = a .entering;
+          cnt = a .cnt;
+          sm = a .sm;
+          chain = o .chain (slide-removable a);
+          ready =
+              a .ready;
+        }
 
     pub slide-slid : {free′ : FreeList} {m′ : List ℕ} → MergedLine true e kept m₁ free′ m′ → Slid e l free m free′ m′
     unfolding slide-insertable slide-removable
@@ -74,7 +86,8 @@ module _ {b : List ℕ} {z : Plan} (pl : Planned b z) where
   store-size = ap (λ (n : ℕ). 1 + 4 * n) (sym nodes-is)
 
   -- what the definition asks of the store
-  pub listed-stored : {s t : ℕ} (m : List ℕ) (free : FreeList) (m′ : List ℕ) → length m′ ≡ length m → Beyond (nodesOf z) m m′ → Listed b z s t free m′ → Stored b z s t m free m′
+  pub listed-stored : {s t : ℕ} (m : List ℕ) (free : FreeList) (m′ : List ℕ) → length m′ ≡ length m → Beyond (nodesOf z) m m′ →
+      Listed b z s t free m′ → Stored b z s t m free m′
   unfolding sizeOf ChainStore
   listed-stored {s} {t} m free m′ e k c = record {
     store =
@@ -99,7 +112,8 @@ module _ {b : List ℕ} {z : Plan} (pl : Planned b z) where
   unfolding pixelCount
   counts-total {s} {t} hs ht =
       let f = facts pl in
-      let e : sumBelow (levelCounts b s t) (z .levels) ≡ sumBelow (levelCounts b s t) (frameOf b .set .levels) = ap (sumBelow (levelCounts b s t)) (f .levels) in
+      let e : sumBelow (levelCounts b s t) (z .levels) ≡ sumBelow (levelCounts b s t) (frameOf b .set .levels) =
+      ap (sumBelow (levelCounts b s t)) (f .levels) in
       omega (arith, e, level-total (pixel-of pl hs ht) (λ x y. 1), pixelCount-nodes (frameOf b) s t, nodes-is)
 
   guides-high : {s t : ℕ} → s < z .width → t < z .height → (i : ℕ) → levelGuides b s t i ≤ 245055
@@ -114,7 +128,8 @@ module _ {b : List ℕ} {z : Plan} (pl : Planned b z) where
 
   -- ---- column by column
   module _ (s t : ℕ) (hs : s < z .width) (ht : t < z .height) where
-    columns-more : (h : ℕ → ℕ → ℕ) (k : ℕ) → columnsTo b z s t h k + lineFold _+_ 0 b (columnLine z (s - z .radius + k) t) h ≡ columnsTo b z s t h (k + 1)
+    columns-more : (h : ℕ → ℕ → ℕ) (k : ℕ) →
+        columnsTo b z s t h k + lineFold _+_ 0 b (columnLine z (s - z .radius + k) t) h ≡ columnsTo b z s t h (k + 1)
     columns-more h k = sym (fold-more _+_ 0 _ _ k)
 
     columns-none : (h : ℕ → ℕ → ℕ) → 0 ≡ columnsTo b z s t h 0
@@ -130,16 +145,20 @@ module _ {b : List ℕ} {z : Plan} (pl : Planned b z) where
         let q : columnsTo b z s t h (k + (n - k)) ≡ columnsTo b z s t h n = ap (columnsTo b z s t h) e in
         omega (arith, q, columns-all h, fold-parts _+_ 0 natSums (λ x. lineFold _+_ 0 b (columnLine z x t) h) (s - z .radius) k (n - k))
 
-    pub columns-empty : {m₀ : List ℕ} {m : List ℕ} (free : FreeList) → Cleared (nodesOf z) m₀ (free .head) (free .count) m → ColumnsListed b z s t 0 free m
+    pub columns-empty : {m₀ : List ℕ} {m : List ℕ} (free : FreeList) → Cleared (nodesOf z) m₀ (free .head) (free .count) m →
+        ColumnsListed b z s t 0 free m
     unfolding sizeOf
-    columns-empty free c = list-ext (sizeOf z) _ _ _ _ free _ (c .chain (sizeOf z .levels)) (λ i. columns-none (counted i)) (λ i. columns-none (guided i))
+    columns-empty free c =
+        list-ext (sizeOf z) _ _ _ _ free _ (c .chain (sizeOf z .levels)) (λ i. columns-none (counted i)) (λ i. columns-none (guided i))
 
     pub columns-listed : {free : FreeList} {m : List ℕ} → ColumnsListed b z s t (span (z .radius) s (z .width)) free m → Listed b z s t free m
     columns-listed {free} {m} c =
-        list-ext (sizeOf z) _ _ _ _ free m c (λ i. columns-all (counted i) ∙ sym (counts-is s t i)) (λ i. columns-all (guided i) ∙ sym (guides-is s t i))
+        list-ext (sizeOf z) _ _ _ _ free m c (λ i. columns-all (counted i) ∙ sym (counts-is s t i))
+        (λ i. columns-all (guided i) ∙ sym (guides-is s t i))
 
     -- the next column, read into the list p
-    module _ {k : ℕ} (l : k < span (z .radius) s (z .width)) {d : Line} (ed : d ≡ columnLine z (s - z .radius + k) t) {p : List ℕ} (r : LinePixels b z d p)
+    module _ {k : ℕ} (l : k < span (z .radius) s (z .width)) {d : Line} (ed : d ≡ columnLine z (s - z .radius + k) t) {p : List ℕ}
+        (r : LinePixels b z d p)
         {free : FreeList} {m : List ℕ} (c : ColumnsListed b z s t k free m) where
       column-more : (h : ℕ → ℕ → ℕ) → columnsTo b z s t h k + pixelFold _+_ 0 p h ≡ columnsTo b z s t h (k + 1)
       column-more h = ap (λ (n : ℕ). columnsTo b z s t h k + n) (r .sum h ∙ ap (λ (y : Line). lineFold _+_ 0 b y h) ed) ∙ columns-more h k
@@ -150,8 +169,10 @@ module _ {b : List ℕ} {z : Plan} (pl : Planned b z) where
         arith,
         line-total (r .below),
         fold-both _+_ 0 natSums (λ i. columnsTo b z s t (counted i) k) (lineCount p) 0 (z .levels),
-        sum-ext (λ i. columnsTo b z s t (counted i) (k + 1)) (λ i. columnsTo b z s t (counted i) k + lineCount p i) (z .levels) (λ i h. column-more (counted i)),
-        sum-le (λ i. columnsTo b z s t (counted i) (k + 1)) (levelCounts b s t) 0 (z .levels) (λ i x y. omega (arith, columns-part (counted i) (k + 1) (omega arith), counts-is s t i)),
+        sum-ext (λ i. columnsTo b z s t (counted i) (k + 1)) (λ i. columnsTo b z s t (counted i) k + lineCount p i) (z .levels)
+            (λ i h. column-more (counted i)),
+        sum-le (λ i. columnsTo b z s t (counted i) (k + 1)) (levelCounts b s t) 0 (z .levels)
+            (λ i x y. omega (arith, columns-part (counted i) (k + 1) (omega arith), counts-is s t i)),
         counts-total hs ht,
       )
 
@@ -165,7 +186,8 @@ module _ {b : List ℕ} {z : Plan} (pl : Planned b z) where
         chain = c;
         ready = record {
           space =
-              let q : sumBelow (λ i. columnsTo b z s t (counted i) k) (sizeOf z .levels) ≡ sumBelow (λ i. columnsTo b z s t (counted i) k) (z .levels) = ap (sumBelow (λ i. columnsTo b z s t (counted i) k)) (levels-is pl) in
+              let q : sumBelow (λ i. columnsTo b z s t (counted i) k) (sizeOf z .levels) ≡ sumBelow (λ i. columnsTo b z s t (counted i) k)
+              (z .levels) = ap (sumBelow (λ i. columnsTo b z s t (counted i) k)) (levels-is pl) in
               omega (arith, q, columns-few, cap-is pl);
           fits = λ i. omega (arith, columns-part (guided i) k (omega arith), guides-is s t i, guides-high hs ht i);
         };
@@ -177,10 +199,12 @@ module _ {b : List ℕ} {z : Plan} (pl : Planned b z) where
 
       pub columns-inserted : {free′ : FreeList} {m′ : List ℕ} → MergedLine true p free m free′ m′ → ColumnsListed b z s t (k + 1) free′ m′
       unfolding columns-insertable
-      columns-inserted {free′} {m′} i = list-ext (sizeOf z) _ _ _ _ free′ m′ (i .chain columns-insertable) (λ j. column-more (counted j)) (λ j. column-more (guided j))
+      columns-inserted {free′} {m′} i =
+          list-ext (sizeOf z) _ _ _ _ free′ m′ (i .chain columns-insertable) (λ j. column-more (counted j)) (λ j. column-more (guided j))
 
   -- ---- to a neighbour: e and l are the lists of the entering and the leaving line
-  module _ {s t s′ t′ : ℕ} (adj : Adjacent z s t s′ t′) {d : Step} (ed : d ≡ stepOf z s t s′ t′) {e l : List ℕ} (re : LinePixels b z (d .entering) e) (rl : LinePixels b z (d .leaving) l)
+  module _ {s t s′ t′ : ℕ} (adj : Adjacent z s t s′ t′) {d : Step} (ed : d ≡ stepOf z s t s′ t′) {e l : List ℕ} (re : LinePixels b z (d .entering) e)
+      (rl : LinePixels b z (d .leaving) l)
       {free : FreeList} {m : List ℕ} (c : Listed b z s t free m) where
     moved : (h : ℕ → ℕ → ℕ) → window pl h s′ t′ + pixelFold _+_ 0 l h ≡ window pl h s t + pixelFold _+_ 0 e h
     moved h = stepped (λ (g : ℕ → ℕ → ℕ). g) pl adj ed re rl h
@@ -212,7 +236,17 @@ module _ {b : List ℕ} {z : Plan} (pl : Planned b z) where
     -- no pixel of a level, no guide: the line has its part of what the level lacks of 255 a pixel
     stay-none : (i : ℕ) → stayCounts i ≡ 0 → stayGuides i ≡ 0
     stay-none i o =
-        omega (arith, counts-out i, guides-out i, counts-is s t i, guides-is s t i, part (lacking i), window-mixed pl s t i, line-mixed (line-below (rl .below)) i)
+        omega (
+          arith,
+          counts-out i,
+          guides-out i,
+          counts-is s t i,
+          guides-is s t i,
+          part (lacking i),
+          window-mixed pl s t i,
+          line-mixed
+              (line-below (rl .below)) i,
+        )
 
     stay-total : sumBelow stayCounts (z .levels) + countOf e ≤ nodesOf z
     stay-total =
@@ -247,4 +281,5 @@ module _ {b : List ℕ} {z : Plan} (pl : Planned b z) where
     pub slid-stored : {free′ : FreeList} {m′ : List ℕ} → length m′ ≡ length m → Slid e l free m free′ m′ → Stored b z s′ t′ m free′ m′
     unfolding slides
     slid-stored {free′} {m′} n r =
-        listed-stored m free′ m′ n (subst (λ (k : ℕ). Beyond k m m′) (cap-is pl) (r .beyond slides)) (list-ext (sizeOf z) _ _ _ _ free′ m′ (r .chain slides) counts-in guides-in)
+        listed-stored m free′ m′ n (subst (λ (k : ℕ). Beyond k m m′) (cap-is pl) (r .beyond slides))
+        (list-ext (sizeOf z) _ _ _ _ free′ m′ (r .chain slides) counts-in guides-in)

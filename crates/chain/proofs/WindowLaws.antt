@@ -49,11 +49,13 @@ module _ {b : List ℕ} {z : Plan} (pl : Planned b z) where
 
   -- ---- a column, a row of the window is a part of it
   module _ (h : ℕ → ℕ → ℕ) where
-    column-part : (s t x : ℕ) → s - z .radius ≤ x → x < s - z .radius + span (z .radius) s (z .width) → lineFold _+_ 0 b (columnLine z x t) h ≤ window h s t
+    column-part : (s t x : ℕ) → s - z .radius ≤ x → x < s - z .radius + span (z .radius) s (z .width) →
+        lineFold _+_ 0 b (columnLine z x t) h ≤ window h s t
     column-part s t x l k = rw (columns-law _+_ 0 pl h s t) (sum-term (λ x. lineFold _+_ 0 b (columnLine z x t) h) _ _ x l k)
 
     rows-over : (s t : ℕ) → window h s t
-        ≡ sum (inRow _+_ 0 (frameOf b) s (λ x y. h (level (frameOf b) x y) (guide (frameOf b) x y))) (t - frameOf b .set .radius) (span (frameOf b .set .radius) t (frameOf b .set .height))
+        ≡ sum (inRow _+_ 0 (frameOf b) s (λ x y. h (level (frameOf b) x y) (guide (frameOf b) x y))) (t - frameOf b .set .radius)
+        (span (frameOf b .set .radius) t (frameOf b .set .height))
     unfolding over foldRect inRow
     rows-over s t = foldRect-turn _+_ 0 natSums (λ x y. h (level (frameOf b) x y) (guide (frameOf b) x y)) _ _ _ _
 
@@ -61,10 +63,13 @@ module _ {b : List ℕ} {z : Plan} (pl : Planned b z) where
     rows-law s t =
         let f = facts pl in
         rows-over s t
-        ∙ sym (ap₂ (λ (r n : ℕ). sum (inRow _+_ 0 (frameOf b) s (λ x y. h (level (frameOf b) x y) (guide (frameOf b) x y))) (t - r) (span r t n)) (f .radius) (f .height))
+        ∙ sym
+        (ap₂ (λ (r n : ℕ). sum (inRow _+_ 0 (frameOf b) s (λ x y. h (level (frameOf b) x y) (guide (frameOf b) x y))) (t - r) (span r t n))
+        (f .radius) (f .height))
         ∙ ap (λ (q : ℕ → ℕ). sum q (t - z .radius) (span (z .radius) t (z .height))) (fun-ext (λ y. sym (row-fold _+_ 0 pl h s y)))
 
-    row-part : (s t y : ℕ) → t - z .radius ≤ y → y < t - z .radius + span (z .radius) t (z .height) → lineFold _+_ 0 b (rowLine z s y) h ≤ window h s t
+    row-part : (s t y : ℕ) → t - z .radius ≤ y → y < t - z .radius + span (z .radius) t (z .height) →
+        lineFold _+_ 0 b (rowLine z s y) h ≤ window h s t
     row-part s t y l k = rw (rows-law s t) (sum-term (λ y. lineFold _+_ 0 b (rowLine z s y) h) _ _ y l k)
 
     -- a line shifted from the first column, from the first row; where it is off the picture, it has no pixel
@@ -88,10 +93,17 @@ module _ {b : List ℕ} {z : Plan} (pl : Planned b z) where
     pub leaving-part : {s t s′ t′ : ℕ} → Adjacent z s t s′ t′ → lineFold _+_ 0 b (stepOf z s t s′ t′ .leaving) h ≤ window h s t
     unfolding columnStep rowStep advance reverse span
     leaving-part {s} {t} {s′} {t′} (right es et hs ht) = rw (is-right z s t s′ t′ (omega arith)) (
-        shifted-part _ _ _ (leb (z .radius) s) (λ e. rw (shifted-column t (s - z .radius)) (column-part s t (s - z .radius) (omega arith) (let k = leb-true (z .radius) s e in omega arith))))
+        shifted-part _ _ _ (leb (z .radius) s)
+        (λ e. rw (shifted-column t (s - z .radius))
+        (column-part s t (s - z .radius) (omega arith) (let k = leb-true (z .radius) s e in omega arith))))
     leaving-part {s} {t} {s′} {t′} (left es et hs ht) = rw (is-left z s t s′ t′ (omega arith)) (
-        shifted-part _ _ _ (ltb (s′ + z .radius + 1) (z .width)) (λ e. rw (shifted-column t (s′ + z .radius + 1)) (column-part s t (s′ + z .radius + 1) (omega arith) (let k = ltb-true (s′ + z .radius + 1) (z .width) e in omega arith))))
+        shifted-part _ _ _ (ltb (s′ + z .radius + 1) (z .width))
+        (λ e. rw (shifted-column t (s′ + z .radius + 1))
+        (column-part s t (s′ + z .radius + 1) (omega arith) (let k = ltb-true (s′ + z .radius + 1) (z .width) e in omega arith))))
     leaving-part {s} {t} {s′} {t′} (down es et hs ht) = rw (is-down z s t s′ t′ (omega arith) (omega arith) (omega arith)) (
-        shifted-part _ _ _ (leb (z .radius) t) (λ e. rw (shifted-row s (t - z .radius)) (row-part s t (t - z .radius) (omega arith) (let k = leb-true (z .radius) t e in omega arith))))
+        shifted-part _ _ _ (leb (z .radius) t)
+        (λ e. rw (shifted-row s (t - z .radius)) (row-part s t (t - z .radius) (omega arith) (let k = leb-true (z .radius) t e in omega arith))))
     leaving-part {s} {t} {s′} {t′} (up es et hs ht) = rw (is-up z s t s′ t′ (omega arith) (omega arith) (omega arith)) (
-        shifted-part _ _ _ (ltb (t′ + z .radius + 1) (z .height)) (λ e. rw (shifted-row s (t′ + z .radius + 1)) (row-part s t (t′ + z .radius + 1) (omega arith) (let k = ltb-true (t′ + z .radius + 1) (z .height) e in omega arith))))
+        shifted-part _ _ _ (ltb (t′ + z .radius + 1) (z .height))
+        (λ e. rw (shifted-row s (t′ + z .radius + 1))
+        (row-part s t (t′ + z .radius + 1) (omega arith) (let k = ltb-true (t′ + z .radius + 1) (z .height) e in omega arith))))

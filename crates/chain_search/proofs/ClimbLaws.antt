@@ -100,7 +100,11 @@ module _ (l : ℕ) (m : List ℕ) (w : Coefficients) (a : Climbs l w m) where
     -- some level reaches it, so the list does not end before one that does
     pub climb-goes : 0 < cur
     climb-goes =
-        ⊎-elim (λ e. absurd (true≢false (sym (first-is (reachesAt (a .cnt) (a .sm) w) l .passes (a .some)) ∙ before (first (reachesAt (a .cnt) (a .sm) w) l) (λ p. absurd (omega arith)))))
+        ⊎-elim
+        (λ e. absurd
+        (true≢false
+        (sym (first-is (reachesAt (a .cnt) (a .sm) w) l .passes (a .some)) ∙ before (first (reachesAt (a .cnt) (a .sm) w) l)
+        (λ p. absurd (omega arith)))))
         (λ p. p) (zero-or-pos cur)
 
     pub cur-in : 4 * cur < length m
@@ -114,7 +118,8 @@ module _ (l : ℕ) (m : List ℕ) (w : Coefficients) (a : Climbs l w m) where
       cur-level = a .chain .below (levelIn m cur) (omega (arith, a .chain .counts cur used, used .some))
 
       count-next : count + countIn m cur ≡ sumBelow (a .cnt) (suc (levelIn m cur))
-      count-next = omega (arith, flat (levelIn m cur) (goes .from p) (λ w. omega arith) .0, a .chain .counts cur used, sum-suc (a .cnt) (levelIn m cur))
+      count-next =
+          omega (arith, flat (levelIn m cur) (goes .from p) (λ w. omega arith) .0, a .chain .counts cur used, sum-suc (a .cnt) (levelIn m cur))
 
       sum-next : sum + guidesIn m cur ≡ sumBelow (a .sm) (suc (levelIn m cur))
       sum-next = omega (arith, flat (levelIn m cur) (goes .from p) (λ w. omega arith) .1, a .chain .sums cur used, sum-suc (a .sm) (levelIn m cur))
@@ -137,7 +142,8 @@ module _ (l : ℕ) (m : List ℕ) (w : Coefficients) (a : Climbs l w m) where
       above : floor m cur ≡ suc (levelIn m cur)
       above = floor-pos m cur p
 
-      pub climb-next : reachesHalf w (count + countIn m cur) (sum + guidesIn m cur) ≡ false → Climbing l m w a (count + countIn m cur) (sum + guidesIn m cur) (nextIn m cur)
+      pub climb-next : reachesHalf w (count + countIn m cur) (sum + guidesIn m cur) ≡ false →
+          Climbing l m w a (count + countIn m cur) (sum + guidesIn m cur) (nextIn m cur)
       climb-next e = record {
         y = cur;
         live = λ q. used;
@@ -159,7 +165,8 @@ module _ (l : ℕ) (m : List ℕ) (w : Coefficients) (a : Climbs l w m) where
           (zero-or-pos (nextIn m cur))
 
   -- the last node: none before it reaches it, so it does
-  pub climb-last : (count sum cur : ℕ) → Climbing l m w a count sum cur → 0 < cur → nextIn m cur ≡ 0 → levelIn m cur ≡ first (reachesAt (a .cnt) (a .sm) w) l
+  pub climb-last : (count sum cur : ℕ) → Climbing l m w a count sum cur → 0 < cur → nextIn m cur ≡ 0 →
+      levelIn m cur ≡ first (reachesAt (a .cnt) (a .sm) w) l
   climb-last count sum cur s p z = go (reachesHalf w (count + countIn m cur) (sum + guidesIn m cur)) refl
     where
       go : (b : Bool) → reachesHalf w (count + countIn m cur) (sum + guidesIn m cur) ≡ b → levelIn m cur ≡ first (reachesAt (a .cnt) (a .sm) w) l
@@ -253,4 +260,9 @@ module _ (p : Frame) (s t : ℕ) (two : p .set .kind ≡ 2) where
   climb-median w v =
       let m = median-first p s t in
       first-unique (reachesAt cnt sm w) (p .set .levels) (median p s t)
-      (record { within = m .within; passes = λ h. sym (same-test w v (median p s t)) ∙ m .passes h; before = λ j h. sym (same-test w v j) ∙ m .before j h })
+      (record {
+        within = m .within;
+        passes = λ h. sym (same-test w v (median p s t)) ∙ m .passes h;
+        before =
+            λ j h. sym (same-test w v j) ∙ m .before j h;
+      })

@@ -50,7 +50,8 @@ module _ {b : List ℕ} {z : Plan} (pl : Planned b z) where
       total-pos k w = subst (λ (n : ℤ). pos 0 <ℤ n) (sym (w .total)) (guided-full (pixel-of pl hs ht) kind-is .0)
 
       -- where the climb ends is the median
-      climb-is : (k : Coefficients) → WeighsAt (frameOf b) s t k → first (reachesAt (levelCounts b s t) (levelGuides b s t) k) (z .levels) ≡ median (frameOf b) s t
+      climb-is : (k : Coefficients) → WeighsAt (frameOf b) s t k →
+          first (reachesAt (levelCounts b s t) (levelGuides b s t) k) (z .levels) ≡ median (frameOf b) s t
       climb-is k w = ap (first (reachesAt (levelCounts b s t) (levelGuides b s t) k)) (facts pl .levels) ∙ climb-median (frameOf b) s t kind-is k w
 
       -- the window's list is one to climb along
@@ -67,10 +68,12 @@ module _ {b : List ℕ} {z : Plan} (pl : Planned b z) where
             free = free .count;
             chain = c;
             few =
-                let e : sumBelow (levelCounts b s t) (z .levels) ≡ sumBelow (levelCounts b s t) (frameOf b .set .levels) = ap (sumBelow (levelCounts b s t)) (f .levels) in
+                let e : sumBelow (levelCounts b s t) (z .levels) ≡ sumBelow (levelCounts b s t) (frameOf b .set .levels) =
+                ap (sumBelow (levelCounts b s t)) (f .levels) in
                 omega (arith, e, level-total q (λ x y. 1), pixelCount-high q);
             light =
-                let e : sumBelow (levelGuides b s t) (z .levels) ≡ sumBelow (levelGuides b s t) (frameOf b .set .levels) = ap (sumBelow (levelGuides b s t)) (f .levels) in
+                let e : sumBelow (levelGuides b s t) (z .levels) ≡ sumBelow (levelGuides b s t) (frameOf b .set .levels) =
+                ap (sumBelow (levelGuides b s t)) (f .levels) in
                 omega (arith, e, level-total q (guide (frameOf b)), guideSum-high q);
             some = omega (arith, climb-is k w, median-low q, f .levels);
           }
@@ -82,7 +85,15 @@ module _ {b : List ℕ} {z : Plan} (pl : Planned b z) where
 
       -- no window of kind 2 is weightless
       arrive-is : (c n : ℕ) → arrive (frameOf b) s t c n
-          ≡ record { column = s; row = t; cut = median (frameOf b) s t; shifts = n + (if monotone (frameOf b) s t then distance (median (frameOf b) s t) c else median (frameOf b) s t); answer = median (frameOf b) s t }
+          ≡ record {
+            column = s;
+            row = t;
+            cut = median (frameOf b) s t;
+            shifts =
+                n + (if monotone (frameOf b) s t then distance (median (frameOf b) s t) c else median (frameOf b) s t);
+            answer =
+                median (frameOf b) s t;
+          }
       unfolding arrive
       arrive-is c n = rw (guided-full (pixel-of pl hs ht) kind-is .1) refl
 
@@ -91,15 +102,21 @@ module _ {b : List ℕ} {z : Plan} (pl : Planned b z) where
           → stateOf (answered s t r (n + more) g) ≡ arrive (frameOf b) s t c n
       answers c n r more q g er eq em =
           state-is (frameOf b) s t c n r (n + more) r g (er ∙ sym (ap (λ (x : State). x .cut) (arrive-is c n)))
-          (ap (λ (x : ℕ). n + x) (em ∙ ap₂ (λ (y : Bool) (x : ℕ). if y then distance x c else x) eq er) ∙ sym (ap (λ (x : State). x .shifts) (arrive-is c n)))
+          (ap (λ (x : ℕ). n + x) (em ∙ ap₂ (λ (y : Bool) (x : ℕ). if y then distance x c else x) eq er) ∙ sym
+          (ap (λ (x : State). x .shifts) (arrive-is c n)))
           (er ∙ sym (ap (λ (x : State). x .answer) (arrive-is c n)))
 
 -- the visit's window is the one that it came to, and what ran along was handed in
-pub chain-visited : (b : List ℕ) (z : Plan) (s t c n : ℕ) (v : Visit) (g : Running) (m m′ : List ℕ) → stateOf v ≡ arrive (frameOf b) s t c n → v .running ≡ g
+pub chain-visited : (b : List ℕ) (z : Plan) (s t c n : ℕ) (v : Visit) (g : Running) (m m′ : List ℕ) → stateOf v ≡ arrive (frameOf b) s t c n →
+    v .running ≡ g
     → SumsAt (frameOf b) s t (g .sums) → Stored b z s t m (g .free) m′ → ChainVisited b z (arrive (frameOf b) s t c n) m v m′
 chain-visited b z s t c n v g m m′ e same sums stored =
     record {
       state = e;
-      sums = at-visit (frameOf b) s t c n (λ x y. SumsAt (frameOf b) x y (v .running .sums)) v e (subst (λ (q : Running). SumsAt (frameOf b) s t (q .sums)) (sym same) sums);
-      stored = at-visit (frameOf b) s t c n (λ x y. Stored b z x y m (v .running .free) m′) v e (subst (λ (q : Running). Stored b z s t m (q .free) m′) (sym same) stored);
+      sums =
+          at-visit (frameOf b) s t c n (λ x y. SumsAt (frameOf b) x y (v .running .sums)) v e
+          (subst (λ (q : Running). SumsAt (frameOf b) s t (q .sums)) (sym same) sums);
+      stored =
+          at-visit (frameOf b) s t c n (λ x y. Stored b z x y m (v .running .free) m′) v e
+          (subst (λ (q : Running). Stored b z s t m (q .free) m′) (sym same) stored);
     }

@@ -18,7 +18,8 @@ pub known : {flag test : Bool} {b : Bool} → flag ≡ test → flag ≡ b → t
 known e q = sym e ∙ q
 
 -- what `way_of`, `needed` and `lacking` said together
-pub short-is : (n : ℕ) (k : Settings) (y : Way) (need have : Room) {flag b : Bool} → y ≡ wayOf n → need ≡ roomOf y k → flag ≡ lacks need have → flag ≡ b
+pub short-is : (n : ℕ) (k : Settings) (y : Way) (need have : Room) {flag b : Bool} → y ≡ wayOf n → need ≡ roomOf y k → flag ≡ lacks need have →
+    flag ≡ b
     → lacks (roomOf (wayOf n) k) have ≡ b
 short-is n k y need have ey en ef q = rw (← ey, ← en) (sym ef ∙ q)
 

@@ -24,7 +24,8 @@ pub put-none : (add : Bool) (l : ℕ) (xs : List ℕ) → Put add l (λ m i. 0) 
 put-none true l xs = record { len = refl; cells = λ m i h. refl }
 put-none false l xs = record { len = refl; cells = λ m i h. refl }
 
-pub put-both : (add : Bool) {l : ℕ} (D E : ℕ → ℕ → ℕ) {xs ys zs : List ℕ} → Put add l D xs ys → Put add l E ys zs → Put add l (λ m i. D m i + E m i) xs zs
+pub put-both : (add : Bool) {l : ℕ} (D E : ℕ → ℕ → ℕ) {xs ys zs : List ℕ} → Put add l D xs ys → Put add l E ys zs →
+    Put add l (λ m i. D m i + E m i) xs zs
 put-both true {l} D E p q = record { len = q .len ∙ p .len; cells = λ m i h. omega (arith, p .cells m i h, q .cells m i h) }
 put-both false {l} D E p q = record { len = q .len ∙ p .len; cells = λ m i h. omega (arith, p .cells m i h, q .cells m i h) }
 
@@ -116,7 +117,8 @@ pub pile-able : {add : Bool} {l : ℕ} {P : ℕ → ℕ → ℕ → ℕ} {a n : 
     → Able add l (λ m i. sum (λ v. P v m i) a n) xs → Able add l (P (a + k)) ys
 pile-able {add} {l} {P} {a} {n} {xs} {ys} {k} v h able =
     able-then add (λ m i. sum (λ v. P v m i) a k) (P (a + k))
-    (able-less add (λ m i _. let q = fold-more _+_ 0 (λ v. P v m i) a k in let r = sum-part (λ v. P v m i) a (k + 1) n (omega arith) in omega arith) able)
+    (able-less add (λ m i _. let q = fold-more _+_ 0 (λ v. P v m i) a k in let r = sum-part (λ v. P v m i) a (k + 1) n (omega arith) in omega arith)
+    able)
     (v .put)
 
 pub pile-end : {add : Bool} {l : ℕ} {P : ℕ → ℕ → ℕ → ℕ} {a n : ℕ} {xs ys : List ℕ} {k : ℕ} → Piled add l P a n xs ys k → n ≤ k
@@ -136,12 +138,14 @@ module _ (p : Frame) (x y : ℕ) where
   unfolding pixelD
   able-first add a b k = able-less add (λ m i h. omega arith) k
 
-  pub able-second : (add : Bool) (a b : ℕ) {l : ℕ} {xs ys : List ℕ} → Able add l (pixelD p a b x y) xs → Put add l (block a (hit p (λ u v. 1) x y)) xs ys
+  pub able-second : (add : Bool) (a b : ℕ) {l : ℕ} {xs ys : List ℕ} → Able add l (pixelD p a b x y) xs →
+      Put add l (block a (hit p (λ u v. 1) x y)) xs ys
       → Able add l (block b (hit p (guide p) x y)) ys
   unfolding pixelD
   able-second add a b k q = able-then add (block a (hit p (λ u v. 1) x y)) (block b (hit p (guide p) x y)) k q
 
-  pub put-pixel : (add : Bool) (a b : ℕ) {l : ℕ} {xs ys zs : List ℕ} → Put add l (block a (hit p (λ u v. 1) x y)) xs ys → Put add l (block b (hit p (guide p) x y)) ys zs
+  pub put-pixel : (add : Bool) (a b : ℕ) {l : ℕ} {xs ys zs : List ℕ} → Put add l (block a (hit p (λ u v. 1) x y)) xs ys →
+      Put add l (block b (hit p (guide p) x y)) ys zs
       → Put add l (pixelD p a b x y) xs zs
   unfolding pixelD
   put-pixel add a b q r = put-both add (block a (hit p (λ u v. 1) x y)) (block b (hit p (guide p) x y)) q r
@@ -149,7 +153,8 @@ module _ (p : Frame) (x y : ℕ) where
   full : (f : ℕ → ℕ → ℕ) (a i : ℕ) → i ≡ level p x y → block a (hit p f x y) a i ≡ f x y
   full f a i e = rw (eq-eqb a a refl, eq-eqb (level p x y) i (sym e)) refl
 
-  pub asks : (f : ℕ → ℕ → ℕ) (add : Bool) (a i v : ℕ) {l : ℕ} {xs : List ℕ} → i ≡ level p x y → v ≡ f x y → i < l → Able add l (block a (hit p f x y)) xs
+  pub asks : (f : ℕ → ℕ → ℕ) (add : Bool) (a i v : ℕ) {l : ℕ} {xs : List ℕ} → i ≡ level p x y → v ≡ f x y → i < l →
+      Able add l (block a (hit p f x y)) xs
       → (add ≡ true → getD xs (a * l + i) 0 + v < 4294967296) × (add ≡ false → v ≤ getD xs (a * l + i) 0)
   asks f add a i v e d h k = (
     (λ t. let q = full f a i e in let r = k .room t a i h in omega arith),
@@ -161,15 +166,18 @@ module _ (p : Frame) (x y : ℕ) where
       → Put add l (block a (hit p f x y)) xs ys
   changed f add a i v {l} {xs} {ys} e d h s k q =
       put-same add (λ m j _. ap₂ (λ (c n : ℕ). if eqb m a then (if eqb c j then n else 0) else 0) e d)
-      (subst (λ (ys : List ℕ). Put add l (block a (λ j. if eqb i j then v else 0)) xs ys) (sym q) (put-one add l a i v xs h s (asks f add a i v e d h k .1)))
+      (subst (λ (ys : List ℕ). Put add l (block a (λ j. if eqb i j then v else 0)) xs ys) (sym q)
+      (put-one add l a i v xs h s (asks f add a i v e d h k .1)))
 
 -- ---- a strip, and a row of two strips
 module _ (p : Frame) (add : Bool) (y a b apart first n : ℕ) {l : ℕ} {xs : List ℕ} where
-  pub strip-able : Able add l (stripD p y a b apart first n) xs → Able add l (λ m i. sum (λ x. pixelD p (a + x * apart) (b + x * apart) x y m i) first n) xs
+  pub strip-able : Able add l (stripD p y a b apart first n) xs →
+      Able add l (λ m i. sum (λ x. pixelD p (a + x * apart) (b + x * apart) x y m i) first n) xs
   unfolding stripD
   strip-able k = k
 
-  pub strip-put : {ys : List ℕ} → Put add l (λ m i. sum (λ x. pixelD p (a + x * apart) (b + x * apart) x y m i) first n) xs ys → Put add l (stripD p y a b apart first n) xs ys
+  pub strip-put : {ys : List ℕ} → Put add l (λ m i. sum (λ x. pixelD p (a + x * apart) (b + x * apart) x y m i) first n) xs ys →
+      Put add l (stripD p y a b apart first n) xs ys
   unfolding stripD
   strip-put k = k
 
@@ -178,21 +186,25 @@ pub strips-in : (w x : ℕ) → x < w
     → ((0 + x * 1 < 2 * w + 2) × (w + x * 1 < 2 * w + 2)) × ((2 * w + x * 0 < 2 * w + 2) × (2 * w + 1 + x * 0 < 2 * w + 2))
 strips-in w x h = ((omega (arith, mul-one x), omega (arith, mul-one x)), (omega arith, omega arith))
 
-module _ (p : Frame) (add : Bool) (w s left n y : ℕ) (ew : w ≡ p .set .width) (el : left ≡ s - p .set .radius) (en : n ≡ span (p .set .radius) s (p .set .width)) where
+module _ (p : Frame) (add : Bool) (w s left n y : ℕ) (ew : w ≡ p .set .width) (el : left ≡ s - p .set .radius)
+    (en : n ≡ span (p .set .radius) s (p .set .width)) where
   row-is : (m i : ℕ) → stripD p y 0 w 1 0 w m i + stripD p y (2 * w) (2 * w + 1) 0 left n m i ≡ rowD p s y m i
   unfolding rowD
   row-is m i = rw (el, en, ew) refl
 
-  both-able : {l : ℕ} {xs : List ℕ} → Able add l (rowD p s y) xs → Able add l (λ m i. stripD p y 0 w 1 0 w m i + stripD p y (2 * w) (2 * w + 1) 0 left n m i) xs
+  both-able : {l : ℕ} {xs : List ℕ} → Able add l (rowD p s y) xs →
+      Able add l (λ m i. stripD p y 0 w 1 0 w m i + stripD p y (2 * w) (2 * w + 1) 0 left n m i) xs
   both-able k = able-less add (λ m i h. le-of-eq (row-is m i)) k
 
   pub row-first : {l : ℕ} {xs : List ℕ} → Able add l (rowD p s y) xs → Able add l (stripD p y 0 w 1 0 w) xs
   row-first k = able-less add (λ m i h. omega arith) (both-able k)
 
-  pub row-second : {l : ℕ} {xs ys : List ℕ} → Able add l (rowD p s y) xs → Put add l (stripD p y 0 w 1 0 w) xs ys → Able add l (stripD p y (2 * w) (2 * w + 1) 0 left n) ys
+  pub row-second : {l : ℕ} {xs ys : List ℕ} → Able add l (rowD p s y) xs → Put add l (stripD p y 0 w 1 0 w) xs ys →
+      Able add l (stripD p y (2 * w) (2 * w + 1) 0 left n) ys
   row-second k q = able-then add (stripD p y 0 w 1 0 w) (stripD p y (2 * w) (2 * w + 1) 0 left n) (both-able k) q
 
-  pub row-put : {l : ℕ} {xs ys zs : List ℕ} → Put add l (stripD p y 0 w 1 0 w) xs ys → Put add l (stripD p y (2 * w) (2 * w + 1) 0 left n) ys zs → Put add l (rowD p s y) xs zs
+  pub row-put : {l : ℕ} {xs ys zs : List ℕ} → Put add l (stripD p y 0 w 1 0 w) xs ys → Put add l (stripD p y (2 * w) (2 * w + 1) 0 left n) ys zs →
+      Put add l (rowD p s y) xs zs
   row-put q u = put-same add (λ m i h. row-is m i) (put-both add (stripD p y 0 w 1 0 w) (stripD p y (2 * w) (2 * w + 1) 0 left n) q u)
 
 -- ---- clearing
@@ -201,7 +213,12 @@ clear-none xs = record { len = refl; zeros = λ j h. absurd (omega arith); rest 
 
 pub clear-more : (j : ℕ) {xs ys : List ℕ} → Cleared j xs ys → j < length ys → Cleared (j + 1) xs (set ys j 0)
 clear-more j {xs} {ys} c h =
-    record { len = length-set ys j 0 ∙ c .len; zeros = λ k l. go k l (ℕ-discrete k j); rest = λ k l. getD-set-other ys j k 0 0 (λ e. omega arith) ∙ c .rest k (omega arith) }
+    record {
+      len = length-set ys j 0 ∙ c .len;
+      zeros = λ k l. go k l (ℕ-discrete k j);
+      rest =
+          λ k l. getD-set-other ys j k 0 0 (λ e. omega arith) ∙ c .rest k (omega arith);
+    }
   where
     go : (k : ℕ) → k < j + 1 → Dec (k ≡ j) → getD (set ys j 0) k 0 ≡ 0
     go k l (yes e) = rw e (getD-set-same ys j 0 0 h)

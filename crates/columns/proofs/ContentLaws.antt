@@ -55,10 +55,12 @@ module _ (p : Frame) (y i : ℕ) where
   pixel-none a b x m n k = pixel-first a b x m k ∙ rw (ne-eqb m a n) refl
 
   -- no block of the strip is m
-  strip-none : (a b apart first n m : ℕ) → ((x : ℕ) → x < first + n → m ≡ a + x * apart → ⊥) → ((x : ℕ) → x < first + n → m ≡ b + x * apart → ⊥) → stripD p y a b apart first n m i ≡ 0
+  strip-none : (a b apart first n m : ℕ) → ((x : ℕ) → x < first + n → m ≡ a + x * apart → ⊥) → ((x : ℕ) → x < first + n → m ≡ b + x * apart → ⊥) →
+      stripD p y a b apart first n m i ≡ 0
   unfolding stripD
   strip-none a b apart first n m c d =
-      fold-same _+_ 0 natSums _ (λ x. 0) first n (λ x u v. pixel-none (a + x * apart) (b + x * apart) x m (c x v) (d x v)) ∙ fold-none _+_ 0 natSums first n
+      fold-same _+_ 0 natSums _ (λ x. 0) first n (λ x u v. pixel-none (a + x * apart) (b + x * apart) x m (c x v) (d x v)) ∙ fold-none _+_ 0 natSums
+      first n
 
   -- the columns' strip: one pixel for each block
   own-block : (w x₀ x : ℕ) → eqb (w + x₀) (w + x * 1) ≡ eqb x₀ x
@@ -72,7 +74,8 @@ module _ (p : Frame) (y i : ℕ) where
   unfolding stripD
   columns-count w x₀ h =
       fold-same _+_ 0 natSums _ (λ x. if eqb x₀ x then hit p (λ u v. 1) x y i else 0) 0 w
-      (λ x a b. pixel-first (0 + x * 1) (w + x * 1) x x₀ (λ e. omega arith) ∙ ap (λ (q : Bool). if q then hit p (λ u v. 1) x y i else 0) (ap (λ (n : ℕ). eqb n (0 + x * 1)) (sym (zero-add x₀)) ∙ own-block 0 x₀ x))
+      (λ x a b. pixel-first (0 + x * 1) (w + x * 1) x x₀ (λ e. omega arith) ∙ ap (λ (q : Bool). if q then hit p (λ u v. 1) x y i else 0)
+      (ap (λ (n : ℕ). eqb n (0 + x * 1)) (sym (zero-add x₀)) ∙ own-block 0 x₀ x))
       ∙ fold-pick _+_ 0 natSums (λ x. hit p (λ u v. 1) x y i) x₀ w h
 
   columns-guide : (w x₀ : ℕ) → x₀ < w → stripD p y 0 w 1 0 w (w + x₀) i ≡ hit p (guide p) x₀ y i
@@ -99,7 +102,8 @@ module _ (p : Frame) (y i : ℕ) where
   unfolding stripD
   window-guide w first n =
       fold-same _+_ 0 natSums _ _ first n
-      (λ x u v. pixel-second (2 * w + x * 0) (2 * w + 1 + x * 0) x (2 * w + 1) (λ d. omega arith) ∙ rw (eq-eqb (2 * w + 1) (2 * w + 1 + x * 0) (omega arith)) refl)
+      (λ x u v. pixel-second (2 * w + x * 0) (2 * w + 1 + x * 0) x (2 * w + 1) (λ d. omega arith) ∙ rw
+      (eq-eqb (2 * w + 1) (2 * w + 1 + x * 0) (omega arith)) refl)
 
   pub row-count : (s m : ℕ) → m < p .set .width → rowD p s y m i ≡ hit p (λ u v. 1) m y i
   unfolding rowD
@@ -107,7 +111,9 @@ module _ (p : Frame) (y i : ℕ) where
 
   pub row-guide : (s x : ℕ) → x < p .set .width → rowD p s y (p .set .width + x) i ≡ hit p (guide p) x y i
   unfolding rowD
-  row-guide s x h = ap₂ _+_ (columns-guide (p .set .width) x h) (window-none (p .set .width) _ _ (p .set .width + x) (λ d. omega arith) (λ d. omega arith)) ∙ add-zero _
+  row-guide s x h =
+      ap₂ _+_ (columns-guide (p .set .width) x h) (window-none (p .set .width) _ _ (p .set .width + x) (λ d. omega arith) (λ d. omega arith)) ∙
+      add-zero _
 
   pub row-window : (s : ℕ) → rowD p s y (2 * p .set .width) i ≡ inRow _+_ 0 p s (λ u v. hit p (λ a b. 1) u v i) y
   unfolding rowD inRow
@@ -135,13 +141,17 @@ module _ (p : Frame) (s t i : ℕ) where
   unfolding contentD levelSum over inRow foldRect
   content-window =
       fold-same _+_ 0 natSums _ _ _ _ (λ y a b. row-window p y i s)
-      ∙ sym (foldRect-turn _+_ 0 natSums (λ u v. hit p (λ a b. 1) u v i) (s - p .set .radius) (span (p .set .radius) s (p .set .width)) (t - p .set .radius) (span (p .set .radius) t (p .set .height)))
+      ∙ sym
+      (foldRect-turn _+_ 0 natSums (λ u v. hit p (λ a b. 1) u v i) (s - p .set .radius) (span (p .set .radius) s (p .set .width))
+      (t - p .set .radius) (span (p .set .radius) t (p .set .height)))
 
   pub content-window-guide : contentD p s t (2 * p .set .width + 1) i ≡ levelSum p s t (guide p) i
   unfolding contentD levelSum over inRow foldRect
   content-window-guide =
       fold-same _+_ 0 natSums _ _ _ _ (λ y a b. row-window-guide p y i s)
-      ∙ sym (foldRect-turn _+_ 0 natSums (λ u v. hit p (guide p) u v i) (s - p .set .radius) (span (p .set .radius) s (p .set .width)) (t - p .set .radius) (span (p .set .radius) t (p .set .height)))
+      ∙ sym
+      (foldRect-turn _+_ 0 natSums (λ u v. hit p (guide p) u v i) (s - p .set .radius) (span (p .set .radius) s (p .set .width))
+      (t - p .set .radius) (span (p .set .radius) t (p .set .height)))
 
   pub content-beyond : (m : ℕ) → 2 * p .set .width + 2 ≤ m → contentD p s t m i ≡ 0
   unfolding contentD
@@ -166,7 +176,8 @@ module _ (p : Frame) (s t : ℕ) where
   unfolding columnStore
   columns-right = simp append-assoc
 
-  pub column-cell : (m i : ℕ) → m < 2 * p .set .width + 2 → i < p .set .levels → getD (columnStore p s t) (m * p .set .levels + i) 0 ≡ contentD p s t m i
+  pub column-cell : (m i : ℕ) → m < 2 * p .set .width + 2 → i < p .set .levels →
+      getD (columnStore p s t) (m * p .set .levels + i) 0 ≡ contentD p s t m i
   column-cell m i hm hi = ap (λ (q : List ℕ). getD q (m * p .set .levels + i) 0) columns-right ∙ go (which (p .set .width) m)
     where
       f₁ : ℕ → ℕ
@@ -190,37 +201,54 @@ module _ (p : Frame) (s t : ℕ) where
       digits₂ : (x : ℕ) → f₂ (x * (p .set .levels) + i) ≡ columnSum p t (guide p) x i
       digits₂ x = ap₂ (columnSum p t (guide p)) (digits-div x hi) (digits-mod x hi)
 
-      at : (k m₁ : ℕ) → k ≡ m₁ → getD (tabulate (p .set .width * p .set .levels) f₁ ++ rest₁) k 0 ≡ getD (tabulate (p .set .width * p .set .levels) f₁ ++ rest₁) m₁ 0
+      at : (k m₁ : ℕ) → k ≡ m₁ →
+          getD (tabulate (p .set .width * p .set .levels) f₁ ++ rest₁) k 0 ≡ getD (tabulate (p .set .width * p .set .levels) f₁ ++ rest₁) m₁ 0
       at k m₁ e = ap (λ (q : ℕ). getD (tabulate (p .set .width * p .set .levels) f₁ ++ rest₁) q 0) e
 
       go : Which (p .set .width) m → getD (tabulate (p .set .width * p .set .levels) f₁ ++ rest₁) (m * (p .set .levels) + i) 0 ≡ contentD p s t m i
-      go (counts h) = front (p .set .width * p .set .levels) f₁ rest₁ (m * (p .set .levels) + i) (digits-lt h hi) ∙ digits₁ m ∙ sym (content-count p s t i m h)
+      go (counts h) =
+          front (p .set .width * p .set .levels) f₁ rest₁ (m * (p .set .levels) + i) (digits-lt h hi) ∙ digits₁ m ∙ sym (content-count p s t i m h)
       go (guides x h e) =
-          let d : m * (p .set .levels) + i ≡ (p .set .width * p .set .levels) + (x * (p .set .levels) + i) = ap (λ (q : ℕ). q * (p .set .levels) + i) e ∙ ap (λ (q : ℕ). q + i) (add-mul (p .set .width) x (p .set .levels)) ∙ add-assoc (p .set .width * p .set .levels) (x * (p .set .levels)) i in
-          at (m * (p .set .levels) + i) ((p .set .width * p .set .levels) + (x * (p .set .levels) + i)) d ∙ back (p .set .width * p .set .levels) f₁ rest₁ (x * (p .set .levels) + i) ∙ front (p .set .width * p .set .levels) f₂ rest₂ (x * (p .set .levels) + i) (digits-lt h hi) ∙ digits₂ x
+          let d : m * (p .set .levels) + i ≡ (p .set .width * p .set .levels) + (x * (p .set .levels) + i) =
+          ap (λ (q : ℕ). q * (p .set .levels) + i) e ∙ ap (λ (q : ℕ). q + i) (add-mul (p .set .width) x (p .set .levels)) ∙ add-assoc
+          (p .set .width * p .set .levels) (x * (p .set .levels)) i in
+          at (m * (p .set .levels) + i) ((p .set .width * p .set .levels) + (x * (p .set .levels) + i)) d ∙ back (p .set .width * p .set .levels) f₁
+          rest₁ (x * (p .set .levels) + i) ∙ front (p .set .width * p .set .levels) f₂ rest₂ (x * (p .set .levels) + i) (digits-lt h hi) ∙
+          digits₂ x
           ∙ sym (content-guide p s t i x h) ∙ ap (λ (q : ℕ). contentD p s t q i) (sym e)
       go (window e) =
-          let d : m * (p .set .levels) + i ≡ (p .set .width * p .set .levels) + ((p .set .width * p .set .levels) + i) = ap (λ (q : ℕ). q * (p .set .levels) + i) e ∙ ap (λ (q : ℕ). q + i) (mul-assoc 2 (p .set .width) (p .set .levels)) ∙ omega arith in
-          at (m * (p .set .levels) + i) ((p .set .width * p .set .levels) + ((p .set .width * p .set .levels) + i)) d ∙ back (p .set .width * p .set .levels) f₁ rest₁ ((p .set .width * p .set .levels) + i) ∙ back (p .set .width * p .set .levels) f₂ rest₂ i ∙ front (p .set .levels) (levelSum p s t (λ u v. 1)) rest₃ i hi
+          let d : m * (p .set .levels) + i ≡ (p .set .width * p .set .levels) + ((p .set .width * p .set .levels) + i) =
+          ap (λ (q : ℕ). q * (p .set .levels) + i) e ∙ ap (λ (q : ℕ). q + i) (mul-assoc 2 (p .set .width) (p .set .levels)) ∙ omega arith in
+          at (m * (p .set .levels) + i) ((p .set .width * p .set .levels) + ((p .set .width * p .set .levels) + i)) d ∙ back
+          (p .set .width * p .set .levels) f₁ rest₁ ((p .set .width * p .set .levels) + i) ∙ back (p .set .width * p .set .levels) f₂ rest₂ i ∙
+          front (p .set .levels) (levelSum p s t (λ u v. 1)) rest₃ i hi
           ∙ sym (content-window p s t i) ∙ ap (λ (q : ℕ). contentD p s t q i) (sym e)
       go (windowGuides e) =
-          let d₁ : (2 * (p .set .width) + 1) * (p .set .levels) ≡ 2 * (p .set .width * p .set .levels) + (p .set .levels) = add-mul (2 * (p .set .width)) 1 (p .set .levels) ∙ ap₂ _+_ (mul-assoc 2 (p .set .width) (p .set .levels)) (native.Mathlib.Nat.one-mul (p .set .levels)) in
-          let d : m * (p .set .levels) + i ≡ (p .set .width * p .set .levels) + ((p .set .width * p .set .levels) + ((p .set .levels) + i)) = ap (λ (q : ℕ). q * (p .set .levels) + i) e ∙ ap (λ (q : ℕ). q + i) d₁ ∙ omega arith in
-          at (m * (p .set .levels) + i) ((p .set .width * p .set .levels) + ((p .set .width * p .set .levels) + ((p .set .levels) + i))) d ∙ back (p .set .width * p .set .levels) f₁ rest₁ ((p .set .width * p .set .levels) + ((p .set .levels) + i)) ∙ back (p .set .width * p .set .levels) f₂ rest₂ ((p .set .levels) + i) ∙ back (p .set .levels) (levelSum p s t (λ u v. 1)) rest₃ i
+          let d₁ : (2 * (p .set .width) + 1) * (p .set .levels) ≡ 2 * (p .set .width * p .set .levels) + (p .set .levels) =
+          add-mul (2 * (p .set .width)) 1 (p .set .levels) ∙ ap₂ _+_ (mul-assoc 2 (p .set .width) (p .set .levels))
+          (native.Mathlib.Nat.one-mul (p .set .levels)) in
+          let d : m * (p .set .levels) + i ≡ (p .set .width * p .set .levels) + ((p .set .width * p .set .levels) + ((p .set .levels) + i)) =
+          ap (λ (q : ℕ). q * (p .set .levels) + i) e ∙ ap (λ (q : ℕ). q + i) d₁ ∙ omega arith in
+          at (m * (p .set .levels) + i) ((p .set .width * p .set .levels) + ((p .set .width * p .set .levels) + ((p .set .levels) + i))) d ∙ back
+          (p .set .width * p .set .levels) f₁ rest₁ ((p .set .width * p .set .levels) + ((p .set .levels) + i)) ∙ back
+          (p .set .width * p .set .levels) f₂ rest₂ ((p .set .levels) + i) ∙ back (p .set .levels) (levelSum p s t (λ u v. 1)) rest₃ i
           ∙ getD-tabulate (p .set .levels) (levelSum p s t (guide p)) i 0 hi
           ∙ sym (content-window-guide p s t i) ∙ ap (λ (q : ℕ). contentD p s t q i) (sym e)
       go (beyond h) = absurd (omega arith)
 
 -- ---- a store that begins with the columns of a window, and goes on as ys
 module _ (p : Frame) (s t : ℕ) where
-  pub holds-cell : {xs : List ℕ} (ys : List ℕ) → xs ≡ columnStore p s t ++ drop (storeSize p) ys → (m i : ℕ) → m < 2 * p .set .width + 2 → i < p .set .levels
+  pub holds-cell : {xs : List ℕ} (ys : List ℕ) → xs ≡ columnStore p s t ++ drop (storeSize p) ys → (m i : ℕ) → m < 2 * p .set .width + 2 →
+      i < p .set .levels
       → getD xs (m * p .set .levels + i) 0 ≡ contentD p s t m i
   holds-cell ys e m i hm hi =
       ap (λ (q : List ℕ). getD q (m * p .set .levels + i) 0) e
-      ∙ List·getD-append (columnStore p s t) (drop (storeSize p) ys) 0 (m * p .set .levels + i) (rw (length-columns p s t) (in-store (p .set .width) hm hi))
+      ∙ List·getD-append (columnStore p s t) (drop (storeSize p) ys) 0 (m * p .set .levels + i)
+      (rw (length-columns p s t) (in-store (p .set .width) hm hi))
       ∙ column-cell p s t m i hm hi
 
-  pub holds-rest : {xs : List ℕ} (ys : List ℕ) → xs ≡ columnStore p s t ++ drop (storeSize p) ys → (j : ℕ) → storeSize p ≤ j → getD xs j 0 ≡ getD ys j 0
+  pub holds-rest : {xs : List ℕ} (ys : List ℕ) → xs ≡ columnStore p s t ++ drop (storeSize p) ys → (j : ℕ) → storeSize p ≤ j →
+      getD xs j 0 ≡ getD ys j 0
   holds-rest ys e j h =
       let d : j ≡ length (columnStore p s t) + (j - storeSize p) = omega (arith, length-columns p s t) in
       let g : storeSize p + (j - storeSize p) ≡ j = omega arith in
@@ -235,7 +263,8 @@ module _ (p : Frame) (s t : ℕ) where
       omega arith
 
 -- the same numbers, with their own rest
-pub holds-self : (p : Frame) (s t : ℕ) (xs ys : List ℕ) → ys ≡ columnStore p s t ++ drop (storeSize p) xs → ys ≡ columnStore p s t ++ drop (storeSize p) ys
+pub holds-self : (p : Frame) (s t : ℕ) (xs ys : List ℕ) → ys ≡ columnStore p s t ++ drop (storeSize p) xs →
+    ys ≡ columnStore p s t ++ drop (storeSize p) ys
 holds-self p s t xs ys e =
     let d : drop (storeSize p) ys ≡ drop (storeSize p) xs =
     ap (λ (q : List ℕ). drop (storeSize p) q) e ∙ drop-at (columnStore p s t) (drop (storeSize p) xs) (storeSize p) (length-columns p s t) in
@@ -246,13 +275,17 @@ pub make-holds : (p : Frame) (s t : ℕ) (xs ys : List ℕ) → length xs ≡ le
     → ((j : ℕ) → storeSize p ≤ j → getD xs j 0 ≡ getD ys j 0) → xs ≡ columnStore p s t ++ drop (storeSize p) ys
 make-holds p s t xs ys e h low cells rest =
     ext-getD 0 xs (columnStore p s t ++ drop (storeSize p) ys)
-    (let d : length (columnStore p s t ++ drop (storeSize p) ys) ≡ storeSize p + (length ys - storeSize p) = length-append (columnStore p s t) (drop (storeSize p) ys) ∙ ap₂ _+_ (length-columns p s t) (length-drop (storeSize p) ys) in omega arith)
+    (let d : length (columnStore p s t ++ drop (storeSize p) ys) ≡ storeSize p + (length ys - storeSize p) =
+    length-append (columnStore p s t) (drop (storeSize p) ys) ∙ ap₂ _+_ (length-columns p s t) (length-drop (storeSize p) ys) in omega arith)
     (λ j k. go j (decLt j (storeSize p)))
   where
     go : (j : ℕ) → Dec (j < storeSize p) → getD xs j 0 ≡ getD (columnStore p s t ++ drop (storeSize p) ys) j 0
     go j (yes k) =
-        let hm : j / (p .set .levels) < 2 * p .set .width + 2 = div-lt-iff-lt-mul low .1 (subst (λ (n : ℕ). j < n) (sym (store-size (p .set .width) (p .set .levels))) k) in
+        let hm : j / (p .set .levels) < 2 * p .set .width + 2 =
+        div-lt-iff-lt-mul low .1 (subst (λ (n : ℕ). j < n) (sym (store-size (p .set .width) (p .set .levels))) k) in
         let hi : j % (p .set .levels) < (p .set .levels) = mod-lt j low in
         let d : j / (p .set .levels) * (p .set .levels) + j % (p .set .levels) ≡ j = div-add-mod' j (p .set .levels) in
-        ap (λ (q : ℕ). getD xs q 0) (sym d) ∙ cells (j / (p .set .levels)) (j % (p .set .levels)) hm hi ∙ sym (holds-cell p s t ys refl (j / (p .set .levels)) (j % (p .set .levels)) hm hi) ∙ ap (λ (q : ℕ). getD (columnStore p s t ++ drop (storeSize p) ys) q 0) d
+        ap (λ (q : ℕ). getD xs q 0) (sym d) ∙ cells (j / (p .set .levels)) (j % (p .set .levels)) hm hi ∙ sym
+        (holds-cell p s t ys refl (j / (p .set .levels)) (j % (p .set .levels)) hm hi) ∙ ap
+        (λ (q : ℕ). getD (columnStore p s t ++ drop (storeSize p) ys) q 0) d
     go j (no k) = rest j (omega arith) ∙ sym (holds-rest p s t ys refl j (omega arith))

@@ -65,7 +65,8 @@ module _ {b : List ℕ} {z : Plan} (pl : Planned b z) where
           rw (ed, f .radius, f .height, f .levels) (λ q. (leaving-low (frameOf b .set .radius) rows, leave-able (f .limits) s rows xs e ys q))
 
       pub vertical-done : (ys zs : List ℕ) → Put true (z .levels) (λ m i. when (d .enters) (rowD (frameOf b) s (d .entering) m i)) xs ys
-          → Put false (z .levels) (λ m i. when (d .leaves) (rowD (frameOf b) s (d .leaving) m i)) ys zs → zs ≡ columnStore (frameOf b) s t′ ++ drop (storeSize (frameOf b)) xs
+          → Put false (z .levels) (λ m i. when (d .leaves) (rowD (frameOf b) s (d .leaving) m i)) ys zs →
+          zs ≡ columnStore (frameOf b) s t′ ++ drop (storeSize (frameOf b)) xs
       unfolding enterD leaveD
       vertical-done ys zs =
           let f = facts pl in
@@ -79,14 +80,24 @@ module _ {b : List ℕ} {z : Plan} (pl : Planned b z) where
       pub sides-in : InWidth (z .width) d
       sides-in =
           let small = exchange-small (z .radius) k (plan-limits pl .radius) (plan-limits pl .width) in
-          rw ed (record { entering = entering-low (z .radius) k; leaving = leaving-low (z .radius) k; entering-small = small .0; leaving-small = small .1 })
+          rw ed
+          (record {
+            entering = entering-low (z .radius) k;
+            leaving = leaving-low (z .radius) k;
+            entering-small = small .0;
+            leaving-small =
+                small .1;
+          })
 
       pub sides-ready : SideReady (z .width) (z .levels) d xs
       sides-ready =
           let f = facts pl in
-          rw (ed, f .radius, f .width, f .levels) (record { counts = ready-counts (f .limits) t sides xs e; guides = ready-guides (f .limits) t sides xs e })
+          rw (ed, f .radius, f .width, f .levels)
+          (record { counts = ready-counts (f .limits) t sides xs e; guides = ready-guides (f .limits) t sides xs e })
 
       pub sideways-done : (ys : List ℕ)
-          → Swap (z .levels) (pairD (z .width) (d .enters) (z .levels) (d .entering) xs) (pairD (z .width) (d .leaves) (z .levels) (d .leaving) xs) xs ys
+          →
+          Swap (z .levels) (pairD (z .width) (d .enters) (z .levels) (d .entering) xs) (pairD (z .width) (d .leaves) (z .levels) (d .leaving) xs)
+          xs ys
           → ys ≡ columnStore (frameOf b) s′ t ++ drop (storeSize (frameOf b)) xs
       sideways-done ys v = let f = facts pl in across-holds (f .limits) t sides xs e ys (rw (ed, f .radius, f .width, f .levels) at v)

@@ -25,7 +25,24 @@ use Rattle.window.proofs.LineLaws.{span-high}
 use Rattle.columns.specs.declared.store.Exchange.{Exchange}
 use Rattle.columns.specs.Blocks.{when, Put, Able, Cleared, hit, rowD, contentD, storeSize, ahead, back, exchangeOf, Neighbours, enterD, leaveD}
 use Rattle.columns.proofs.BlockLaws.{store-size, in-store}
-use Rattle.columns.proofs.ContentLaws.{Which, counts, guides, window, windowGuides, beyond, which, row-count, row-guide, row-window, row-window-guide, row-beyond, content-beyond, holds-cell, holds-long, make-holds}
+use Rattle.columns.proofs.ContentLaws.{
+  Which,
+  counts,
+  guides,
+  window,
+  windowGuides,
+  beyond,
+  which,
+  row-count,
+  row-guide,
+  row-window,
+  row-window-guide,
+  row-beyond,
+  content-beyond,
+  holds-cell,
+  holds-long,
+  make-holds,
+}
 
 -- ---- how the code makes an exchange
 module _ {c c′ : ℕ} (r size : ℕ) where
@@ -35,7 +52,9 @@ module _ {c c′ : ℕ} (r size : ℕ) where
   ahead-is h e = rw (lt-ltb c c′ h, e) refl
 
   pub back-is : {low : ℕ} → c′ ≤ c → low ≡ c′ - r
-      → _≡_ {A = Exchange} (record { entering = low; enters = leb r c′; leaving = c′ + r + 1; leaves = ltb (c′ + r + 1) size }) (exchangeOf c c′ r size)
+      →
+      _≡_ {A = Exchange} (record { entering = low; enters = leb r c′; leaving = c′ + r + 1; leaves = ltb (c′ + r + 1) size })
+      (exchangeOf c c′ r size)
   unfolding exchangeOf ahead back
   back-is h e = rw (le-ltb c c′ h, e) refl
 
@@ -101,8 +120,11 @@ module _ {p : Frame} (g : FrameLimits p) where
   in-row-high : (s y : ℕ) (f : ℕ → ℕ → ℕ) → ((x : ℕ) → x < p .set .width → f x y ≤ 255) → inRow _+_ 0 p s f y ≤ 7905
   unfolding inRow
   in-row-high s y f h =
-      le-trans (sum-le (λ x. f x y) (λ x. 255) (s - p .set .radius) (span (p .set .radius) s (p .set .width)) (λ x a b. h x (in-span (p .set .radius) s (p .set .width) x b a)))
-      (le-trans (le-of-eq (sum-const 255 (s - p .set .radius) (span (p .set .radius) s (p .set .width)))) (omega (arith, span-high (p .set .radius) s (p .set .width) (g .sound .radius-high))))
+      le-trans
+      (sum-le (λ x. f x y) (λ x. 255) (s - p .set .radius) (span (p .set .radius) s (p .set .width))
+      (λ x a b. h x (in-span (p .set .radius) s (p .set .width) x b a)))
+      (le-trans (le-of-eq (sum-const 255 (s - p .set .radius) (span (p .set .radius) s (p .set .width))))
+      (omega (arith, span-high (p .set .radius) s (p .set .width) (g .sound .radius-high))))
 
   pub row-high : (s y m i : ℕ) → y < p .set .height → rowD p s y m i ≤ 7905
   row-high s y m i hy = go (which (p .set .width) m)
@@ -123,8 +145,11 @@ module _ {p : Frame} (g : FrameLimits p) where
   pub content-high : (s t m i : ℕ) → contentD p s t m i ≤ 245055
   unfolding contentD
   content-high s t m i =
-      le-trans (sum-le (λ y. rowD p s y m i) (λ y. 7905) (t - p .set .radius) (span (p .set .radius) t (p .set .height)) (λ y a b. row-high s y m i (in-span (p .set .radius) t (p .set .height) y b a)))
-      (le-trans (le-of-eq (sum-const 7905 (t - p .set .radius) (span (p .set .radius) t (p .set .height)))) (omega (arith, span-high (p .set .radius) t (p .set .height) (g .sound .radius-high))))
+      le-trans
+      (sum-le (λ y. rowD p s y m i) (λ y. 7905) (t - p .set .radius) (span (p .set .radius) t (p .set .height))
+      (λ y a b. row-high s y m i (in-span (p .set .radius) t (p .set .height) y b a)))
+      (le-trans (le-of-eq (sum-const 7905 (t - p .set .radius) (span (p .set .radius) t (p .set .height))))
+      (omega (arith, span-high (p .set .radius) t (p .set .height) (g .sound .radius-high))))
 
   pub when-high : (on : Bool) (s y m i : ℕ) → (on ≡ true → y < p .set .height) → when on (rowD p s y m i) ≤ 7905
   when-high true s y m i h = row-high s y m i (h refl)
@@ -190,11 +215,13 @@ module _ {p : Frame} (g : FrameLimits p) (s t s′ t′ : ℕ) (D E : ℕ → �
               let q : j < (2 * p .set .width + 2) * p .set .levels = div-lt-iff-lt-mul low .0 n in
               absurd (omega (arith, store-size (p .set .width) (p .set .levels)))
 
-  pub moved : (ys zs : List ℕ) → Put true (p .set .levels) D xs ys → Put false (p .set .levels) E ys zs → zs ≡ columnStore p s′ t′ ++ drop (storeSize p) xs
+  pub moved : (ys zs : List ℕ) → Put true (p .set .levels) D xs ys → Put false (p .set .levels) E ys zs →
+      zs ≡ columnStore p s′ t′ ++ drop (storeSize p) xs
   moved ys zs q r = moved-cells zs (r .len ∙ q .len) (λ m i hi. let a = q .cells m i hi in let b = r .cells m i hi in omega arith)
 
 -- ---- up and down
-module _ {p : Frame} (g : FrameLimits p) (s : ℕ) {t t′ : ℕ} (k : Neighbours t t′ (p .set .height)) (xs : List ℕ) (e : xs ≡ columnStore p s t ++ drop (storeSize p) xs) where
+module _ {p : Frame} (g : FrameLimits p) (s : ℕ) {t t′ : ℕ} (k : Neighbours t t′ (p .set .height)) (xs : List ℕ)
+    (e : xs ≡ columnStore p s t ++ drop (storeSize p) xs) where
   abbrev d : Exchange
   d = exchangeOf t t′ (p .set .radius) (p .set .height)
 
@@ -220,7 +247,8 @@ module _ {p : Frame} (g : FrameLimits p) (s : ℕ) {t t′ : ℕ} (k : Neighbour
   pub leave-able : (ys : List ℕ) → Put true (p .set .levels) (enterD p s d) xs ys → Able false (p .set .levels) (leaveD p s d) ys
   leave-able = enough-for g s t s t′ (enterD p s d) (leaveD p s d) (λ m i _ _. content-law m i) enter-none leave-none enter-high xs e
 
-  pub rows-moved : (ys zs : List ℕ) → Put true (p .set .levels) (enterD p s d) xs ys → Put false (p .set .levels) (leaveD p s d) ys zs → zs ≡ columnStore p s t′ ++ drop (storeSize p) xs
+  pub rows-moved : (ys zs : List ℕ) → Put true (p .set .levels) (enterD p s d) xs ys → Put false (p .set .levels) (leaveD p s d) ys zs →
+      zs ≡ columnStore p s t′ ++ drop (storeSize p) xs
   rows-moved = moved g s t s t′ (enterD p s d) (leaveD p s d) (λ m i _ _. content-law m i) enter-none leave-none enter-high xs e
 
 -- ---- the start
@@ -236,7 +264,8 @@ module _ {b : List ℕ} {z : Plan} (k : Planned b z) (s t : ℕ) {a n : ℕ} (ea
   pub start-able : ((j : ℕ) → getD xs j 0 < 4294967296) → Able true (z .levels) (λ m i. sum (λ v. rowD (frameOf b) s v m i) a n) ys
   start-able bits = record { room = λ _ m i hi. go m i hi (decLt m (2 * z .width + 2)); enough = λ d. absurd (true≢false d) }
     where
-      go : (m i : ℕ) → i < z .levels → Dec (m < 2 * z .width + 2) → getD ys (m * z .levels + i) 0 + sum (λ v. rowD (frameOf b) s v m i) a n < 4294967296
+      go : (m i : ℕ) → i < z .levels → Dec (m < 2 * z .width + 2) →
+          getD ys (m * z .levels + i) 0 + sum (λ v. rowD (frameOf b) s v m i) a n < 4294967296
       go m i hi (yes h) =
           let u = c .zeros (m * z .levels + i) (in-store (z .width) h hi) in
           let v = same-sum m i in
@@ -246,7 +275,8 @@ module _ {b : List ℕ} {z : Plan} (k : Planned b z) (s t : ℕ) {a n : ℕ} (ea
           let v = same-sum m i in
           let w : contentD (frameOf b) s t m i ≡ 0 = content-beyond (frameOf b) s t i m (omega (arith, facts k .width)) in
           let big : 2 * z .width + 2 ≤ m = omega arith in
-          let u : 2 * (z .width * z .levels) + 2 * z .levels ≤ m * z .levels + i = le-trans (le-of-eq (sym (store-size (z .width) (z .levels)))) (le-trans (mul-le-mul-right (z .levels) big) (omega arith)) in
+          let u : 2 * (z .width * z .levels) + 2 * z .levels ≤ m * z .levels + i =
+          le-trans (le-of-eq (sym (store-size (z .width) (z .levels)))) (le-trans (mul-le-mul-right (z .levels) big) (omega arith)) in
           let q = c .rest (m * z .levels + i) u in
           let r = bits (m * z .levels + i) in
           omega arith
@@ -274,12 +304,14 @@ module _ {b : List ℕ} {z : Plan} (k : Planned b z) (s t : ℕ) {a n : ℕ} (ea
           let u : 2 * (z .width * z .levels) + 2 * z .levels ≤ j = le-trans (le-of-eq size-is) h in
           let big : 2 * z .width + 2 ≤ j / z .levels = far low u (decLt (j / z .levels) (2 * z .width + 2)) in
           let v = same-sum (j / z .levels) (j % z .levels) in
-          let w : contentD (frameOf b) s t (j / z .levels) (j % z .levels) ≡ 0 = content-beyond (frameOf b) s t (j % z .levels) (j / z .levels) (subst (λ (n : ℕ). 2 * n + 2 ≤ j / z .levels) (f .width) big) in
+          let w : contentD (frameOf b) s t (j / z .levels) (j % z .levels) ≡ 0 =
+          content-beyond (frameOf b) s t (j % z .levels) (j / z .levels) (subst (λ (n : ℕ). 2 * n + 2 ≤ j / z .levels) (f .width) big) in
           let g = q .cells (j / z .levels) (j % z .levels) (mod-lt j low) in
           let same : getD zs (j / z .levels * z .levels + j % z .levels) 0 ≡ getD ys (j / z .levels * z .levels + j % z .levels) 0 = omega arith in
           subst (λ (n : ℕ). getD zs n 0 ≡ getD ys n 0) d same ∙ c .rest j u
         where
-          far : 0 < z .levels → 2 * (z .width * z .levels) + 2 * z .levels ≤ j → Dec (j / z .levels < 2 * z .width + 2) → 2 * z .width + 2 ≤ j / z .levels
+          far : 0 < z .levels → 2 * (z .width * z .levels) + 2 * z .levels ≤ j → Dec (j / z .levels < 2 * z .width + 2) →
+              2 * z .width + 2 ≤ j / z .levels
           far low u (no n) = omega arith
           far low u (yes n) =
               let q : j < (2 * z .width + 2) * z .levels = div-lt-iff-lt-mul low .0 n in

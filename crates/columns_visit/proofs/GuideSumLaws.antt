@@ -42,22 +42,23 @@ line-start b d =
       squares-high = omega arith;
     }
 
-module _ {b : List ℕ} {z : Plan} (pl : Planned b z) (d : Line) (ins : InPlanes z d) (k f : ℕ) (h : k < d .count) (e : f ≡ pixelGuide b (pixelOf d k)) where
-  pub guide-small : (f ≤ 255) × (f * f ≤ 65025)
-  guide-small =
-      let l : f ≤ 255 = omega (arith, e, guide-low pl (ins .inside k h), guides-high pl) in
-      (l, mul-le-mul {n₂ = 255} l l)
+module _ {b : List ℕ} {z : Plan} (pl : Planned b z) (d : Line) (ins : InPlanes z d) (k f : ℕ) (h : k < d .count) (e : f ≡ pixelGuide b (pixelOf d k))
+  where
+    pub guide-small : (f ≤ 255) × (f * f ≤ 65025)
+    guide-small =
+        let l : f ≤ 255 = omega (arith, e, guide-low pl (ins .inside k h), guides-high pl) in
+        (l, mul-le-mul {n₂ = 255} l l)
 
-  pub line-next : (s q : ℕ) → LineSums b d k (sums k s q) → LineSums b d (k + 1) (sums (k + 1) (s + f) (q + f * f))
-  line-next s q a =
-      record {
-        count = ap (λ (n : ℕ). n + 1) (a .count) ∙ sym (line-more b d one k);
-        sum = ap₂ _+_ (a .sum) e ∙ sym (line-more b d itself k);
-        squares = ap₂ (λ (n g : ℕ). n + g * g) (a .squares) e ∙ sym (line-more b d squared k);
-        count-high = omega arith;
-        sum-high = omega (arith, a .sum-high, guide-small .0);
-        squares-high = omega (arith, a .squares-high, guide-small .1);
-      }
+    pub line-next : (s q : ℕ) → LineSums b d k (sums k s q) → LineSums b d (k + 1) (sums (k + 1) (s + f) (q + f * f))
+    line-next s q a =
+        record {
+          count = ap (λ (n : ℕ). n + 1) (a .count) ∙ sym (line-more b d one k);
+          sum = ap₂ _+_ (a .sum) e ∙ sym (line-more b d itself k);
+          squares = ap₂ (λ (n g : ℕ). n + g * g) (a .squares) e ∙ sym (line-more b d squared k);
+          count-high = omega arith;
+          sum-high = omega (arith, a .sum-high, guide-small .0);
+          squares-high = omega (arith, a .squares-high, guide-small .1);
+        }
 
 -- ---- a step
 step-sum : {b : List ℕ} {z : Plan} → Planned b z → {s t s′ t′ : ℕ} → Adjacent z s t s′ t′ → {d : Step} → d ≡ stepOf z s t s′ t′ → (h : ℕ → ℕ → ℕ)
@@ -90,7 +91,8 @@ module _ {b : List ℕ} {z : Plan} (pl : Planned b z) where
           squares = omega (arith, step-sum pl adj ed squared, v .squares, m .squares);
         }
 
-pub exchanged : {b : List ℕ} {d : Step} {a less more : Sums} → Movable b d a → LineSums b (d .leaving) (d .leaving .count) less → LineSums b (d .entering) (d .entering .count) more
+pub exchanged : {b : List ℕ} {d : Step} {a less more : Sums} → Movable b d a → LineSums b (d .leaving) (d .leaving .count) less →
+    LineSums b (d .entering) (d .entering .count) more
     → Moved b d a (sums (a .count + more .count - less .count) (a .sum + more .sum - less .sum) (a .squares + more .squares - less .squares))
 exchanged m l e =
     record {

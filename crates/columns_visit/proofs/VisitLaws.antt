@@ -42,7 +42,8 @@ pub part-is : (at n : ℕ) (xs : List ℕ) → take (at + n - at) (drop at xs) �
 part-is at n xs = let e : at + n - at ≡ n = omega arith in ap (λ (m : ℕ). take m (drop at xs)) e
 
 -- the window's two blocks, as they are lent to a search
-pub lent-blocks : (z : Plan) (xs : List ℕ) (P : List ℕ → List ℕ → Type 0) → P (windowCounts z xs) (windowGuides z xs) → let at = 2 * z .width * z .levels in
+pub lent-blocks : (z : Plan) (xs : List ℕ) (P : List ℕ → List ℕ → Type 0) → P (windowCounts z xs) (windowGuides z xs) → let at =
+    2 * z .width * z .levels in
     P (take (at + z .levels - at) (drop at xs)) (take (at + z .levels + z .levels - (at + z .levels)) (drop (at + z .levels) xs))
 lent-blocks z xs P h =
     let at = 2 * z .width * z .levels in
@@ -118,7 +119,8 @@ module _ {b : List ℕ} {z : Plan} (pl : Planned b z) (s t : ℕ) (xs : List ℕ
 abbrev pub running : Sums → Found → Running
 running a f = record { sums = a; below = f .tally; free = record { head = 0; count = 0 } }
 
-pub visited : (p : Frame) (s t c n : ℕ) (a : Sums) (f : Found) (v : Visit) (xs ys : List ℕ) → v ≡ answered s t (f .level) (f .shifts) (running a f) → SumsAt p s t a
+pub visited : (p : Frame) (s t c n : ℕ) (a : Sums) (f : Found) (v : Visit) (xs ys : List ℕ) → v ≡ answered s t (f .level) (f .shifts) (running a f) →
+    SumsAt p s t a
     → Answered p s t c n f → ys ≡ columnStore p s t ++ drop (storeSize p) xs → ColumnsVisited p (arrive p s t c n) xs v ys
 visited p s t c n a f v xs ys e q h m =
     subst (λ (v : Visit). ColumnsVisited p (arrive p s t c n) xs v ys) (sym e)

@@ -43,7 +43,22 @@ use Rattle.frame_write.proofs.Reopening.{wrote-returned}
 use Rattle.ways.specs.Visit.{Stores, lent}
 use Rattle.ice.specs.Contract.{Untouched, Ended, Walks, Filters, Balances}
 use Rattle.demands.proofs.Table.{walk-table, filter-table, balance-table, writer-table}
-use Rattle.demands.specs.Demands.{WalkedOrRefused, FilteredOrRefused, BalancedOrRefused, WrittenOrRefused, Demand1, LowestLevel, EveryPixel, Demand2, Minimises, Answered, Agreed, AllWaysAgree, FilterMinimises, Demand3}
+use Rattle.demands.specs.Demands.{
+  WalkedOrRefused,
+  FilteredOrRefused,
+  BalancedOrRefused,
+  WrittenOrRefused,
+  Demand1,
+  LowestLevel,
+  EveryPixel,
+  Demand2,
+  Minimises,
+  Answered,
+  Agreed,
+  AllWaysAgree,
+  FilterMinimises,
+  Demand3,
+}
 
 -- ---- a verdict and its outcome
 accepted-verdict : (v : Verdict) → numbered v ≡ accepted → v ≡ Accepted
@@ -56,8 +71,11 @@ walked-or-refused b way s t moves a z before after r h = by (walkOutcome b way s
   where
     by : (o : Outcome) → walkOutcome b way s t (length moves) (lent a) (length before) ≡ o
         → ((r .verdict ≡ Accepted)
-        × Ended (wayOf way) (frameOf b) (walkEnd (frameOf b) s t moves) a z (walkAnswers (frameOf b) s t moves ++ drop (length moves + 1) before) after r)
-        ⊎ ((n : ℕ) × (l : List ℕ) × (numbered (r .verdict) ≡ refused n l) × (walkOutcome b way s t (length moves) (lent a) (length before) ≡ refused n l)
+        × Ended (wayOf way) (frameOf b) (walkEnd (frameOf b) s t moves) a z (walkAnswers (frameOf b) s t moves ++ drop (length moves + 1) before)
+        after r)
+        ⊎
+        ((n : ℕ) × (l : List ℕ) × (numbered (r .verdict) ≡ refused n l) ×
+        (walkOutcome b way s t (length moves) (lent a) (length before) ≡ refused n l)
         × Untouched a z before after r)
     by accepted e = inl (accepted-verdict (r .verdict) (h .verdict ∙ e), h .walked e)
     by (refused n l) e = inr (n, l, h .verdict ∙ e, e, h .refused (λ q. not-refused (sym e ∙ q)))
@@ -66,7 +84,9 @@ filtered-or-refused : FilteredOrRefused
 filtered-or-refused b way a z before after r h = by (filterOutcome b way (lent a) (length before)) refl
   where
     by : (o : Outcome) → filterOutcome b way (lent a) (length before) ≡ o
-        → ((r .verdict ≡ Accepted) × Ended (wayOf way) (frameOf b) (filterEnd (frameOf b)) a z (filtered (frameOf b) ++ drop (pixels (frameOf b .set)) before) after r)
+        →
+        ((r .verdict ≡ Accepted) × Ended (wayOf way) (frameOf b) (filterEnd (frameOf b)) a z
+        (filtered (frameOf b) ++ drop (pixels (frameOf b .set)) before) after r)
         ⊎ ((n : ℕ) × (l : List ℕ) × (numbered (r .verdict) ≡ refused n l) × (filterOutcome b way (lent a) (length before) ≡ refused n l)
         × Untouched a z before after r)
     by accepted e = inl (accepted-verdict (r .verdict) (h .verdict ∙ e), h .filtered e)
@@ -102,10 +122,25 @@ written-or-refused k v g a old r new h = by (writerOutcome k v g a (length old))
           h .output ∙ ap (λ (o : Outcome). stored o (written k v g a) old) e,
         )
     by (refused n l) e =
-        inr (n, l, h .answer ∙ ap (λ (o : Outcome). reportOf o (writtenSize k (length a))) e, e, h .output ∙ ap (λ (o : Outcome). stored o (written k v g a) old) e)
+        inr (
+          n,
+          l,
+          h .answer ∙ ap (λ (o : Outcome). reportOf o (writtenSize k (length a))) e,
+          e,
+          h .output ∙ ap
+              (λ (o : Outcome). stored o (written k v g a) old) e,
+        )
 
 pub demand-1 : Demand1
-demand-1 = record { walk = walked-or-refused; filter = filtered-or-refused; balance = balanced-or-refused; writer = written-or-refused; table = record { walk = walk-table; filter = filter-table; balance = balance-table; writer = writer-table } }
+demand-1 =
+    record {
+      walk = walked-or-refused;
+      filter = filtered-or-refused;
+      balance = balanced-or-refused;
+      writer = written-or-refused;
+      table =
+          record { walk = walk-table; filter = filter-table; balance = balance-table; writer = writer-table };
+    }
 
 -- ---- demand 2
 lowest-answer : {p : Frame} {s t : ℕ} → Pixel p s t → LowestLevel p s t (answer p s t)
@@ -124,7 +159,8 @@ lowest-answer {p} {s} {t} k = by (weightless p s t) refl
           lowest = λ _ i l. balance-lt p s t i (median-before p s t i (rw q at l));
         }
 
-module _ (b : List ℕ) (way : ℕ) (a z : Stores) (before after : List ℕ) (r : Walked) (h : Filters b way a z before after r) (ok : r .verdict ≡ Accepted) where
+module _ (b : List ℕ) (way : ℕ) (a z : Stores) (before after : List ℕ) (r : Walked) (h : Filters b way a z before after r)
+    (ok : r .verdict ≡ Accepted) where
   filter-passes : filterOutcome b way (lent a) (length before) ≡ accepted
   filter-passes = sym (h .verdict) ∙ ap numbered ok
 
@@ -132,13 +168,15 @@ module _ (b : List ℕ) (way : ℕ) (a z : Stores) (before after : List ℕ) (r 
   filter-limits = limits-of b (filter-accepted b way (lent a) (length before) filter-passes .file)
 
   -- the number at a pixel's place is the answer there
-  plane-at : (s t : ℕ) → s < frameOf b .set .width → t < frameOf b .set .height → getD after (t * frameOf b .set .width + s) 0 ≡ answer (frameOf b) s t
+  plane-at : (s t : ℕ) → s < frameOf b .set .width → t < frameOf b .set .height →
+      getD after (t * frameOf b .set .width + s) 0 ≡ answer (frameOf b) s t
   unfolding filtered
   plane-at s t hs ht =
       let p = frameOf b in
       let l : t * p .set .width + s < pixels (p .set) = in-plane (p .set) s t hs ht in
       ap (λ (q : List ℕ). getD q (t * p .set .width + s) 0) (h .filtered filter-passes .answers)
-      ∙ List·getD-append (filtered p) (drop (pixels (p .set)) before) 0 (t * p .set .width + s) (omega (arith, l, length-tabulate (pixels (p .set)) (λ q. answer p (q % p .set .width) (q / p .set .width))))
+      ∙ List·getD-append (filtered p) (drop (pixels (p .set)) before) 0 (t * p .set .width + s)
+      (omega (arith, l, length-tabulate (pixels (p .set)) (λ q. answer p (q % p .set .width) (q / p .set .width))))
       ∙ filtered-at p (t * p .set .width + s) l ∙ ap₂ (answer p) (digits-mod t hs) (digits-div t hs)
 
 every-pixel : EveryPixel
@@ -150,7 +188,8 @@ pub demand-2 : Demand2
 demand-2 = record { filter = every-pixel; writer = λ k v g a old n new w. wrote-returned k v g a old n new w }
 
 -- ---- demand 3
-module _ (b : List ℕ) (s t : ℕ) (moves : List ℕ) (way : ℕ) (a z : Stores) (before after : List ℕ) (r : Walked) (h : Walks b way s t moves a z before after r)
+module _ (b : List ℕ) (s t : ℕ) (moves : List ℕ) (way : ℕ) (a z : Stores) (before after : List ℕ) (r : Walked)
+    (h : Walks b way s t moves a z before after r)
     (ok : r .verdict ≡ Accepted) where
   walk-passes : walkOutcome b way s t (length moves) (lent a) (length before) ≡ accepted
   walk-passes = sym (h .verdict) ∙ ap numbered ok
@@ -162,13 +201,15 @@ module _ (b : List ℕ) (s t : ℕ) (moves : List ℕ) (way : ℕ) (a z : Stores
   answer-is : (j : ℕ) → j ≤ length moves → getD after j 0 ≡ getD (walkAnswers (frameOf b) s t moves) j 0
   answer-is j l =
       ap (λ (q : List ℕ). getD q j 0) (h .walked walk-passes .answers)
-      ∙ List·getD-append (walkAnswers (frameOf b) s t moves) (drop (length moves + 1) before) 0 j (omega (arith, l, walk-length (frameOf b) s t moves))
+      ∙ List·getD-append (walkAnswers (frameOf b) s t moves) (drop (length moves + 1) before) 0 j
+      (omega (arith, l, walk-length (frameOf b) s t moves))
 
   -- and they are its first numbers
   answers-are : take (length moves + 1) after ≡ walkAnswers (frameOf b) s t moves
   answers-are =
       ap (take (length moves + 1)) (h .walked walk-passes .answers)
-      ∙ take-at (walkAnswers (frameOf b) s t moves) (drop (length moves + 1) before) (length moves + 1) (omega (arith, walk-length (frameOf b) s t moves))
+      ∙ take-at (walkAnswers (frameOf b) s t moves) (drop (length moves + 1) before) (length moves + 1)
+      (omega (arith, walk-length (frameOf b) s t moves))
 
   shifts-are : r .shifts ≡ walkEnd (frameOf b) s t moves .shifts
   shifts-are = h .walked walk-passes .shifts
@@ -190,7 +231,13 @@ answered {p} {x} {n} k byte =
     }
   where
     pixel-to : (s t : ℕ) → move (p .set) (x .column) (x .row) byte ≡ To s t → Pixel p s t
-    pixel-to s t e = let f = subst (Fine (p .set) byte) e (move-fine (p .set) (x .column) (x .row) byte (k .in-column) (k .in-row)) in record { good = k .good; in-column = f .0; in-row = f .1 }
+    pixel-to s t e = let f =
+        subst (Fine (p .set) byte) e (move-fine (p .set) (x .column) (x .row) byte (k .in-column) (k .in-row)) in record {
+          good =
+              k .good;
+          in-column = f .0;
+          in-row = f .1;
+        }
 
 all-ways-agree : AllWaysAgree
 all-ways-agree b s t moves way way′ a z a′ z′ before after before′ after′ r r′ h h′ ok ok′ =

@@ -14,7 +14,24 @@ use Rattle.spec.specs.declared.Room.{Room}
 use Rattle.spec.specs.Base.{if_then_else_, first}
 use Rattle.spec.specs.Refusal.{Outcome, accepted, refused, _▷_, refuse}
 use Rattle.spec.specs.Frame.{trailerAt, settingsOf, trailerOf, planOf, pixels}
-use Rattle.spec.specs.Checks.{badMark, badSize, badCounts, badKind, badRadius, badDistance, heaviest, scan, scanFile, valueScan, guideScan, tableScan, contents, settingsOutcome, trailerOutcome, verdict}
+use Rattle.spec.specs.Checks.{
+  badMark,
+  badSize,
+  badCounts,
+  badKind,
+  badRadius,
+  badDistance,
+  heaviest,
+  scan,
+  scanFile,
+  valueScan,
+  guideScan,
+  tableScan,
+  contents,
+  settingsOutcome,
+  trailerOutcome,
+  verdict,
+}
 use Rattle.spec.specs.Calls.{badWay, badPixel, short, walkChecks, walkOutcome, filterChecks, filterOutcome, balanceChecks, balanceOutcome}
 use Rattle.spec.specs.Writer.{writtenSize, badLength, scanList, writerOutcome}
 use Rattle.spec.proofs.Checks.{not-refused, both-accepted}
@@ -77,7 +94,8 @@ all (o ∷ os) h = ap (λ (u : Outcome). u ▷ firstOf os) (h 0) ∙ all os (λ 
 by-table : (rows : List Outcome) (o : Outcome) → NumberedFrom 1 rows → o ≡ firstOf rows → ByTable rows o
 by-table rows o h e =
     record {
-      given = λ n l. (λ q. there n l (to 1 rows h n l (sym e ∙ q ∙ ap (λ (m : ℕ). refused m l) (next n))), λ q. e ∙ back rows n (suc n) l (q .0) (q .1));
+      given =
+          λ n l. (λ q. there n l (to 1 rows h n l (sym e ∙ q ∙ ap (λ (m : ℕ). refused m l) (next n))), λ q. e ∙ back rows n (suc n) l (q .0) (q .1));
       passed = (λ q. none rows (sym e ∙ q), λ q. e ∙ all rows q);
       from-one = λ n l q. from 1 rows h n l (sym e ∙ q);
     }
@@ -153,7 +171,8 @@ file-first : (b : List ℕ) (w : Outcome) (own : List Outcome) → w ≡ firstOf
 unfolding verdict trailerOutcome settingsOutcome
 file-first b w own e =
     let k = settingsOf b in
-    ap (λ (u : Outcome). verdict b ▷ u) e ∙ flat (refuse 1 (badMark b)) (refuse 2 (badSize k)) (refuse 3 (badCounts k)) (refuse 4 (badKind k)) (refuse 5 (badRadius k))
+    ap (λ (u : Outcome). verdict b ▷ u) e ∙ flat (refuse 1 (badMark b)) (refuse 2 (badSize k)) (refuse 3 (badCounts k)) (refuse 4 (badKind k))
+    (refuse 5 (badRadius k))
     (refuse 6 (badDistance (trailerAt b) (trailerOf b))) (contents b (planOf b)) (firstOf own)
 
 pub walk-table : (b : List ℕ) (way s t n : ℕ) (have : Room) (out : ℕ) → ByTable (walkRows b way s t n have out) (walkOutcome b way s t n have out)
@@ -165,7 +184,8 @@ walk-table b way s t n have out =
     let m = ltb 1048576 n in
     let r = short k way have out (n + 1) in
     let own : List Outcome = refuse 8 w ∷ refuse 9 x ∷ refuse 10 m ∷ refuse 11 r ∷ [] in
-    by-table (fileRows b own) (walkOutcome b way s t n have out) (file-numbered b own (refuses-refuse 8 w, (refuses-refuse 9 x, (refuses-refuse 10 m, (refuses-refuse 11 r, tt)))))
+    by-table (fileRows b own) (walkOutcome b way s t n have out)
+    (file-numbered b own (refuses-refuse 8 w, (refuses-refuse 9 x, (refuses-refuse 10 m, (refuses-refuse 11 r, tt)))))
     (file-first b (walkChecks k way s t n have out) own (ap (λ (u : Outcome). refuse 8 w ▷ refuse 9 x ▷ refuse 10 m ▷ u) (last (refuse 11 r))))
 
 pub filter-table : (b : List ℕ) (way : ℕ) (have : Room) (out : ℕ) → ByTable (filterRows b way have out) (filterOutcome b way have out)
@@ -175,7 +195,8 @@ filter-table b way have out =
     let w = badWay k way in
     let r = short k way have out (pixels k) in
     let own : List Outcome = refuse 8 w ∷ accepted ∷ accepted ∷ refuse 11 r ∷ [] in
-    by-table (fileRows b own) (filterOutcome b way have out) (file-numbered b own (refuses-refuse 8 w, (refuses-accepted 9, (refuses-accepted 10, (refuses-refuse 11 r, tt)))))
+    by-table (fileRows b own) (filterOutcome b way have out)
+    (file-numbered b own (refuses-refuse 8 w, (refuses-accepted 9, (refuses-accepted 10, (refuses-refuse 11 r, tt)))))
     (file-first b (filterChecks k way have out) own (ap (λ (u : Outcome). refuse 8 w ▷ u) (last (refuse 11 r))))
 
 pub balance-table : (b : List ℕ) (s t i : ℕ) → ByTable (balanceRows b s t i) (balanceOutcome b s t i)
@@ -209,7 +230,9 @@ writer-table k v g a room =
     let y = scanList g (k .guides) (2 * pixels k) in
     let z = scanList a (heaviest + 1) (4 * pixels k) in
     let r = ltb room (writtenSize k (length a)) in
-    let seven : RefusesAs 7 (x ▷ y ▷ z) = refuses-either 7 x (y ▷ z) (refuses-list v (k .levels) 0) (refuses-either 7 y z (refuses-list g (k .guides) (2 * pixels k)) (refuses-list a (heaviest + 1) (4 * pixels k))) in
+    let seven : RefusesAs 7 (x ▷ y ▷ z) =
+    refuses-either 7 x (y ▷ z) (refuses-list v (k .levels) 0)
+    (refuses-either 7 y z (refuses-list g (k .guides) (2 * pixels k)) (refuses-list a (heaviest + 1) (4 * pixels k))) in
     by-table (writerRows k v g a room) (writerOutcome k v g a room) (
       refuses-accepted 1,
       (
@@ -230,4 +253,6 @@ writer-table k v g a room =
       ),
     )
     (flat-writer (refuse 2 (badSize k)) (refuse 3 (badCounts k)) (refuse 4 (badKind k)) (refuse 5 (badRadius k)) (refuse 6 six) x y z (refuse 11 r)
-    ∙ ap (λ (u : Outcome). refuse 2 (badSize k) ▷ refuse 3 (badCounts k) ▷ refuse 4 (badKind k) ▷ refuse 5 (badRadius k) ▷ refuse 6 six ▷ (x ▷ y ▷ z) ▷ u) (last (refuse 11 r)))
+    ∙ ap
+    (λ (u : Outcome). refuse 2 (badSize k) ▷ refuse 3 (badCounts k) ▷ refuse 4 (badKind k) ▷ refuse 5 (badRadius k) ▷ refuse 6 six ▷ (x ▷ y ▷ z)
+    ▷ u) (last (refuse 11 r)))

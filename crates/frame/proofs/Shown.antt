@@ -66,7 +66,8 @@ part-long b back n h i j = length-take-le n (drop (length b - 28 - back) b) (sim
 part-number : (b : List ℕ) (at n j : ℕ) → 2 * j + 1 < n → be16 (take n (drop at b)) (2 * j) ≡ be16 b (at + 2 * j)
 unfolding be16
 part-number b at n j h =
-    let x : getD (take n (drop at b)) (2 * j) 0 ≡ getD b (at + 2 * j) 0 = getD-take n (drop at b) (2 * j) 0 (omega arith) ∙ getD-drop at b (2 * j) 0 in
+    let x : getD (take n (drop at b)) (2 * j) 0 ≡ getD b (at + 2 * j) 0 =
+    getD-take n (drop at b) (2 * j) 0 (omega arith) ∙ getD-drop at b (2 * j) 0 in
     let y : getD (take n (drop at b)) (2 * j + 1) 0 ≡ getD b (at + 2 * j + 1) 0
     = getD-take n (drop at b) (2 * j + 1) 0 h ∙ getD-drop at b (2 * j + 1) 0 ∙ ap (λ (i : ℕ). getD b i 0) (sym (add-assoc at (2 * j) 1)) in
     omega arith
@@ -82,7 +83,8 @@ module _ (which : Plane) (b : List ℕ) (e : verdict b ≡ accepted) where
   shows =
       let s = passed b e in
       let i = inside which b (s .near) in
-      ap (planeOf which b) opens ∙ ap (shown b (backOf which b)) (length-is which b) ∙ shows-part b _ _ (s .long) (i .1) (i .0) ∙ sym (part-is which b)
+      ap (planeOf which b) opens ∙ ap (shown b (backOf which b)) (length-is which b) ∙ shows-part b _ _ (s .long) (i .1) (i .0) ∙ sym
+      (part-is which b)
 
   -- and begins where the plan has it
   pub starts : shownFrom b (distanceOf which (opened b)) (lengthOf which (opened b)) ≡ startOf which b

@@ -12,7 +12,8 @@ use Rattle.spec.specs.Writer.{fieldBytes, distanceBytes}
 use Rattle.spec.specs.declared.Settings.{Settings}
 
 -- a run of stores, and then another where it ended
-pub joined : (l : List ℕ) (at m : ℕ) (vs ws : List ℕ) {prev out : List ℕ} → prev ≡ sets l at vs → length vs ≡ m → out ≡ sets prev (at + m) ws → out ≡ sets l at (vs ++ ws)
+pub joined : (l : List ℕ) (at m : ℕ) (vs ws : List ℕ) {prev out : List ℕ} → prev ≡ sets l at vs → length vs ≡ m → out ≡ sets prev (at + m) ws →
+    out ≡ sets l at (vs ++ ws)
 joined l at m vs ws e n f =
     f ∙ ap (λ (x : List ℕ). sets x (at + m) ws) e ∙ ap (λ (j : ℕ). sets (sets l at vs) (at + j) ws) (sym n) ∙ sets-append vs ws l at
 
@@ -20,7 +21,8 @@ pub pair-stored : (l : List ℕ) (at n : ℕ) {a b : List ℕ} → a ≡ sets l 
 unfolding to16
 pair-stored l at n e f = joined l at 1 (n / 256 ∷ []) (n % 256 ∷ []) e refl f
 
-pub quad-stored : (l : List ℕ) (at n : ℕ) {a b : List ℕ} → a ≡ sets l at (to16 (n / 65536)) → b ≡ sets a (at + 2) (to16 (n % 65536)) → b ≡ sets l at (to32 n)
+pub quad-stored : (l : List ℕ) (at n : ℕ) {a b : List ℕ} → a ≡ sets l at (to16 (n / 65536)) → b ≡ sets a (at + 2) (to16 (n % 65536)) →
+    b ≡ sets l at (to32 n)
 unfolding to32 to16
 quad-stored l at n e f = joined l at 2 (to16 (n / 65536)) (to16 (n % 65536)) e refl f
 
@@ -39,16 +41,23 @@ all16-one : (n : ℕ) → all16 (n ∷ []) ≡ to16 n
 unfolding all16
 all16-one n = append-nil (to16 n)
 
-pub all-again : (l : List ℕ) (at k : ℕ) (list : List ℕ) {prev out : List ℕ} → k < length list → prev ≡ sets l at (all16 (take k list)) → out ≡ sets prev (at + 2 * k) (to16 (getD list k 0))
+pub all-again : (l : List ℕ) (at k : ℕ) (list : List ℕ) {prev out : List ℕ} → k < length list → prev ≡ sets l at (all16 (take k list)) →
+    out ≡ sets prev (at + 2 * k) (to16 (getD list k 0))
     → out ≡ sets l at (all16 (take (k + 1) list))
 all-again l at k list {prev} {out} h e f =
-    joined l at (2 * k) (all16 (take k list)) (to16 (getD list k 0)) e (length-all16 (take k list) ∙ ap (λ (j : ℕ). 2 * j) (length-take-le k list (omega arith))) f
-    ∙ ap (sets l at) (sym (ap (λ (j : ℕ). all16 (take j list)) (add-one k) ∙ ap all16 (take-suc list k 0 h) ∙ all16-append (take k list) (getD list k 0 ∷ []) ∙ ap (λ (z : List ℕ). all16 (take k list) ++ z) (all16-one (getD list k 0))))
+    joined l at (2 * k) (all16 (take k list)) (to16 (getD list k 0)) e
+    (length-all16 (take k list) ∙ ap (λ (j : ℕ). 2 * j) (length-take-le k list (omega arith))) f
+    ∙ ap (sets l at)
+    (sym
+    (ap (λ (j : ℕ). all16 (take j list)) (add-one k) ∙ ap all16 (take-suc list k 0 h) ∙ all16-append (take k list) (getD list k 0 ∷ []) ∙ ap
+    (λ (z : List ℕ). all16 (take k list) ++ z) (all16-one (getD list k 0))))
 
 -- ---- the trailer's two parts
 pub fields-stored : (l : List ℕ) (at : ℕ) (k : Settings) {a b c d e f g : List ℕ}
-    → a ≡ sets l at (to16 (k .width)) → b ≡ sets a (at + 2) (to16 (k .height)) → c ≡ sets b (at + 4) (to16 (k .levels)) → d ≡ sets c (at + 6) (to16 (k .guides))
-    → e ≡ sets d (at + 8) (k .kind ∷ []) → f ≡ sets e (at + 9) (k .radius ∷ []) → g ≡ sets f (at + 10) (to16 (k .smoothing)) → g ≡ sets l at (fieldBytes k)
+    → a ≡ sets l at (to16 (k .width)) → b ≡ sets a (at + 2) (to16 (k .height)) → c ≡ sets b (at + 4) (to16 (k .levels)) →
+    d ≡ sets c (at + 6) (to16 (k .guides))
+    → e ≡ sets d (at + 8) (k .kind ∷ []) → f ≡ sets e (at + 9) (k .radius ∷ []) → g ≡ sets f (at + 10) (to16 (k .smoothing)) →
+    g ≡ sets l at (fieldBytes k)
 unfolding fieldBytes to16
 fields-stored l at k ea eb ec ed ee ef eg =
     let v1 = to16 (k .width) in
@@ -61,7 +70,8 @@ fields-stored l at k ea eb ec ed ee ef eg =
     (joined l at 4 v2 (to16 (k .levels)) (joined l at 2 v1 (to16 (k .height)) ea refl eb) refl ec) refl ed) refl ee) refl ef) refl eg
 
 pub distances-stored : (l : List ℕ) (at n p : ℕ) {a b c d : List ℕ}
-    → a ≡ sets l at (to32 (2 * n + 4 * p)) → b ≡ sets a (at + 4) (to32 (2 * n + 2 * p)) → c ≡ sets b (at + 8) (to32 (2 * n)) → d ≡ sets c (at + 12) (to32 0x49434531)
+    → a ≡ sets l at (to32 (2 * n + 4 * p)) → b ≡ sets a (at + 4) (to32 (2 * n + 2 * p)) → c ≡ sets b (at + 8) (to32 (2 * n)) →
+    d ≡ sets c (at + 12) (to32 0x49434531)
     → d ≡ sets l at (distanceBytes n p)
 unfolding distanceBytes to32 to16
 distances-stored l at n p ea eb ec ed =

@@ -27,7 +27,8 @@ planWith t v g a n =
       weights = n;
     }
 
-pub plan-made : (b : List ℕ) (t : Trailer) {v g a n : ℕ} → t ≡ trailerOf b → v ≡ trailerAt b - t .value → g ≡ trailerAt b - t .guide → a ≡ trailerAt b - t .table
+pub plan-made : (b : List ℕ) (t : Trailer) {v g a n : ℕ} → t ≡ trailerOf b → v ≡ trailerAt b - t .value → g ≡ trailerAt b - t .guide →
+    a ≡ trailerAt b - t .table
     → n ≡ ownWeights t → planWith t v g a n ≡ planOf b
 unfolding planOf trailerOf
 plan-made b t e ev eg ea en =
@@ -38,9 +39,11 @@ plan-made b t e ev eg ea en =
 abbrev distanceOutcome : List ℕ → Outcome
 distanceOutcome b = refuse 6 (badDistance (trailerAt b) (trailerOf b))
 
-pub past-mark : (b : List ℕ) {u : Outcome} → refuse 1 (badMark b) ≡ accepted → u ≡ (settingsOutcome (settingsOf b) ▷ distanceOutcome b) → u ≡ trailerOutcome b
+pub past-mark : (b : List ℕ) {u : Outcome} → refuse 1 (badMark b) ≡ accepted → u ≡ (settingsOutcome (settingsOf b) ▷ distanceOutcome b) →
+    u ≡ trailerOutcome b
 unfolding trailerOutcome
 past-mark b = past (refuse 1 (badMark b)) (settingsOutcome (settingsOf b) ▷ distanceOutcome b)
 
-pub past-settings : (b : List ℕ) {u : Outcome} → refuse 1 (badMark b) ≡ accepted → settingsOutcome (settingsOf b) ≡ accepted → u ≡ distanceOutcome b → u ≡ trailerOutcome b
+pub past-settings : (b : List ℕ) {u : Outcome} → refuse 1 (badMark b) ≡ accepted → settingsOutcome (settingsOf b) ≡ accepted →
+    u ≡ distanceOutcome b → u ≡ trailerOutcome b
 past-settings b m s e = past-mark b m (past (settingsOutcome (settingsOf b)) (distanceOutcome b) s e)

@@ -16,8 +16,38 @@ use Rattle.spec.specs.declared.Plan.{Plan}
 use Rattle.spec.specs.Base.{if_then_else_}
 use Rattle.spec.specs.Bytes.{be16, be32, to16, to32, all16}
 use Rattle.spec.specs.Refusal.{accepted, _▷_, refuse}
-use Rattle.spec.specs.Frame.{pixels, tableSize, table, builtIn, plane, trailerAt, settingsOf, trailerOf, ownWeights, planOf, frameOf, valuePart, guidePart, tablePart, pixelLevel, pixelGuide}
-use Rattle.spec.specs.Checks.{heaviest, outside, badMark, settingsOutcome, badDistance, scanFile, valueScan, guideScan, tableScan, contents, trailerOutcome, verdict}
+use Rattle.spec.specs.Frame.{
+  pixels,
+  tableSize,
+  table,
+  builtIn,
+  plane,
+  trailerAt,
+  settingsOf,
+  trailerOf,
+  ownWeights,
+  planOf,
+  frameOf,
+  valuePart,
+  guidePart,
+  tablePart,
+  pixelLevel,
+  pixelGuide,
+}
+use Rattle.spec.specs.Checks.{
+  heaviest,
+  outside,
+  badMark,
+  settingsOutcome,
+  badDistance,
+  scanFile,
+  valueScan,
+  guideScan,
+  tableScan,
+  contents,
+  trailerOutcome,
+  verdict,
+}
 use Rattle.spec.specs.Writer.{fieldBytes, distanceBytes, written, scanList, writerOutcome}
 use Rattle.spec.proofs.Checks.{scan-none, scan-accepted}
 use Rattle.spec.proofs.Outcomes.{past}
@@ -30,7 +60,8 @@ be16-behind : (p q : List ℕ) (i : ℕ) → be16 (p ++ q) (length p + i) ≡ be
 unfolding be16
 be16-behind p q i =
     let a = getD-append-add p q i 0 in
-    let b : getD (p ++ q) (length p + i + 1) 0 ≡ getD q (i + 1) 0 = ap (λ (n : ℕ). getD (p ++ q) n 0) (add-assoc (length p) i 1) ∙ getD-append-add p q (i + 1) 0 in
+    let b : getD (p ++ q) (length p + i + 1) 0 ≡ getD q (i + 1) 0 =
+    ap (λ (n : ℕ). getD (p ++ q) n 0) (add-assoc (length p) i 1) ∙ getD-append-add p q (i + 1) 0 in
     omega arith
 
 be32-behind : (p q : List ℕ) (i : ℕ) → be32 (p ++ q) (length p + i) ≡ be32 q i
@@ -75,7 +106,9 @@ module _ {b : List ℕ} {start : ℕ} {l : List ℕ} (s : Stands b start l) wher
   stands-scan : (n limit o : ℕ) → n ≡ length l → scanList l limit o ≡ accepted → scanFile b start n limit ≡ accepted
   unfolding scanFile scanList
   stands-scan n limit o e ok =
-      sym (scan-none (plane b start) n limit start (λ j h. rw (stands-number j (omega arith)) (scan-accepted (λ i. getD l i 0) (length l) limit o ok j (omega arith))))
+      sym
+      (scan-none (plane b start) n limit start
+      (λ j h. rw (stands-number j (omega arith)) (scan-accepted (λ i. getD l i 0) (length l) limit o ok j (omega arith))))
 
 -- ---- the trailer that was written
 whole32 : (x : ℕ) → (x / 65536 / 256 * 256 + x / 65536 % 256) * 65536 + (x % 65536 / 256 * 256 + x % 65536 % 256) ≡ x
@@ -161,7 +194,16 @@ module _ (k : Settings) (v g a : List ℕ) where
   settings-back : settingsOf file ≡ k
   unfolding settingsOf
   settings-back =
-      (λ i. record { width = first-at i; height = 16-at 2 i; levels = 16-at 4 i; guides = 16-at 6 i; kind = 8-at 8 i; radius = 8-at 9 i; smoothing = 16-at 10 i })
+      (λ i. record {
+        width = first-at i;
+        height = 16-at 2 i;
+        levels = 16-at 4 i;
+        guides = 16-at 6 i;
+        kind = 8-at 8 i;
+        radius = 8-at 9 i;
+        smoothing =
+            16-at 10 i;
+      })
       ∙ settings-in k (length a) (pixels k)
 
   abbrev trailer : Trailer
@@ -264,7 +306,8 @@ module _ (k : Settings) (v g a : List ℕ) where
     }
 
     -- the parts come back
-    part-back : {start n : ℕ} {l : List ℕ} (at m : ℕ) → Stands file start l → at ≡ start → m ≡ n → n ≡ length l → take (2 * m) (drop at file) ≡ all16 l
+    part-back : {start n : ℕ} {l : List ℕ} (at m : ℕ) → Stands file start l → at ≡ start → m ≡ n → n ≡ length l →
+        take (2 * m) (drop at file) ≡ all16 l
     part-back {start} {n} at m s ea em en = stands-part (rw (sym ea) at s) m (em ∙ en)
 
     values-back : valuePart file ≡ all16 v
@@ -299,7 +342,8 @@ module _ (k : Settings) (v g a : List ℕ) where
         let n : length a ≡ k .guides * k .guides = p .table (zero-twice false ex) .1 in
         stands-number table-stands (f * k .guides + e) (rw n (digits-lt hf he))
 
-    weights-read : (f e : ℕ) → f < k .guides → e < k .guides → table (frameOf file) f e ≡ (if eqb (length a) 0 then builtIn f e else getD a (f * k .guides + e) 0)
+    weights-read : (f e : ℕ) → f < k .guides → e < k .guides →
+        table (frameOf file) f e ≡ (if eqb (length a) 0 then builtIn f e else getD a (f * k .guides + e) 0)
     unfolding frameOf weigh
     weights-read f e hf he =
         ap (λ (t : Trailer). weigh (eqb (t .table) 0) (planOf file .table) (settingsOf file .guides) f e) trailer-back
@@ -333,10 +377,14 @@ module _ (k : Settings) (v g a : List ℕ) where
     trailer-passes : settingsOutcome k ≡ accepted → trailerOutcome file ≡ accepted
     unfolding trailerOutcome
     trailer-passes ok =
-        sym (past (refuse 1 (badMark file)) (settingsOutcome (settingsOf file) ▷ refuse 6 (badDistance (trailerAt file) (trailerOf file))) (ap (refuse 1) unmarked)
-        (past (settingsOutcome (settingsOf file)) (refuse 6 (badDistance (trailerAt file) (trailerOf file))) (ap settingsOutcome settings-back ∙ ok) (sym (ap (refuse 6) placed))))
+        sym
+        (past (refuse 1 (badMark file)) (settingsOutcome (settingsOf file) ▷ refuse 6 (badDistance (trailerAt file) (trailerOf file)))
+        (ap (refuse 1) unmarked)
+        (past (settingsOutcome (settingsOf file)) (refuse 6 (badDistance (trailerAt file) (trailerOf file))) (ap settingsOutcome settings-back ∙ ok)
+        (sym (ap (refuse 6) placed))))
 
-    contents-pass : scanList v (k .levels) 0 ≡ accepted → scanList g (k .guides) (2 * pixels k) ≡ accepted → scanList a (heaviest + 1) (4 * pixels k) ≡ accepted
+    contents-pass : scanList v (k .levels) 0 ≡ accepted → scanList g (k .guides) (2 * pixels k) ≡ accepted →
+        scanList a (heaviest + 1) (4 * pixels k) ≡ accepted
         → contents file plan ≡ accepted
     unfolding contents valueScan guideScan tableScan
     contents-pass sv sg sa =

@@ -38,21 +38,26 @@ module _ (k : Settings) (v g a : List ℕ) (room : ℕ) where
   abbrev pub of-room : Outcome
   of-room = refuse 11 (ltb room (writtenSize k (length a)))
 
-  pub past1 : {u : Outcome} → settingsOutcome k ≡ accepted → u ≡ (of-length ▷ of-values ▷ of-guides ▷ of-table ▷ of-room) → u ≡ writerOutcome k v g a room
+  pub past1 : {u : Outcome} → settingsOutcome k ≡ accepted → u ≡ (of-length ▷ of-values ▷ of-guides ▷ of-table ▷ of-room) →
+      u ≡ writerOutcome k v g a room
   unfolding writerOutcome
   past1 = past (settingsOutcome k) (of-length ▷ of-values ▷ of-guides ▷ of-table ▷ of-room)
 
-  pub past2 : {u : Outcome} → settingsOutcome k ≡ accepted → of-length ≡ accepted → u ≡ (of-values ▷ of-guides ▷ of-table ▷ of-room) → u ≡ writerOutcome k v g a room
+  pub past2 : {u : Outcome} → settingsOutcome k ≡ accepted → of-length ≡ accepted → u ≡ (of-values ▷ of-guides ▷ of-table ▷ of-room) →
+      u ≡ writerOutcome k v g a room
   past2 s l e = past1 s (past of-length (of-values ▷ of-guides ▷ of-table ▷ of-room) l e)
 
-  pub past3 : {u : Outcome} → settingsOutcome k ≡ accepted → of-length ≡ accepted → of-values ≡ accepted → u ≡ (of-guides ▷ of-table ▷ of-room) → u ≡ writerOutcome k v g a room
+  pub past3 : {u : Outcome} → settingsOutcome k ≡ accepted → of-length ≡ accepted → of-values ≡ accepted → u ≡ (of-guides ▷ of-table ▷ of-room) →
+      u ≡ writerOutcome k v g a room
   past3 s l x e = past2 s l (past of-values (of-guides ▷ of-table ▷ of-room) x e)
 
-  pub past4 : {u : Outcome} → settingsOutcome k ≡ accepted → of-length ≡ accepted → of-values ≡ accepted → of-guides ≡ accepted → u ≡ (of-table ▷ of-room)
+  pub past4 : {u : Outcome} → settingsOutcome k ≡ accepted → of-length ≡ accepted → of-values ≡ accepted → of-guides ≡ accepted →
+      u ≡ (of-table ▷ of-room)
       → u ≡ writerOutcome k v g a room
   past4 s l x y e = past3 s l x (past of-guides (of-table ▷ of-room) y e)
 
-  pub past5 : {u : Outcome} → settingsOutcome k ≡ accepted → of-length ≡ accepted → of-values ≡ accepted → of-guides ≡ accepted → of-table ≡ accepted → u ≡ of-room
+  pub past5 : {u : Outcome} → settingsOutcome k ≡ accepted → of-length ≡ accepted → of-values ≡ accepted → of-guides ≡ accepted →
+      of-table ≡ accepted → u ≡ of-room
       → u ≡ writerOutcome k v g a room
   past5 s l x y z e = past4 s l x y (past of-table of-room z e)
 
@@ -93,9 +98,11 @@ pub record Lengths (k : Settings) (v g a : ℕ) : Type 0 where
   pub guides : g ≡ pixels k
   pub table : eqb a 0 ≡ false → (k .kind ≡ 1) × (a ≡ tableSize k)
 
-table-shape : (k : Settings) (a : ℕ) → (not (eqb a 0) && not (eqb (k .kind) 1 && eqb a (tableSize k))) ≡ false → eqb a 0 ≡ false → (k .kind ≡ 1) × (a ≡ tableSize k)
+table-shape : (k : Settings) (a : ℕ) → (not (eqb a 0) && not (eqb (k .kind) 1 && eqb a (tableSize k))) ≡ false → eqb a 0 ≡ false →
+    (k .kind ≡ 1) × (a ≡ tableSize k)
 table-shape k a e h =
-    let s : not (eqb (k .kind) 1 && eqb a (tableSize k)) ≡ false = ap (λ (b : Bool). not b && not (eqb (k .kind) 1 && eqb a (tableSize k))) (sym h) ∙ e in
+    let s : not (eqb (k .kind) 1 && eqb a (tableSize k)) ≡ false =
+    ap (λ (b : Bool). not b && not (eqb (k .kind) 1 && eqb a (tableSize k))) (sym h) ∙ e in
     let q = both _ _ (not-false _ s) in
     (eqb-true _ _ (q .0), eqb-true _ _ (q .1))
 
@@ -135,23 +142,28 @@ pub distances-long : (n p : ℕ) → length (distanceBytes n p) ≡ 16
 unfolding distanceBytes to32 to16
 distances-long n p = refl
 
-joined0 : (l : List ℕ) (m : ℕ) (vs ws : List ℕ) {prev out : List ℕ} → prev ≡ sets l 0 vs → length vs ≡ m → out ≡ sets prev m ws → out ≡ sets l 0 (vs ++ ws)
+joined0 : (l : List ℕ) (m : ℕ) (vs ws : List ℕ) {prev out : List ℕ} → prev ≡ sets l 0 vs → length vs ≡ m → out ≡ sets prev m ws →
+    out ≡ sets l 0 (vs ++ ws)
 joined0 l m vs ws {prev} e n f = joined l 0 m vs ws e n (f ∙ ap (λ (j : ℕ). sets prev j ws) (sym (zero-add m)))
 
 pub file-stored : (l : List ℕ) (k : Settings) (v g a : List ℕ) {o1 o2 o3 o4 o5 : List ℕ} → length v ≡ pixels k → length g ≡ pixels k
     → o1 ≡ sets l 0 (all16 v) → o2 ≡ sets o1 (2 * length v) (all16 g) → o3 ≡ sets o2 (4 * length v) (all16 a)
-    → o4 ≡ sets o3 (4 * length v + 2 * length a) (fieldBytes k) → o5 ≡ sets o4 (4 * length v + 2 * length a + 12) (distanceBytes (length a) (length v))
+    → o4 ≡ sets o3 (4 * length v + 2 * length a) (fieldBytes k) →
+    o5 ≡ sets o4 (4 * length v + 2 * length a + 12) (distanceBytes (length a) (length v))
     → o5 ≡ sets l 0 (written k v g a)
 unfolding written
 file-stored l k v g a hv hg e1 e2 e3 e4 e5 =
     let n2 : length (all16 v ++ all16 g) ≡ 4 * length v = simp length-append (omega (arith, length-all16 v, length-all16 g)) in
-    let n3 : length ((all16 v ++ all16 g) ++ all16 a) ≡ 4 * length v + 2 * length a = simp length-append (omega (arith, length-all16 v, length-all16 g, length-all16 a)) in
+    let n3 : length ((all16 v ++ all16 g) ++ all16 a) ≡ 4 * length v + 2 * length a =
+    simp length-append (omega (arith, length-all16 v, length-all16 g, length-all16 a)) in
     let n4 : length (((all16 v ++ all16 g) ++ all16 a) ++ fieldBytes k) ≡ 4 * length v + 2 * length a + 12
     = simp length-append (omega (arith, length-all16 v, length-all16 g, length-all16 a, fields-long k)) in
     let f2 = joined0 l (2 * length v) (all16 v) (all16 g) e1 (length-all16 v) e2 in
     let f3 = joined0 l (4 * length v) (all16 v ++ all16 g) (all16 a) f2 n2 e3 in
     let f4 = joined0 l (4 * length v + 2 * length a) ((all16 v ++ all16 g) ++ all16 a) (fieldBytes k) f3 n3 e4 in
-    let f5 = joined0 l (4 * length v + 2 * length a + 12) (((all16 v ++ all16 g) ++ all16 a) ++ fieldBytes k) (distanceBytes (length a) (length v)) f4 n4 e5 in
+    let f5 =
+    joined0 l (4 * length v + 2 * length a + 12) (((all16 v ++ all16 g) ++ all16 a) ++ fieldBytes k) (distanceBytes (length a) (length v)) f4 n4
+    e5 in
     f5 ∙ ap (λ (n : ℕ). sets l 0 ((((all16 v ++ all16 g) ++ all16 a) ++ fieldBytes k) ++ distanceBytes (length a) n)) hv
 
 pub written-long : (k : Settings) (v g a : List ℕ) → length v ≡ pixels k → length g ≡ pixels k → length (written k v g a) ≡ writtenSize k (length a)

@@ -83,11 +83,13 @@ module _ (w : Bool) (l i f : ℕ) (xs : List ℕ) (hi : i < l) (long : l + l ≤
 
       at-count : getD ys i 0 ≡ changed w (getD xs i 0) (share l i i f)
       at-count =
-          getD-set-other (set xs i v) (l + i) i u 0 (λ e. apart (sym e)) ∙ getD-set-same xs i v 0 (omega arith) ∙ ap (changed w (getD xs i 0)) (sym (own-count l i f hi))
+          getD-set-other (set xs i v) (l + i) i u 0 (λ e. apart (sym e)) ∙ getD-set-same xs i v 0 (omega arith) ∙ ap (changed w (getD xs i 0))
+          (sym (own-count l i f hi))
 
       at-sum : getD ys (l + i) 0 ≡ changed w (getD xs (l + i) 0) (share l (l + i) i f)
       at-sum =
-          getD-set-same (set xs i v) (l + i) u 0 (rw (length-set xs i v) (omega arith)) ∙ ap (λ (q : ℕ). changed w q f) (getD-set-other xs i (l + i) v 0 apart)
+          getD-set-same (set xs i v) (l + i) u 0 (rw (length-set xs i v) (omega arith)) ∙ ap (λ (q : ℕ). changed w q f)
+          (getD-set-other xs i (l + i) v 0 apart)
           ∙ ap (changed w (getD xs (l + i) 0)) (sym (own-sum l i f hi))
 
       each : (k : ℕ) → getD ys k 0 ≡ changed w (getD xs k 0) (share l k i f)
@@ -95,7 +97,8 @@ module _ (w : Bool) (l i f : ℕ) (xs : List ℕ) (hi : i < l) (long : l + l ≤
         where
           other : (k ≡ i → ⊥) → (k ≡ l + i → ⊥) → getD ys k 0 ≡ changed w (getD xs k 0) (share l k i f)
           other n m =
-              getD-set-other (set xs i v) (l + i) k u 0 m ∙ getD-set-other xs i k v 0 n ∙ sym (ap (changed w (getD xs k 0)) (no-share l i f hi k n m) ∙ changed-none w (getD xs k 0))
+              getD-set-other (set xs i v) (l + i) k u 0 m ∙ getD-set-other xs i k v 0 n ∙ sym
+              (ap (changed w (getD xs k 0)) (no-share l i f hi k n m) ∙ changed-none w (getD xs k 0))
 
 -- ---- the window's numbers
 module _ {b : List ℕ} {z : Plan} (pl : Planned b z) where
@@ -111,19 +114,28 @@ module _ {b : List ℕ} {z : Plan} (pl : Planned b z) where
 
   pub place-of : {s t : ℕ} {xs : List ℕ} → Histogram (frameOf b) s t xs → (q : ℕ) → q < L + L → getD xs q 0 ≡ held s t q
   place-of {s} {t} v q l =
-      v .cells q (rw levels-same at l) ∙ ap (λ (m : ℕ). Σ (frameOf b) s t (λ x y. share m q (level (frameOf b) x y) (guide (frameOf b) x y))) (sym levels-same)
+      v .cells q (rw levels-same at l) ∙ ap (λ (m : ℕ). Σ (frameOf b) s t (λ x y. share m q (level (frameOf b) x y) (guide (frameOf b) x y)))
+      (sym levels-same)
 
   pub histogram-of : {s t : ℕ} {xs : List ℕ} → L + L ≤ length xs → ((q : ℕ) → q < L + L → getD xs q 0 ≡ held s t q) → Histogram (frameOf b) s t xs
   histogram-of {s} {t} long e = record {
     long = rw levels-same at long;
-    cells = λ q l. e q (rw levels-same l) ∙ ap (λ (m : ℕ). Σ (frameOf b) s t (λ x y. share m q (level (frameOf b) x y) (guide (frameOf b) x y))) levels-same;
+    cells =
+        λ q l. e q (rw levels-same l) ∙ ap (λ (m : ℕ). Σ (frameOf b) s t (λ x y. share m q (level (frameOf b) x y) (guide (frameOf b) x y)))
+        levels-same;
   }
 
   pub held-high : {s t : ℕ} → s < z .width → t < z .height → (q : ℕ) → held s t q ≤ 246016
   held-high hs ht q =
       let k = pixel-of pl hs ht in
       over-high k _ 256
-      (λ x y w. omega (arith, share-le L (level (frameOf b) x y) (guide (frameOf b) x y) q, k .good .guide-low x y (w .wide) (w .high), k .good .sound .guides-high))
+      (λ x y w. omega (
+        arith,
+        share-le L (level (frameOf b) x y) (guide (frameOf b) x y) q,
+        k .good .guide-low x y (w .wide) (w .high),
+        k .good .sound
+            .guides-high,
+      ))
 
 -- ---- what the places hold: the window's counts and guide sums, level by level
 module _ {p : Frame} {s t : ℕ} {xs : List ℕ} (v : Histogram p s t xs) (i : ℕ) (h : i < p .set .levels) where

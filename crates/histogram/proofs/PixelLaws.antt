@@ -48,7 +48,12 @@ module _ {w : Bool} {l : ℕ} {p xs : List ℕ} (v : PixelsBelow l 256 p) (rm : 
 module _ {l : ℕ} {p : List ℕ} (v : PixelsBelow l 256 p) where
   pub list-high : (q : Place l) → pixelFold _+_ 0 p (shareAt l q) ≤ 7936
   list-high q =
-      omega (arith, v .few, high p (shareAt l q) 256 (countOf p) (λ k h. omega (arith, share-le l (levelIn p k) (guideIn p k) (q .at), v .guide k h)) (countOf p) (omega arith))
+      omega (
+        arith,
+        v .few,
+        high p (shareAt l q) 256 (countOf p) (λ k h. omega (arith, share-le l (levelIn p k) (guideIn p k) (q .at), v .guide k h))
+            (countOf p) (omega arith),
+      )
 
 -- a plan's pixels have at most 256 guides
 below : {b : List ℕ} {z : Plan} {p : List ℕ} → Planned b z → PixelsBelow (z .levels) (z .guides) p → PixelsBelow (z .levels) 256 p
@@ -63,22 +68,28 @@ module _ {b : List ℕ} {z : Plan} (pl : Planned b z) where
     cells = λ q l. o .zeros q l ∙ sym (columns-none _+_ 0 b z x t (share (z .levels) q));
   }
 
-  module _ {x t n : ℕ} {xs : List ℕ} (v : Filled b z x t n xs) {d : Line} (ed : d ≡ columnLine z (x + n) t) {p : List ℕ} (r : LinePixels b z d p) where
-    pub fill-asks : n < 31 → ((z .levels ≤ 1024) × (z .levels + z .levels ≤ length xs) × PixelsBelow (z .levels) 256 p) × RoomFor true (z .levels) p xs
-    fill-asks few = (
-      (levels-high pl, v .long, below pl (r .below)),
-      record { fits = λ q. omega (arith, v .low (q .at) (q .low), list-high (below pl (r .below)) q) },
-    )
+  module _ {x t n : ℕ} {xs : List ℕ} (v : Filled b z x t n xs) {d : Line} (ed : d ≡ columnLine z (x + n) t) {p : List ℕ} (r : LinePixels b z d p)
+    where
+      pub fill-asks : n < 31 →
+          ((z .levels ≤ 1024) × (z .levels + z .levels ≤ length xs) × PixelsBelow (z .levels) 256 p) × RoomFor true (z .levels) p xs
+      fill-asks few = (
+        (levels-high pl, v .long, below pl (r .below)),
+        record { fits = λ q. omega (arith, v .low (q .at) (q .low), list-high (below pl (r .below)) q) },
+      )
 
-    pub filled-next : {ys : List ℕ} → length ys ≡ length xs → PassedTo _+_ 0 (shareAt (z .levels)) changed true p (countOf p) (numberAt (z .levels) xs) (numberAt (z .levels) ys) → Filled b z x t (n + 1) ys
-    unfolding changed
-    filled-next e g = record {
-      long = rw e (v .long);
-      low = λ q l. let a : Place (z .levels) = record { at = q; low = l } in omega (arith, g .cells a, v .low q l, list-high (below pl (r .below)) a);
-      cells = λ q l. let h = share (z .levels) q in omega (arith, g .cells (record { at = q; low = l }), v .cells q l, columns-more _+_ 0 b z x t h n p ed (r .sum h));
-    }
+      pub filled-next : {ys : List ℕ} → length ys ≡ length xs →
+          PassedTo _+_ 0 (shareAt (z .levels)) changed true p (countOf p) (numberAt (z .levels) xs) (numberAt (z .levels) ys) →
+          Filled b z x t (n + 1) ys
+      unfolding changed
+      filled-next e g = record {
+        long = rw e (v .long);
+        low = λ q l. let a : Place (z .levels) = record { at = q; low = l } in omega (arith, g .cells a, v .low q l, list-high (below pl (r .below)) a);
+        cells = λ q l. let h =
+            share (z .levels) q in omega (arith, g .cells (record { at = q; low = l }), v .cells q l, columns-more _+_ 0 b z x t h n p ed (r .sum h));
+      }
 
-  pub filled-end : {s t n x : ℕ} {xs : List ℕ} → x ≡ s - z .radius → n ≡ span (z .radius) s (z .width) → Filled b z x t n xs → Histogram (frameOf b) s t xs
+  pub filled-end : {s t n x : ℕ} {xs : List ℕ} → x ≡ s - z .radius → n ≡ span (z .radius) s (z .width) → Filled b z x t n xs →
+      Histogram (frameOf b) s t xs
   filled-end {s} {t} {x = x} ex en v = histogram-of pl (v .long) (λ q l. v .cells q l ∙ columns-window _+_ 0 b z x t (share (z .levels) q) pl s ex en)
 
 -- ---- a step of the window
@@ -90,15 +101,20 @@ module _ {b : List ℕ} {z : Plan} (pl : Planned b z) {s t s′ t′ : ℕ} (adj
   long : L + L ≤ length xs
   long = rw (levels-same pl) (v .long)
 
-  pub exchange-asks : ((L ≤ 1024) × (L + L ≤ length xs) × PixelsBelow L 256 e × PixelsBelow L 256 l) × Exchangeable (shareAt L) 4294967296 e l (numberAt L xs)
+  pub exchange-asks : ((L ≤ 1024) × (L + L ≤ length xs) × PixelsBelow L 256 e × PixelsBelow L 256 l) × Exchangeable (shareAt L) 4294967296 e l
+      (numberAt L xs)
   exchange-asks = (
     (levels-high pl, long, below pl (re .below), below pl (rl .below)),
     record {
-      room = λ q. omega (arith, place-of pl v (q .at) (q .low), held-high pl (both-in adj .0) (both-in adj .1) (q .at), list-high (below pl (re .below)) q);
+      room =
+          λ q. omega
+          (arith, place-of pl v (q .at) (q .low), held-high pl (both-in adj .0) (both-in adj .1) (q .at), list-high (below pl (re .below)) q);
       there = leaving-there (shareAt L) pl adj ed re rl (λ q. place-of pl v (q .at) (q .low));
     },
   )
 
-  pub exchanged-histogram : {ys : List ℕ} → length ys ≡ length xs → Exchanged _+_ 0 (shareAt L) e l (numberAt L xs) (numberAt L ys) → Histogram (frameOf b) s′ t′ ys
+  pub exchanged-histogram : {ys : List ℕ} → length ys ≡ length xs → Exchanged _+_ 0 (shareAt L) e l (numberAt L xs) (numberAt L ys) →
+      Histogram (frameOf b) s′ t′ ys
   exchanged-histogram n x =
-      histogram-of pl (rw n long) (λ q lo. slid naturals (shareAt L) pl adj ed e l (re .sum) (rl .sum) x (record { at = q; low = lo }) (place-of pl v q lo))
+      histogram-of pl (rw n long)
+      (λ q lo. slid naturals (shareAt L) pl adj ed e l (re .sum) (rl .sum) x (record { at = q; low = lo }) (place-of pl v q lo))

@@ -33,7 +33,8 @@ use Rattle.ways.proofs.WayLaws.{settings-same}
 use Rattle.ice.proofs.OutcomeLaws.{set-of, stopped, fires-not, quiet}
 
 -- an opened file that no check refuses has its plan
-pub planned-of : {b : List ℕ} (h : Opened) → (numbered (h .verdict) ≡ verdict b) × (h .plan ≡ openedPlan b) → fires (numbered (h .verdict)) ≡ false → Planned b (h .plan)
+pub planned-of : {b : List ℕ} (h : Opened) → (numbered (h .verdict) ≡ verdict b) × (h .plan ≡ openedPlan b) → fires (numbered (h .verdict)) ≡ false →
+    Planned b (h .plan)
 unfolding openedPlan
 planned-of {b} h e f =
     let q : fires (verdict b) ≡ false = ap fires (sym (e .0)) ∙ f in
@@ -53,7 +54,8 @@ untouched : {v : Verdict} {r : Walked} (a : Stores) (out : List ℕ) → Zeroed 
 untouched a out h = record { shifts = h .shifts; cut = h .cut; cells = h .cells; counts = refl; words = refl; numbers = refl; answers = refl }
 
 module _ (v : Verdict) (r : Walked) (h : Zeroed v r) (f : fires (numbered v) ≡ true) (a : Stores) (out : List ℕ) where
-  pub walks-refused : (b : List ℕ) (way s t : ℕ) (ms : List ℕ) → numbered v ≡ walkOutcome b way s t (length ms) (lent a) (length out) → Walks b way s t ms a a out out r
+  pub walks-refused : (b : List ℕ) (way s t : ℕ) (ms : List ℕ) → numbered v ≡ walkOutcome b way s t (length ms) (lent a) (length out) →
+      Walks b way s t ms a a out out r
   walks-refused b way s t ms e =
       record { verdict = ap numbered (h .verdict) ∙ e; refused = λ _. untouched a out h; walked = λ q. absurd (fires-not (numbered v) f (e ∙ q)) }
 
@@ -65,14 +67,18 @@ module _ (v : Verdict) (r : Walked) (h : Zeroed v r) (f : fires (numbered v) ≡
 whole : (n : ℕ) (front z a : List ℕ) → take n z ≡ front → drop n z ≡ drop n a → z ≡ front ++ drop n a
 whole n front z a e q = sym (take-append-drop n z) ∙ ap₂ (λ (x y : List ℕ). x ++ y) e q
 
-ended : {way : Way} {p : Frame} {x : State} {a z : Stores} {r : Walked} (due after : List ℕ) → Finished way p x a z r → after ≡ due → Ended way p x a z due after r
+ended : {way : Way} {p : Frame} {x : State} {a z : Stores} {r : Walked} (due after : List ℕ) → Finished way p x a z r → after ≡ due →
+    Ended way p x a z due after r
 ended {way} {p} {x} {a} {z} due after h e =
     record {
       shifts = h .shifts;
       cut = h .cut;
       cells = h .holds .cells;
-      counts = whole (roomOf way (p .set) .counts) (countsOf way p (x .column) (x .row)) (z .counts) (a .counts) (h .holds .counts) (h .kept .counts .beyond);
-      words = whole (roomOf way (p .set) .words) (wordsOf way p (x .column) (x .row)) (z .words) (a .words) (h .holds .words) (h .kept .words .beyond);
+      counts =
+          whole (roomOf way (p .set) .counts) (countsOf way p (x .column) (x .row)) (z .counts) (a .counts) (h .holds .counts)
+          (h .kept .counts .beyond);
+      words =
+          whole (roomOf way (p .set) .words) (wordsOf way p (x .column) (x .row)) (z .words) (a .words) (h .holds .words) (h .kept .words .beyond);
       numbers = h .holds .numbers;
       numbers-long = h .kept .numbers .long;
       numbers-rest = h .kept .numbers .beyond;
@@ -87,7 +93,10 @@ module _ (b : List ℕ) (way : ℕ) (y : Way) (ey : y ≡ wayOf way) (a z : Stor
       record {
         verdict = ap numbered (h .verdict) ∙ sym o;
         refused = λ n. absurd (n o);
-        walked = λ _. subst (λ (q : Way). Ended q (frameOf b) (walkEnd (frameOf b) s t ms) a z (walkAnswers (frameOf b) s t ms ++ drop (length ms + 1) before) after r) ey (ended _ _ h e);
+        walked =
+            λ _. subst
+            (λ (q : Way). Ended q (frameOf b) (walkEnd (frameOf b) s t ms) a z (walkAnswers (frameOf b) s t ms ++ drop (length ms + 1) before) after
+            r) ey (ended _ _ h e);
       }
 
   pub filters-done : filterOutcome b way (lent a) (length before) ≡ accepted → Finished y (frameOf b) (filterEnd (frameOf b)) a z r
@@ -96,7 +105,10 @@ module _ (b : List ℕ) (way : ℕ) (y : Way) (ey : y ≡ wayOf way) (a z : Stor
       record {
         verdict = ap numbered (h .verdict) ∙ sym o;
         refused = λ n. absurd (n o);
-        filtered = λ _. subst (λ (q : Way). Ended q (frameOf b) (filterEnd (frameOf b)) a z (filtered (frameOf b) ++ drop (pixels (frameOf b .set)) before) after r) ey (ended _ _ h e);
+        filtered =
+            λ _. subst
+            (λ (q : Way). Ended q (frameOf b) (filterEnd (frameOf b)) a z (filtered (frameOf b) ++ drop (pixels (frameOf b .set)) before) after r) ey
+            (ended _ _ h e);
       }
 
 -- ---- what an accepted call hands on
@@ -108,7 +120,9 @@ module _ {b : List ℕ} {z : Plan} (k : Planned b z) (way : ℕ) (y : Way) (ey :
   fits-by : (a : Stores) → Fits (roomOf (wayOf way) (settingsOf b)) (lent a) → Fit y (settingsIn z) a
   fits-by a f =
       let e : settingsOf b ≡ settingsIn z = sym (settings-same k ∙ set-of b) in
-      let g : Fits (roomOf y (settingsIn z)) (lent a) = subst (λ (q : Way). Fits (roomOf q (settingsIn z)) (lent a)) (sym ey) (subst (λ (s : Settings). Fits (roomOf (wayOf way) s) (lent a)) e f) in
+      let g : Fits (roomOf y (settingsIn z)) (lent a) =
+      subst (λ (q : Way). Fits (roomOf q (settingsIn z)) (lent a)) (sym ey) (subst (λ (s : Settings). Fits (roomOf (wayOf way) s) (lent a)) e f)
+      in
       record { counts = g .counts; words = g .words; numbers = g .numbers }
 
   pub record Granted (s t n : ℕ) (a : Stores) (out : ℕ) : Type 0 where
@@ -155,8 +169,14 @@ pub balances-done : (b : List ℕ) (s t i : ℕ) (r : Balanced) → numbered (r 
     → r .balance ≡ balance (frameOf b) s t i → Balances b s t i r
 balances-done b s t i r e o q = record { verdict = e; refused = λ n. absurd (n o); balanced = λ _. q }
 
-pub balance-granted : {b : List ℕ} {z : Plan} → Planned b z → (s t i : ℕ) → balanceOutcome b s t i ≡ accepted → (s < z .width) × (t < z .height) × (i < z .levels) × (z .levels ≤ 1024)
+pub balance-granted : {b : List ℕ} {z : Plan} → Planned b z → (s t i : ℕ) → balanceOutcome b s t i ≡ accepted →
+    (s < z .width) × (t < z .height) × (i < z .levels) × (z .levels ≤ 1024)
 balance-granted {b} k s t i o =
     let h = balance-accepted b s t i o in
-    let f = facts k in
-    (rw (f .width) (h .pixel .in-column), rw (f .height) (h .pixel .in-row), rw (f .levels) (rw (sym (set-of b)) at (h .level)), rw (f .levels) (f .limits .sound .levels-high))
+    let f = facts k in (
+      rw (f .width) (h .pixel .in-column),
+      rw (f .height) (h .pixel .in-row),
+      rw (f .levels) (rw (sym (set-of b)) at (h .level)),
+      rw (f .levels)
+          (f .limits .sound .levels-high),
+    )

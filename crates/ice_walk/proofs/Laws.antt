@@ -79,9 +79,11 @@ move-adjacent z s t b s′ t′ hs ht = by (eqb b 0) (eqb b 1) (eqb b 2) (eqb b 
         → (if b0 then toIf (ltb (s + 1) (z .width)) (s + 1) t else if b1 then toIf (ltb 0 s) (s - 1) t
         else if b2 then toIf (ltb (t + 1) (z .height)) s (t + 1) else if b3 then toIf (ltb 0 t) s (t - 1) else Nowhere 65533) ≡ To s′ t′
         → Adjacent z s t s′ t′
-    by true b1 b2 b3 e = let q = to-is (ltb (s + 1) (z .width)) (s + 1) t s′ t′ e in right (q .1) (q .2) (omega (arith, q .1, ltb-true (s + 1) (z .width) (q .0))) ht
+    by true b1 b2 b3 e = let q =
+        to-is (ltb (s + 1) (z .width)) (s + 1) t s′ t′ e in right (q .1) (q .2) (omega (arith, q .1, ltb-true (s + 1) (z .width) (q .0))) ht
     by false true b2 b3 e = let q = to-is (ltb 0 s) (s - 1) t s′ t′ e in left (omega (arith, q .1, ltb-true 0 s (q .0))) (q .2) hs ht
-    by false false true b3 e = let q = to-is (ltb (t + 1) (z .height)) s (t + 1) s′ t′ e in down (q .1) (q .2) hs (omega (arith, q .2, ltb-true (t + 1) (z .height) (q .0)))
+    by false false true b3 e = let q =
+        to-is (ltb (t + 1) (z .height)) s (t + 1) s′ t′ e in down (q .1) (q .2) hs (omega (arith, q .2, ltb-true (t + 1) (z .height) (q .0)))
     by false false false true e = let q = to-is (ltb 0 t) s (t - 1) s′ t′ e in up (q .1) (omega (arith, q .2, ltb-true 0 t (q .0))) hs ht
     by false false false false e = let q : _≡_ {A = ℕ} 0 1 = cc in absurd (omega arith)
 
@@ -113,7 +115,8 @@ within-of {b} {z} k v n h l =
     }
 
 -- ---- a list with one more byte
-pub answers-one : (p : Frame) (x : State) (bs : List ℕ) (b : ℕ) → answers p x (bs ++ (b ∷ [])) ≡ answers p x bs ++ (step p (after p x bs) b .answer ∷ [])
+pub answers-one : (p : Frame) (x : State) (bs : List ℕ) (b : ℕ) →
+    answers p x (bs ++ (b ∷ [])) ≡ answers p x bs ++ (step p (after p x bs) b .answer ∷ [])
 unfolding after answers
 answers-one p x [] b = refl
 answers-one p x (c ∷ bs) b = ap (λ (l : List ℕ). x .answer ∷ l) (answers-one p (step p x c) bs b)
@@ -135,16 +138,21 @@ pub record Going (way : Way) (b : List ℕ) (ms : List ℕ) (x : State) (a z : S
   pub held : Held (frameOf b) (stateOf v) (1 + i)
 
 module _ (way : Way) (b ms : List ℕ) where
-  pub going-start : (z : Stores) (hs : List ℕ) (d : List ℤ) (v : Visit) → AtWindow way b z hs d v → Held (frameOf b) (stateOf v) 1 → Going way b ms (stateOf v) z z hs d v 0
+  pub going-start : (z : Stores) (hs : List ℕ) (d : List ℤ) (v : Visit) → AtWindow way b z hs d v → Held (frameOf b) (stateOf v) 1 →
+      Going way b ms (stateOf v) z z hs d v 0
   unfolding after
-  going-start z hs d v h on = record { most = omega arith; visited = record { state = refl; here = h; kept = kept-same way (frameOf b .set) z }; held = on }
+  going-start z hs d v h on =
+      record { most = omega arith; visited = record { state = refl; here = h; kept = kept-same way (frameOf b .set) z }; held = on }
 
-  pub going-more : (x : State) (a z : Stores) (hs : List ℕ) (d : List ℤ) (v : Visit) (i : ℕ) → Going way b ms x a z hs d v i → i < length ms → (byte : ℕ) → byte ≡ getD ms i 0
-      → (z′ : Stores) (hs′ : List ℕ) (d′ : List ℤ) (v′ : Visit) → Visited way b (step (frameOf b) (stateOf v) byte) z z′ hs′ d′ v′ → Going way b ms x a z′ hs′ d′ v′ (i + 1)
+  pub going-more : (x : State) (a z : Stores) (hs : List ℕ) (d : List ℤ) (v : Visit) (i : ℕ) → Going way b ms x a z hs d v i → i < length ms →
+      (byte : ℕ) → byte ≡ getD ms i 0
+      → (z′ : Stores) (hs′ : List ℕ) (d′ : List ℤ) (v′ : Visit) → Visited way b (step (frameOf b) (stateOf v) byte) z z′ hs′ d′ v′ →
+      Going way b ms x a z′ hs′ d′ v′ (i + 1)
   going-more x a z hs d v i w l byte eb z′ hs′ d′ v′ h =
       let p = frameOf b in
       let e : after p x (take (i + 1) ms) ≡ step p (stateOf v) byte =
-      rw (eb, add-one i, take-suc ms i 0 l) (after-one p x (take i ms) (getD ms i 0) ∙ ap (λ (q : State). step p q (getD ms i 0)) (sym (w .visited .state))) in
+      rw (eb, add-one i, take-suc ms i 0 l)
+      (after-one p x (take i ms) (getD ms i 0) ∙ ap (λ (q : State). step p q (getD ms i 0)) (sym (w .visited .state))) in
       let j : suc (1 + i) ≡ 1 + (i + 1) = omega arith in
       record {
         most = omega arith;
@@ -152,7 +160,8 @@ module _ (way : Way) (b ms : List ℕ) where
         held = subst (λ (n : ℕ). Held p (stateOf v′) n) j (subst (λ (q : State). Held p q (suc (1 + i))) (sym (h .state)) (held-step (w .held) byte));
       }
 
-  pub going-end : (x y : State) (a₀ a z : Stores) (hs : List ℕ) (d : List ℤ) (v : Visit) (i : ℕ) → Going way b ms y a z hs d v i → length ms ≤ i → y ≡ x
+  pub going-end : (x y : State) (a₀ a z : Stores) (hs : List ℕ) (d : List ℤ) (v : Visit) (i : ℕ) → Going way b ms y a z hs d v i → length ms ≤ i →
+      y ≡ x
       → Kept way (frameOf b .set) a₀ a → Visited way b (after (frameOf b) x ms) a₀ z hs d v
   going-end x y a₀ a z hs d v i w l e kept =
       let j : i ≡ length ms = omega (arith, w .most) in
@@ -164,4 +173,5 @@ module _ (way : Way) (b ms : List ℕ) where
 -- what a turn's call asks: room is kept
 pub fit-going : (way : Way) {b : List ℕ} {z : Plan} → Planned b z → (a₀ a s : Stores) → Fit way (settingsIn z) a₀ → Kept way (frameOf b .set) a₀ a
     → Kept way (frameOf b .set) a s → Fit way (settingsIn z) s
-fit-going way {b} {z} k a₀ a s h x y = let e = sym (settings-same k) in fit-kept way (settingsIn z) a₀ s h (rw e at (kept-trans way (frameOf b .set) a₀ a s x y))
+fit-going way {b} {z} k a₀ a s h x y = let e =
+    sym (settings-same k) in fit-kept way (settingsIn z) a₀ s h (rw e at (kept-trans way (frameOf b .set) a₀ a s x y))

@@ -26,7 +26,8 @@ use Rattle.ice_walk.specs.Finished.{Finished}
 use Rattle.ice_walk.proofs.Laws.{Going, going-start, going-more, going-end, answers-one, told-more}
 
 -- A₀ are the answers where the loop begins
-pub record Walking (way : Way) (b ms : List ℕ) (x : State) (a : Stores) (A₀ : List ℕ) (z : Stores) (A hs : List ℕ) (d : List ℤ) (v : Visit) (i : ℕ) : Type 0 where
+pub record Walking (way : Way) (b ms : List ℕ) (x : State) (a : Stores) (A₀ : List ℕ) (z : Stores) (A hs : List ℕ) (d : List ℤ) (v : Visit) (i : ℕ) :
+    Type 0 where
   pub going : Going way b ms x a z hs d v i
   pub told : A ≡ answers (frameOf b) x (take i ms) ++ drop (i + 1) A₀
 
@@ -36,14 +37,16 @@ pub held-first : {b : List ℕ} {z : Plan} → Planned b z → (s t : ℕ) (v : 
 held-first {b} k s t v hs ht e = subst (λ (q : State). Held (frameOf b) q 1) (sym e) (held-start (pixel-of k hs ht))
 
 -- what a visit leaves, as a loop's result
-pub finished : {way : Way} {b : List ℕ} {x : State} {a z : Stores} {hs : List ℕ} {d : List ℤ} (v : Visit) (r : Walked) → Visited way b x a z hs d v → r .verdict ≡ Accepted
+pub finished : {way : Way} {b : List ℕ} {x : State} {a z : Stores} {hs : List ℕ} {d : List ℤ} (v : Visit) (r : Walked) → Visited way b x a z hs d v →
+    r .verdict ≡ Accepted
     → r .shifts ≡ v .shifts → r .cut .0 ≡ v .cut .0 → r .cells ≡ d → Finished way (frameOf b) x a z r
 finished {way} {b} {x} {a} {z} {hs} {d} v r h e s c k =
     subst (λ (w : State). Finished way (frameOf b) w a z r) (h .state)
     (record { verdict = e; shifts = s; cut = c; holds = rw k (h .here .holds); kept = h .kept })
 
 module _ (way : Way) (b ms : List ℕ) where
-  pub walking-start : (z : Stores) (A hs : List ℕ) (d : List ℤ) (v : Visit) → 0 < length A → AtWindow way b z hs d v → Held (frameOf b) (stateOf v) 1 → (m : ℕ) → m ≡ answerNumber (v .answer)
+  pub walking-start : (z : Stores) (A hs : List ℕ) (d : List ℤ) (v : Visit) → 0 < length A → AtWindow way b z hs d v →
+      Held (frameOf b) (stateOf v) 1 → (m : ℕ) → m ≡ answerNumber (v .answer)
       → Walking way b ms (stateOf v) z (set A 0 m) z (set A 0 m) hs d v 0
   unfolding answers
   walking-start z A hs d v l h on m em =
@@ -59,7 +62,8 @@ module _ (way : Way) (b ms : List ℕ) where
       ap length (w .told) ∙ length-append (answers (frameOf b) x (take i ms)) (drop (i + 1) A₀) in
       omega (arith, e, length-answers (frameOf b) x (take i ms), length-take i ms, length-drop (i + 1) A₀, w .going .most)
 
-  pub walking-more : (x : State) (a : Stores) (A₀ : List ℕ) (z : Stores) (A hs : List ℕ) (d : List ℤ) (v : Visit) (i : ℕ) → Walking way b ms x a A₀ z A hs d v i
+  pub walking-more : (x : State) (a : Stores) (A₀ : List ℕ) (z : Stores) (A hs : List ℕ) (d : List ℤ) (v : Visit) (i : ℕ) →
+      Walking way b ms x a A₀ z A hs d v i
       → i < length ms → length ms + 1 ≤ length A₀ → (z′ : Stores) (hs′ : List ℕ) (d′ : List ℤ) (v′ : Visit)
       → Visited way b (step (frameOf b) (stateOf v) (getD ms i 0)) z z′ hs′ d′ v′ → (m : ℕ) → m ≡ answerNumber (v′ .answer)
       → Walking way b ms x a A₀ z′ (set A (i + 1) m) hs′ d′ v′ (i + 1)
@@ -73,9 +77,14 @@ module _ (way : Way) (b ms : List ℕ) where
       ∙ ap (λ (q : State). front ++ (step p q (getD ms i 0) .answer ∷ [])) (sym (w .going .visited .state))
       ∙ ap (λ (q : ℕ). front ++ (q ∷ [])) (sym said)) in
       let n : length front ≡ i + 1 = omega (arith, length-answers p x (take i ms), length-take i ms) in
-      record { going = going-more way b ms x a z hs d v i (w .going) l _ refl z′ hs′ d′ v′ h; told = rw g (told-more front A A₀ i _ n (omega arith) (w .told)) }
+      record {
+        going = going-more way b ms x a z hs d v i (w .going) l _ refl z′ hs′ d′ v′ h;
+        told =
+            rw g (told-more front A A₀ i _ n (omega arith) (w .told));
+      }
 
-  pub walking-end : (s t : ℕ) (y : State) (a₀ a : Stores) (A₁ A₀ : List ℕ) (z : Stores) (A hs : List ℕ) (d : List ℤ) (v : Visit) (i : ℕ) → Walking way b ms y a A₀ z A hs d v i
+  pub walking-end : (s t : ℕ) (y : State) (a₀ a : Stores) (A₁ A₀ : List ℕ) (z : Stores) (A hs : List ℕ) (d : List ℤ) (v : Visit) (i : ℕ) →
+      Walking way b ms y a A₀ z A hs d v i
       → length ms ≤ i → y ≡ start (frameOf b) s t → Kept way (frameOf b .set) a₀ a → (q : ℕ) → A₀ ≡ set A₁ 0 q
       → Visited way b (walkEnd (frameOf b) s t ms) a₀ z hs d v × (A ≡ walkAnswers (frameOf b) s t ms ++ drop (length ms + 1) A₁)
   unfolding walkEnd walkAnswers

@@ -2,7 +2,19 @@
 -- Assumes nothing.
 use mathlib.Core.Path.{_≡_, refl, sym, ap, _∙_}
 use Prim.Native.Nat.{ℕ, zero, suc, _-_, _*_, _/_, _%_, _^_, _≤_, _<_, min, max}
-use native.Mathlib.Nat.{pow-succ', div-div-eq-div-mul, div-one, mod-lt, div-self, lt-of-le-of-lt, le-of-suc-le-suc, zero-mul, one-mul, mul-le-mul, le-refl}
+use native.Mathlib.Nat.{
+  pow-succ',
+  div-div-eq-div-mul,
+  div-one,
+  mod-lt,
+  div-self,
+  lt-of-le-of-lt,
+  le-of-suc-le-suc,
+  zero-mul,
+  one-mul,
+  mul-le-mul,
+  le-refl,
+}
 use native.Mathlib.Omega.{arith}
 use lib.Dec.{lit<}
 use lib.Arith.{digits-mod}
@@ -126,7 +138,8 @@ shl-other (suc (suc e)) b j l n = absurd (omega arith)
 pub clear-here : (w b e : ℕ) → e ≤ 1 → b < 64 → bit (withoutBit w b e) b ≡ min (bit w b) (1 - e)
 unfolding withoutBit
 clear-here w b e l h =
-    bit-and w ((2 ^ 64 - 1) - e * 2 ^ b) b ∙ ap (min (bit w b)) (bit-not 64 (e * 2 ^ b) b (shl-low e b l h) h ∙ ap (λ (x : ℕ). 1 - x) (shl-here e b l))
+    bit-and w ((2 ^ 64 - 1) - e * 2 ^ b) b ∙ ap (min (bit w b))
+    (bit-not 64 (e * 2 ^ b) b (shl-low e b l h) h ∙ ap (λ (x : ℕ). 1 - x) (shl-here e b l))
 
 pub clear-other : (w b e j : ℕ) → e ≤ 1 → b < 64 → j < 64 → (j ≡ b → ⊥) → bit (withoutBit w b e) j ≡ bit w j
 unfolding withoutBit

@@ -34,7 +34,8 @@ below (suc n) x d zero h =
     go : (q : ℕ) → (x + d * (2 * q)) % 2 ≡ x % 2
     go q = let e : d * (2 * q) ≡ 2 * (d * q) = sym (mul-assoc d 2 q) ∙ ap (λ (k : ℕ). k * q) (mul-comm d 2) ∙ mul-assoc 2 d q in rw e (omega arith)
 below (suc n) x d (suc j) h =
-    bit-suc (x + d * 2 ^ suc n) j ∙ ap (λ (q : ℕ). bit ((x + d * q) / 2) j) (pow-succ' 2 n) ∙ ap (λ (q : ℕ). bit q j) (go (2 ^ n)) ∙ below n (x / 2) d j (omega arith) ∙ sym (bit-suc x j)
+    bit-suc (x + d * 2 ^ suc n) j ∙ ap (λ (q : ℕ). bit ((x + d * q) / 2) j) (pow-succ' 2 n) ∙ ap (λ (q : ℕ). bit q j) (go (2 ^ n)) ∙ below n (x / 2)
+    d j (omega arith) ∙ sym (bit-suc x j)
   where
     go : (q : ℕ) → (x + d * (2 * q)) / 2 ≡ x / 2 + d * q
     go q = let e : d * (2 * q) ≡ 2 * (d * q) = sym (mul-assoc d 2 q) ∙ ap (λ (k : ℕ). k * q) (mul-comm d 2) ∙ mul-assoc 2 d q in rw e (omega arith)
@@ -42,7 +43,8 @@ below (suc n) x d (suc j) h =
 top : (n x d : ℕ) → x < 2 ^ n → d ≤ 1 → bit (x + d * 2 ^ n) n ≡ d
 unfolding bit
 top n x d h k =
-    ap (λ (q : ℕ). q / 2 ^ n % 2) (native.Mathlib.Nat.add-comm x (d * 2 ^ n)) ∙ ap (λ (q : ℕ). q % 2) (digits-div d h) ∙ native.Mathlib.Nat.mod-eq-of-lt (omega arith)
+    ap (λ (q : ℕ). q / 2 ^ n % 2) (native.Mathlib.Nat.add-comm x (d * 2 ^ n)) ∙ ap (λ (q : ℕ). q % 2) (digits-div d h) ∙
+    native.Mathlib.Nat.mod-eq-of-lt (omega arith)
 
 module _ (d : ℕ → ℕ) (one : (k : ℕ) → d k ≤ 1) where
   abbrev digits : ℕ → ℕ
@@ -58,7 +60,10 @@ module _ (d : ℕ → ℕ) (one : (k : ℕ) → d k ≤ 1) where
 
   pub digits-lt : (n : ℕ) → digits n < 2 ^ n
   digits-lt zero = digits-none
-  digits-lt (suc n) = rw (digits-next n) (go (2 ^ suc n) (2 ^ n) (pow-succ' 2 n) (digits n) (d n * 2 ^ n) (digits-lt n) (native.Mathlib.Nat.mul-le-mul (one n) (native.Mathlib.Nat.le-refl (2 ^ n))))
+  digits-lt (suc n) =
+      rw (digits-next n)
+      (go (2 ^ suc n) (2 ^ n) (pow-succ' 2 n) (digits n) (d n * 2 ^ n) (digits-lt n)
+      (native.Mathlib.Nat.mul-le-mul (one n) (native.Mathlib.Nat.le-refl (2 ^ n))))
     where
       go : (p q : ℕ) → p ≡ 2 * q → (x y : ℕ) → x < q → y ≤ 1 * q → x + y < p
       go p q e x y h k = omega arith
@@ -80,7 +85,8 @@ same-bits zero x y hx hy h = none x y hx hy
     none x y u v = omega arith
 same-bits (suc n) x y hx hy h =
     let low : x % 2 ≡ y % 2 = sym (bit-zero x) ∙ h 0 (omega arith) ∙ bit-zero y in
-    let high : x / 2 ≡ y / 2 = same-bits n (x / 2) (y / 2) (less x (2 ^ suc n) (2 ^ n) (pow-succ' 2 n) hx) (less y (2 ^ suc n) (2 ^ n) (pow-succ' 2 n) hy)
+    let high : x / 2 ≡ y / 2 =
+    same-bits n (x / 2) (y / 2) (less x (2 ^ suc n) (2 ^ n) (pow-succ' 2 n) hx) (less y (2 ^ suc n) (2 ^ n) (pow-succ' 2 n) hy)
     (λ j l. sym (bit-suc x j) ∙ h (suc j) (omega arith) ∙ bit-suc y j) in
     omega arith
   where
@@ -88,11 +94,13 @@ same-bits (suc n) x y hx hy h =
     less x p q e h = omega arith
 
 -- ---- a list that begins with another
-pub begins : {A : Type 0} (d : A) (n : ℕ) (xs ys : List A) → length ys ≡ n → n ≤ length xs → ((k : ℕ) → k < n → getD xs k d ≡ getD ys k d) → xs ≡ ys ++ drop n xs
+pub begins : {A : Type 0} (d : A) (n : ℕ) (xs ys : List A) → length ys ≡ n → n ≤ length xs → ((k : ℕ) → k < n → getD xs k d ≡ getD ys k d) →
+    xs ≡ ys ++ drop n xs
 begins d n xs ys e h same =
     sym (take-append-drop n xs)
     ∙ ap (λ (q : List _). q ++ drop n xs)
-    (ext-getD d (take n xs) ys (length-take-le n xs h ∙ sym e) (λ i l. let k : i < n = subst (λ (m : ℕ). i < m) (length-take-le n xs h) l in getD-take n xs i d k ∙ same i k))
+    (ext-getD d (take n xs) ys (length-take-le n xs h ∙ sym e) (λ i l. let k : i < n =
+    subst (λ (m : ℕ). i < m) (length-take-le n xs h) l in getD-take n xs i d k ∙ same i k))
 
 pub begun : {A : Type 0} (d : A) (n : ℕ) (xs ys : List A) → length ys ≡ n → xs ≡ ys ++ drop n xs → (k : ℕ) → k < n → getD xs k d ≡ getD ys k d
 begun d n xs ys e eq k h = ap (λ (q : List _). getD q k d) eq ∙ List·getD-append ys (drop n xs) d k (rw e h)
@@ -145,7 +153,9 @@ module _ (p : Frame) (s t : ℕ) (spot : Pixel p s t) where
 
   word-bit : (i j c : ℕ) → c < 64 → bit (occupancyWord p s t i j) c ≡ min 1 (count p s t i (64 * j + c))
   unfolding occupancyWord
-  word-bit i j c h = digits-bit (λ c. indicator (ltb 0 (count p s t i (64 * j + c)))) (λ c. one-le (ltb 0 (count p s t i (64 * j + c)))) 64 c h ∙ one-min (count p s t i (64 * j + c))
+  word-bit i j c h =
+      digits-bit (λ c. indicator (ltb 0 (count p s t i (64 * j + c)))) (λ c. one-le (ltb 0 (count p s t i (64 * j + c)))) 64 c h ∙ one-min
+      (count p s t i (64 * j + c))
 
   word-lt : (i j : ℕ) → occupancyWord p s t i j < 2 ^ 64
   unfolding occupancyWord
@@ -161,13 +171,16 @@ module _ (p : Frame) (s t : ℕ) (spot : Pixel p s t) where
 
   count-at : (i f : ℕ) → i < L → f < M → getD (jointCounts p s t) (cellAt M i f) 0 ≡ count p s t i f
   unfolding jointCounts
-  count-at i f h k = getD-tabulate (L * M) _ (cellAt M i f) 0 (lib.Arith.digits-lt h k) ∙ ap₂ (λ (a c : ℕ). count p s t a c) (digits-div i k) (digits-mod i k)
+  count-at i f h k =
+      getD-tabulate (L * M) _ (cellAt M i f) 0 (lib.Arith.digits-lt h k) ∙ ap₂ (λ (a c : ℕ). count p s t a c) (digits-div i k) (digits-mod i k)
 
   word-at : (i j : ℕ) → i < L → j < K → getD (occupancyWords p s t) (i * K + j) 0 ≡ occupancyWord p s t i j
   unfolding occupancyWords
-  word-at i j h k = getD-tabulate (L * K) _ (i * K + j) 0 (lib.Arith.digits-lt h k) ∙ ap₂ (λ (a c : ℕ). occupancyWord p s t a c) (digits-div i k) (digits-mod i k)
+  word-at i j h k =
+      getD-tabulate (L * K) _ (i * K + j) 0 (lib.Arith.digits-lt h k) ∙ ap₂ (λ (a c : ℕ). occupancyWord p s t a c) (digits-div i k) (digits-mod i k)
 
-  pub lists-rep : (xs ws : List ℕ) → xs ≡ jointCounts p s t ++ drop (L * M) xs → ws ≡ occupancyWords p s t ++ drop (L * K) ws → Rep L M (count p s t) xs ws
+  pub lists-rep : (xs ws : List ℕ) → xs ≡ jointCounts p s t ++ drop (L * M) xs → ws ≡ occupancyWords p s t ++ drop (L * K) ws →
+      Rep L M (count p s t) xs ws
   lists-rep xs ws ex ew = record {
     outside = λ i g u h. count-none i g h;
     cells = λ i f h k. begun 0 (L * M) xs (jointCounts p s t) counts-long ex (cellAt M i f) (lib.Arith.digits-lt h k) ∙ count-at i f h k;
@@ -177,7 +190,8 @@ module _ (p : Frame) (s t : ℕ) (spot : Pixel p s t) where
       mark : (i g : ℕ) → i < L → g < wordsPer M * 64 → bit (getD ws (wordAt M i g) 0) (g % 64) ≡ min 1 (count p s t i g)
       mark i g h k =
           let j : g / 64 < K = omega arith in
-          ap (λ (q : ℕ). bit q (g % 64)) (begun 0 (L * K) ws (occupancyWords p s t) bits-long ew (wordAt M i g) (lib.Arith.digits-lt h j) ∙ word-at i (g / 64) h j)
+          ap (λ (q : ℕ). bit q (g % 64))
+          (begun 0 (L * K) ws (occupancyWords p s t) bits-long ew (wordAt M i g) (lib.Arith.digits-lt h j) ∙ word-at i (g / 64) h j)
           ∙ word-bit i (g / 64) (g % 64) (omega arith) ∙ ap (λ (q : ℕ). min 1 (count p s t i q)) (whole g)
         where
           whole : (g : ℕ) → 64 * (g / 64) + g % 64 ≡ g
@@ -192,9 +206,11 @@ module _ (p : Frame) (s t : ℕ) (spot : Pixel p s t) where
           let e : k / M * M + k % M ≡ k = div-add-mod' k M in
           let f : k % M < M = mod-lt k m0 in
           let i : k / M < L = div-lt-iff-lt-mul m0 .1 l in
-          ap (λ (q : ℕ). getD xs q 0) (sym e) ∙ r .cells (k / M) (k % M) i f ∙ sym (count-at (k / M) (k % M) i f) ∙ ap (λ (q : ℕ). getD (jointCounts p s t) q 0) e
+          ap (λ (q : ℕ). getD xs q 0) (sym e) ∙ r .cells (k / M) (k % M) i f ∙ sym (count-at (k / M) (k % M) i f) ∙ ap
+          (λ (q : ℕ). getD (jointCounts p s t) q 0) e
 
-  pub rep-bits : (xs ws : List ℕ) → Rep L M (count p s t) xs ws → L * K ≤ length ws → ((k : ℕ) → getD ws k 0 < 2 ^ 64) → ws ≡ occupancyWords p s t ++ drop (L * K) ws
+  pub rep-bits : (xs ws : List ℕ) → Rep L M (count p s t) xs ws → L * K ≤ length ws → ((k : ℕ) → getD ws k 0 < 2 ^ 64) →
+      ws ≡ occupancyWords p s t ++ drop (L * K) ws
   rep-bits xs ws r h fit = begins 0 (L * K) ws (occupancyWords p s t) bits-long h (λ k l. each k l)
     where
       at : (i j : ℕ) → i < L → j < K → getD ws (i * K + j) 0 ≡ occupancyWord p s t i j
@@ -212,4 +228,5 @@ module _ (p : Frame) (s t : ℕ) (spot : Pixel p s t) where
           let e : k / K * K + k % K ≡ k = div-add-mod' k K in
           let j : k % K < K = mod-lt k m0 in
           let i : k / K < L = div-lt-iff-lt-mul m0 .1 l in
-          ap (λ (q : ℕ). getD ws q 0) (sym e) ∙ at (k / K) (k % K) i j ∙ sym (word-at (k / K) (k % K) i j) ∙ ap (λ (q : ℕ). getD (occupancyWords p s t) q 0) e
+          ap (λ (q : ℕ). getD ws q 0) (sym e) ∙ at (k / K) (k % K) i j ∙ sym (word-at (k / K) (k % K) i j) ∙ ap
+          (λ (q : ℕ). getD (occupancyWords p s t) q 0) e

@@ -27,14 +27,42 @@ use Rattle.window.proofs.PixelLaws.{guides-high, levels-high}
 use Rattle.window.proofs.FormLaws.{both-in}
 use Rattle.pixels.specs.Pixels.{countOf, levelIn, guideIn, pixelFoldTo, pixelFold, LinePixels}
 use Rattle.pixels.specs.Additive.{changed, changedℤ, Fits}
-use Rattle.pixels.proofs.AdditiveLaws.{changed-none, changed-next, changed-noneℤ, changed-abs, fits-next, pixels-none, pixels-next, upto, high, high-abs, integers, passed-none, passed-next, exchangedℤ, stepped, slid}
+use Rattle.pixels.proofs.AdditiveLaws.{
+  changed-none,
+  changed-next,
+  changed-noneℤ,
+  changed-abs,
+  fits-next,
+  pixels-none,
+  pixels-next,
+  upto,
+  high,
+  high-abs,
+  integers,
+  passed-none,
+  passed-next,
+  exchangedℤ,
+  stepped,
+  slid,
+}
 use Rattle.joint.specs.Store.{cellAt, wordAt, wordsPer, Place, changedCounts, changedWords, countIn, hit}
 use Rattle.joint.specs.Side.{side, sideOf}
 use Rattle.joint.specs.List.{listCount, boxAt, Countable, BoxRoom, CountsPassed, BoxPassed, Exchangeable, CountsExchanged, BoxExchanged}
 use Rattle.joint.specs.Window.{JointAt, Held}
 use Rattle.joint.proofs.RepLaws.{hit-same, rep-changed, rep-eq, count-in}
 use Rattle.joint.proofs.ListLaws.{rep-own, rep-self}
-use Rattle.joint.proofs.WindowLaws.{cell-sum, plan-cells, plan-words, joint-of, held-pixel, held-rep, held-cells, held-words, held-low, held-long}
+use Rattle.joint.proofs.WindowLaws.{
+  cell-sum,
+  plan-cells,
+  plan-words,
+  joint-of,
+  held-pixel,
+  held-rep,
+  held-cells,
+  held-words,
+  held-low,
+  held-long,
+}
 use Rattle.joint.proofs.SideLaws.{side-here, side-away, side-abs}
 
 -- ---- places
@@ -52,7 +80,9 @@ module _ {w : Bool} {m : ℕ} {p xs ws : List ℕ} (a : Countable w m p xs ws) w
   pub counts-none : CountsPassed w (a .levels) m p 0 xs ws xs ws
   counts-none = record {
     kept = record { long = refl; long-words = refl; rest = refl; rest-words = refl };
-    held = rep-eq L m (countIn m xs) _ xs ws (λ i f h. sym (ap (changed w (countIn m xs i f)) (pixels-none _+_ 0 p (λ v g. hit v g i f)) ∙ changed-none w (countIn m xs i f))) (a .held);
+    held =
+        rep-eq L m (countIn m xs) _ xs ws
+        (λ i f h. sym (ap (changed w (countIn m xs i f)) (pixels-none _+_ 0 p (λ v g. hit v g i f)) ∙ changed-none w (countIn m xs i f))) (a .held);
   }
 
   module _ {k : ℕ} (h : k < countOf p) {xs₁ ws₁ : List ℕ} (g : CountsPassed w (a .levels) m p k xs ws xs₁ ws₁) where
@@ -88,7 +118,8 @@ module _ {w : Bool} {m : ℕ} {p xs ws : List ℕ} (a : Countable w m p xs ws) w
         (omega (arith, one-more i f, hit-same i f, upto p (λ v g. hit v g i f) (suc k) (countOf p) (omega arith))))
 
     -- what it gives
-    pub counts-next : {xs₂ ws₂ : List ℕ} → xs₂ ≡ changedCounts w m (levelIn p k) (guideIn p k) xs₁ → ws₂ ≡ changedWords w m (levelIn p k) (guideIn p k) xs₁ ws₁
+    pub counts-next : {xs₂ ws₂ : List ℕ} → xs₂ ≡ changedCounts w m (levelIn p k) (guideIn p k) xs₁ →
+        ws₂ ≡ changedWords w m (levelIn p k) (guideIn p k) xs₁ ws₁
         → CountsPassed w (a .levels) m p (k + 1) xs ws xs₂ ws₂
     unfolding changedCounts changedWords
     counts-next ex ew =
@@ -100,7 +131,10 @@ module _ {w : Bool} {m : ℕ} {p xs ws : List ℕ} (a : Countable w m p xs ws) w
             rest = drop-set-lt (L * m) xs₁ (cellAt m i f) _ (digits-lt hi hf) ∙ g .kept .rest;
             rest-words = drop-set-lt (L * wordsPer m) ws₁ (wordAt m i f) _ (digits-lt hi kf) ∙ g .kept .rest-words;
           };
-          held = rep-eq L m _ _ _ _ (λ i′ f′ u. changed-next w (countIn m xs i′ f′) (listCount p k i′ f′) (hit i f i′ f′) ∙ ap (changed w (countIn m xs i′ f′)) (sym (one-more i′ f′)))
+          held =
+              rep-eq L m _ _ _ _
+              (λ i′ f′ u. changed-next w (countIn m xs i′ f′) (listCount p k i′ f′) (hit i f i′ f′) ∙ ap (changed w (countIn m xs i′ f′))
+              (sym (one-more i′ f′)))
               (rep-changed w L m i f _ xs₁ ws₁ hi hf hx hw (g .held));
         })
 
@@ -108,16 +142,23 @@ module _ {w : Bool} {m : ℕ} {p xs ws : List ℕ} (a : Countable w m p xs ws) w
 module _ (w : Bool) (c : ℕ) (p : List ℕ) where
   pub list-abs : (k f : ℕ) (x : ℤ) → natAbs (changedℤ w x (pixelFoldTo _+ℤ_ (pos 0) p (sideOf c f) k)) ≤ natAbs x + k
   list-abs k f x =
-      omega (arith, changed-abs w x (pixelFoldTo _+ℤ_ (pos 0) p (sideOf c f) k), high-abs p (sideOf c f) 1 k (λ j h. side-abs c f (levelIn p j) (guideIn p j)))
+      omega (
+        arith,
+        changed-abs w x (pixelFoldTo _+ℤ_ (pos 0) p (sideOf c f) k),
+        high-abs p (sideOf c f) 1 k
+            (λ j h. side-abs c f (levelIn p j) (guideIn p j)),
+      )
 
   pub box-none : (bx : List ℤ) → BoxPassed w c p 0 bx bx
   box-none bx = record { long = refl; passed = passed-none integers (sideOf c) w p (boxAt bx) }
 
-  module _ {bx : List ℤ} (br : BoxRoom (countOf p) bx) {k : ℕ} (h : k < countOf p) (low : guideIn p k < 256) {bx₁ : List ℤ} (g : BoxPassed w c p k bx bx₁) where
+  module _ {bx : List ℤ} (br : BoxRoom (countOf p) bx) {k : ℕ} (h : k < countOf p) (low : guideIn p k < 256) {bx₁ : List ℤ}
+      (g : BoxPassed w c p k bx bx₁) where
     pub cell-room : natAbs (getD bx₁ (guideIn p k) (pos 0)) ≤ 32766
     cell-room = rw (g .passed .cells (guideIn p k)) (omega (arith, list-abs k (guideIn p k) (boxAt bx (guideIn p k)), br .room (guideIn p k), h))
 
-    pub box-next : {bx₂ : List ℤ} → bx₂ ≡ set bx₁ (guideIn p k) (changedℤ w (getD bx₁ (guideIn p k) (pos 0)) (side c (levelIn p k))) → BoxPassed w c p (k + 1) bx bx₂
+    pub box-next : {bx₂ : List ℤ} → bx₂ ≡ set bx₁ (guideIn p k) (changedℤ w (getD bx₁ (guideIn p k) (pos 0)) (side c (levelIn p k))) →
+        BoxPassed w c p (k + 1) bx bx₂
     box-next e = rw e (record {
       long = length-set bx₁ _ _ ∙ g .long;
       passed = passed-next integers (sideOf c) (g .passed) (λ f′. ⊎-elim (at-cell f′) (off-cell f′) (eq-or-ne f′ f));
@@ -154,7 +195,8 @@ pub list-le : (p : List ℕ) (k i f : ℕ) → listCount p k i f ≤ k
 list-le p k i f = omega (arith, high p (λ v g. hit v g i f) 1 k (λ j h. hit-le (levelIn p j) (guideIn p j) i f) k (omega arith))
 
 -- ---- one list in, another out
-module _ {m : ℕ} {e l xs ws : List ℕ} (x : Exchangeable m e l xs ws) {xs₁ ws₁ : List ℕ} (g : CountsPassed true (x .entering .levels) m e (countOf e) xs ws xs₁ ws₁) where
+module _ {m : ℕ} {e l xs ws : List ℕ} (x : Exchangeable m e l xs ws) {xs₁ ws₁ : List ℕ}
+    (g : CountsPassed true (x .entering .levels) m e (countOf e) xs ws xs₁ ws₁) where
   pub own₁ : (i f : ℕ) → i < x .entering .levels → countIn m xs₁ i f ≡ countIn m xs i f + listCount e (countOf e) i f
   unfolding changed
   own₁ i f h = sym (rep-own _ _ _ xs₁ ws₁ (g .held) i f h)
@@ -191,13 +233,19 @@ module _ (e l : List ℕ) {bx : List ℤ} (br : BoxRoom (countOf e + countOf l) 
 
   module _ {c : ℕ} {bx₁ : List ℤ} (g : BoxPassed true c e (countOf e) bx bx₁) where
     pub leave-box : BoxRoom (countOf l) bx₁
-    leave-box = record { long = g .long ∙ br .long; room = λ f. rw (g .passed .cells f) (omega (arith, list-abs true c e (countOf e) f (boxAt bx f), br .room f)) }
+    leave-box =
+        record {
+          long = g .long ∙ br .long;
+          room =
+              λ f. rw (g .passed .cells f) (omega (arith, list-abs true c e (countOf e) f (boxAt bx f), br .room f));
+        }
 
     pub box-exchanged : {bx₂ : List ℤ} → BoxPassed false c l (countOf l) bx₁ bx₂ → BoxExchanged c e l bx bx₂
     box-exchanged o = record { long = o .long ∙ g .long; exchanged = exchangedℤ (sideOf c) (g .passed) (o .passed) }
 
 -- ---- a window's stores and box, moved to a neighbour
-module _ {b : List ℕ} {z : Plan} {s t c : ℕ} {xs ws : List ℕ} {bx : List ℤ} (hd : Held b z s t c xs ws bx) {s′ t′ : ℕ} {d : Step} (adj : Adjacent z s t s′ t′) (ed : d ≡ stepOf z s t s′ t′)
+module _ {b : List ℕ} {z : Plan} {s t c : ℕ} {xs ws : List ℕ} {bx : List ℤ} (hd : Held b z s t c xs ws bx) {s′ t′ : ℕ} {d : Step}
+    (adj : Adjacent z s t s′ t′) (ed : d ≡ stepOf z s t s′ t′)
     {e l : List ℕ} (re : LinePixels b z (d .entering) e) (rl : LinePixels b z (d .leaving) l) where
   abbrev at : ℕ → ℕ → ℕ → ℕ → ℕ
   at i f v g = hit v g i f
@@ -229,7 +277,8 @@ module _ {b : List ℕ} {z : Plan} {s t c : ℕ} {xs ws : List ℕ} {bx : List �
     record { long = held-long hd; room = λ f. omega (arith, held-low hd f, re .below .few, rl .below .few) },
   )
 
-  pub exchanged-joint : {xs₂ ws₂ : List ℕ} {bx₂ : List ℤ} → ((a : Exchangeable (z .guides) e l xs ws) → CountsExchanged (a .entering .levels) (z .guides) e l xs ws xs₂ ws₂)
+  pub exchanged-joint : {xs₂ ws₂ : List ℕ} {bx₂ : List ℤ} →
+      ((a : Exchangeable (z .guides) e l xs ws) → CountsExchanged (a .entering .levels) (z .guides) e l xs ws xs₂ ws₂)
       → BoxExchanged c e l bx bx₂ → JointAt (frameOf b) s′ t′ c xs ws xs₂ ws₂ bx₂
   unfolding exchange-asks entering-countable
   exchanged-joint {xs₂} {ws₂} {bx₂} after u =
@@ -238,7 +287,8 @@ module _ {b : List ℕ} {z : Plan} {s t c : ℕ} {xs ws : List ℕ} {bx : List �
       joint-of (hd .planned) (pixel-of (hd .planned) (q .2) (q .3))
       (o .kept)
       (held-cells hd) (held-words hd)
-      (rep-eq _ _ _ (count (frameOf b) s′ t′) xs₂ ws₂ (λ i f h. omega (arith, rep-own _ _ _ xs ws (held-rep hd) i f h, counts-step i f)) (o .held)) (o .fits)
+      (rep-eq _ _ _ (count (frameOf b) s′ t′) xs₂ ws₂ (λ i f h. omega (arith, rep-own _ _ _ xs ws (held-rep hd) i f h, counts-step i f)) (o .held))
+      (o .fits)
       (u .long ∙ held-long hd) each
     where
       each : (f : ℕ) → f < 256 → boxAt bx₂ f ≡ cell (frameOf b) s′ t′ c f

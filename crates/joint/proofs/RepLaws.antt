@@ -43,7 +43,8 @@ row-inj m i f i′ f′ h h′ e = (
 )
 
 -- ---- a store in a list of rows, read at another place
-pub cell-store : (m i f i′ f′ v : ℕ) (xs : List ℕ) → f < m → f′ < m → Apart i f i′ f′ → getD (set xs (cellAt m i f) v) (cellAt m i′ f′) 0 ≡ getD xs (cellAt m i′ f′) 0
+pub cell-store : (m i f i′ f′ v : ℕ) (xs : List ℕ) → f < m → f′ < m → Apart i f i′ f′ →
+    getD (set xs (cellAt m i f) v) (cellAt m i′ f′) 0 ≡ getD xs (cellAt m i′ f′) 0
 cell-store m i f i′ f′ v xs h h′ n =
     getD-set-other xs (cellAt m i f) (cellAt m i′ f′) v 0 (λ e. let r = row-inj m i f i′ f′ h h′ e in n (r .0) (r .1))
 
@@ -61,7 +62,8 @@ mark-store m i f i′ g v ws inside hf hg old n = ⊎-elim same other (eq-or-ne 
         ∙ old (g % 64) (omega arith) (λ d. n (r .0) (omega arith))
         ∙ ap (λ (x : ℕ). bit (getD ws x 0) (g % 64)) (sym e)
 
-    other : (wordAt m i′ g ≡ wordAt m i f → ⊥) → bit (getD (set ws (wordAt m i f) v) (wordAt m i′ g) 0) (g % 64) ≡ bit (getD ws (wordAt m i′ g) 0) (g % 64)
+    other : (wordAt m i′ g ≡ wordAt m i f → ⊥) →
+        bit (getD (set ws (wordAt m i f) v) (wordAt m i′ g) 0) (g % 64) ≡ bit (getD ws (wordAt m i′ g) 0) (g % 64)
     other d = ap (λ (x : ℕ). bit x (g % 64)) (getD-set-other ws (wordAt m i f) (wordAt m i′ g) v 0 d)
 
 -- ---- a pixel that enters or leaves
@@ -80,7 +82,8 @@ module _ (w : Bool) (m i f : ℕ) (xs ws : List ℕ) where
   unfolding changedCounts changed
   leaves-counts e = rw e refl
 
-  pub leaves-words : w ≡ false → changedWords w m i f xs ws ≡ set ws (wordAt m i f) (withoutBit (getD ws (wordAt m i f) 0) (f % 64) (1 - (getD xs (cellAt m i f) 0 - 1)))
+  pub leaves-words : w ≡ false →
+      changedWords w m i f xs ws ≡ set ws (wordAt m i f) (withoutBit (getD ws (wordAt m i f) 0) (f % 64) (1 - (getD xs (cellAt m i f) 0 - 1)))
   unfolding changedWords changedWord
   leaves-words e = rw e refl
 
@@ -97,8 +100,10 @@ unfolding changedWord
 word-other true word b n j h k d = set-other word b j d
 word-other false word b n j h k d = clear-other word b (1 - (n - 1)) j (omega arith) h k d
 
-module _ (w : Bool) (l m i f : ℕ) (cnt : ℕ → ℕ → ℕ) (xs ws : List ℕ) (hi : i < l) (hf : f < m) (hx : cellAt m i f < length xs) (hw : wordAt m i f < length ws) where
-  pub rep-changed : Rep l m cnt xs ws → Rep l m (λ i′ f′. changed w (cnt i′ f′) (hit i f i′ f′)) (changedCounts w m i f xs) (changedWords w m i f xs ws)
+module _ (w : Bool) (l m i f : ℕ) (cnt : ℕ → ℕ → ℕ) (xs ws : List ℕ) (hi : i < l) (hf : f < m) (hx : cellAt m i f < length xs)
+    (hw : wordAt m i f < length ws) where
+  pub rep-changed : Rep l m cnt xs ws →
+      Rep l m (λ i′ f′. changed w (cnt i′ f′) (hit i f i′ f′)) (changedCounts w m i f xs) (changedWords w m i f xs ws)
   unfolding changedCounts changedWords
   rep-changed r = record {
     outside = λ i′ g u h. rw (hit-apart i f i′ g (λ p q. omega arith)) (changed-none w (cnt i′ g) ∙ r .outside i′ g u h);
@@ -115,21 +120,27 @@ module _ (w : Bool) (l m i f : ℕ) (cnt : ℕ → ℕ → ℕ) (xs ws : List �
       new : changed w n 1 ≡ changed w (cnt i f) (hit i f i f)
       new = ap₂ (changed w) (r .cells i f hi hf) (sym (hit-same i f))
 
-      at-cell : (i′ f′ : ℕ) → (i′ ≡ i) × (f′ ≡ f) → getD (set xs (cellAt m i f) (changed w n 1)) (cellAt m i′ f′) 0 ≡ changed w (cnt i′ f′) (hit i f i′ f′)
+      at-cell : (i′ f′ : ℕ) → (i′ ≡ i) × (f′ ≡ f) →
+          getD (set xs (cellAt m i f) (changed w n 1)) (cellAt m i′ f′) 0 ≡ changed w (cnt i′ f′) (hit i f i′ f′)
       at-cell i′ f′ e = rw (e .0, e .1) (getD-set-same xs (cellAt m i f) (changed w n 1) 0 hx ∙ new)
 
-      off-cell : (i′ f′ : ℕ) → i′ < l → f′ < m → Apart i f i′ f′ → getD (set xs (cellAt m i f) (changed w n 1)) (cellAt m i′ f′) 0 ≡ changed w (cnt i′ f′) (hit i f i′ f′)
-      off-cell i′ f′ h k d = rw (hit-apart i f i′ f′ d) (cell-store m i f i′ f′ (changed w n 1) xs hf k d ∙ r .cells i′ f′ h k ∙ sym (changed-none w (cnt i′ f′)))
+      off-cell : (i′ f′ : ℕ) → i′ < l → f′ < m → Apart i f i′ f′ →
+          getD (set xs (cellAt m i f) (changed w n 1)) (cellAt m i′ f′) 0 ≡ changed w (cnt i′ f′) (hit i f i′ f′)
+      off-cell i′ f′ h k d =
+          rw (hit-apart i f i′ f′ d) (cell-store m i f i′ f′ (changed w n 1) xs hf k d ∙ r .cells i′ f′ h k ∙ sym (changed-none w (cnt i′ f′)))
 
-      at-mark : (i′ g : ℕ) → (i′ ≡ i) × (g ≡ f) → bit (getD (set ws (wordAt m i f) v) (wordAt m i′ g) 0) (g % 64) ≡ min 1 (changed w (cnt i′ g) (hit i f i′ g))
+      at-mark : (i′ g : ℕ) → (i′ ≡ i) × (g ≡ f) →
+          bit (getD (set ws (wordAt m i f) v) (wordAt m i′ g) 0) (g % 64) ≡ min 1 (changed w (cnt i′ g) (hit i f i′ g))
       at-mark i′ g e =
           rw (e .0, e .1) (ap (λ (x : ℕ). bit x (f % 64)) (getD-set-same ws (wordAt m i f) v 0 hw)
           ∙ word-here w (getD ws (wordAt m i f) 0) (f % 64) n (omega arith) (r .marks i f hi (omega arith) ∙ ap (min 1) (sym (r .cells i f hi hf)))
           ∙ ap (min 1) new)
 
-      off-mark : (i′ g : ℕ) → i′ < l → g < wordsPer m * 64 → Apart i f i′ g → bit (getD (set ws (wordAt m i f) v) (wordAt m i′ g) 0) (g % 64) ≡ min 1 (changed w (cnt i′ g) (hit i f i′ g))
+      off-mark : (i′ g : ℕ) → i′ < l → g < wordsPer m * 64 → Apart i f i′ g →
+          bit (getD (set ws (wordAt m i f) v) (wordAt m i′ g) 0) (g % 64) ≡ min 1 (changed w (cnt i′ g) (hit i f i′ g))
       off-mark i′ g h k d =
-          rw (hit-apart i f i′ g d) (mark-store m i f i′ g v ws hw (omega arith) k (λ j a b. word-other w (getD ws (wordAt m i f) 0) (f % 64) n j (omega arith) a b) d
+          rw (hit-apart i f i′ g d)
+          (mark-store m i f i′ g v ws hw (omega arith) k (λ j a b. word-other w (getD ws (wordAt m i f) 0) (f % 64) n j (omega arith) a b) d
           ∙ r .marks i′ g h k ∙ ap (min 1) (sym (changed-none w (cnt i′ g))))
 
 pub rep-eq : (l m : ℕ) (cnt cnt′ : ℕ → ℕ → ℕ) (xs ws : List ℕ) → ((i f : ℕ) → i < l → cnt i f ≡ cnt′ i f) → Rep l m cnt xs ws → Rep l m cnt′ xs ws

@@ -9,7 +9,19 @@ use native.Mathlib.Numerals.{add-one}
 use native.Mathlib.Omega.{arith}
 use lib.Arith.{digits-lt}
 use lib.Dec.{lit<}
-use lib.ListN.{length, getD, set, drop, replicate, length-append, length-replicate, length-drop, getD-replicate, List·getD-append, replicate-append-replicate}
+use lib.ListN.{
+  length,
+  getD,
+  set,
+  drop,
+  replicate,
+  length-append,
+  length-replicate,
+  length-drop,
+  getD-replicate,
+  List·getD-append,
+  replicate-append-replicate,
+}
 use lib.Seq.{drop-cons, set-at, append-snoc, drop-at}
 use lib.IntN.{ℤ, pos, _+ℤ_}
 use Rattle.spec.specs.declared.Plan.{Plan}
@@ -73,13 +85,16 @@ module _ {b : List ℕ} {z : Plan} (pl : Planned b z) where
   K = wordsPer (z .guides)
 
   -- after the zeros nothing is held
-  pub cleared : (x t c : ℕ) {xs ws xs₁ ws₁ : List ℕ} → L * M ≤ length xs → L * K ≤ length ws → xs₁ ≡ replicate (L * M) 0 ++ drop (L * M) xs → ws₁ ≡ replicate (L * K) 0 ++ drop (L * K) ws
+  pub cleared : (x t c : ℕ) {xs ws xs₁ ws₁ : List ℕ} → L * M ≤ length xs → L * K ≤ length ws → xs₁ ≡ replicate (L * M) 0 ++ drop (L * M) xs →
+      ws₁ ≡ replicate (L * K) 0 ++ drop (L * K) ws
       → (Filled b z x t c 0 xs₁ ws₁ xs₁ ws₁ (replicate 256 (pos 0))) × RestKept (z .levels) (z .guides) xs ws xs₁ ws₁
   cleared x t c {xs} {ws} {xs₁} {ws₁} hx hw ex ew =
       let lx : length xs₁ ≡ length xs = ap length ex ∙ clear-long xs (L * M) hx in
       let lw : length ws₁ ≡ length ws = ap length ew ∙ clear-long ws (L * K) hw in
-      let cell0 : (i f : ℕ) → i < L → f < M → getD xs₁ (cellAt M i f) 0 ≡ 0 = λ i f h k. ap (λ (q : List ℕ). getD q (cellAt M i f) 0) ex ∙ clear-at xs (L * M) (cellAt M i f) (digits-lt h k) in
-      let word0 : (i j : ℕ) → i < L → j < K → getD ws₁ (i * K + j) 0 ≡ 0 = λ i j h k. ap (λ (q : List ℕ). getD q (i * K + j) 0) ew ∙ clear-at ws (L * K) (i * K + j) (digits-lt h k) in (
+      let cell0 : (i f : ℕ) → i < L → f < M → getD xs₁ (cellAt M i f) 0 ≡ 0 =
+      λ i f h k. ap (λ (q : List ℕ). getD q (cellAt M i f) 0) ex ∙ clear-at xs (L * M) (cellAt M i f) (digits-lt h k) in
+      let word0 : (i j : ℕ) → i < L → j < K → getD ws₁ (i * K + j) 0 ≡ 0 =
+      λ i j h k. ap (λ (q : List ℕ). getD q (i * K + j) 0) ew ∙ clear-at ws (L * K) (i * K + j) (digits-lt h k) in (
         record {
           cells = rw lx hx;
           words = rw lw hw;
@@ -102,11 +117,13 @@ module _ {b : List ℕ} {z : Plan} (pl : Planned b z) where
         },
       )
     where
-      mark : (i g : ℕ) → getD ws₁ (wordAt M i g) 0 ≡ 0 → bit (getD ws₁ (wordAt M i g) 0) (g % 64) ≡ min 1 (columnsFold _+_ 0 b z x t (λ v f. hit v f i g) 0)
+      mark : (i g : ℕ) → getD ws₁ (wordAt M i g) 0 ≡ 0 →
+          bit (getD ws₁ (wordAt M i g) 0) (g % 64) ≡ min 1 (columnsFold _+_ 0 b z x t (λ v f. hit v f i g) 0)
       mark i g e = rw (e, columns-none _+_ 0 b z x t (λ v f. hit v f i g)) (bit-high 0 0 (g % 64) (lit< tt) (omega arith))
 
   -- one column more
-  module _ {x n t c k : ℕ} {xs ws xs₁ ws₁ : List ℕ} {bx₁ : List ℤ} {d : Line} (co : Columns z x n t) (h : k < n) (fl : Filled b z x t c k xs ws xs₁ ws₁ bx₁) (ed : d ≡ columnLine z (x + k) t) where
+  module _ {x n t c k : ℕ} {xs ws xs₁ ws₁ : List ℕ} {bx₁ : List ℤ} {d : Line} (co : Columns z x n t) (h : k < n)
+      (fl : Filled b z x t c k xs ws xs₁ ws₁ bx₁) (ed : d ≡ columnLine z (x + k) t) where
     pub column-planes : InPlanes z d
     column-planes = rw ed (column-in (plan-limits pl) (x + k) t (omega (arith, co .wide)))
 
@@ -126,7 +143,8 @@ module _ {b : List ℕ} {z : Plan} (pl : Planned b z) where
       pub fill-asks : Countable true M p xs₁ ws₁ × BoxRoom (countOf p) bx₁
       fill-asks = (column-countable, record { long = fl .box-long; room = λ f. omega (arith, fl .box-low f, r .below .few, co .few) })
 
-      pub fill-again : {xs₂ ws₂ : List ℕ} {bx₂ : List ℤ} → ((a : Countable true M p xs₁ ws₁) → CountsPassed true (a .levels) M p (countOf p) xs₁ ws₁ xs₂ ws₂)
+      pub fill-again : {xs₂ ws₂ : List ℕ} {bx₂ : List ℤ} →
+          ((a : Countable true M p xs₁ ws₁) → CountsPassed true (a .levels) M p (countOf p) xs₁ ws₁ xs₂ ws₂)
           → BoxPassed true c p (countOf p) bx₁ bx₂ → Filled b z x t c (k + 1) xs ws xs₂ ws₂ bx₂
       unfolding changed changedℤ column-countable
       fill-again {xs₂} {ws₂} after u = let g = after column-countable in record {
@@ -139,7 +157,8 @@ module _ {b : List ℕ} {z : Plan} (pl : Planned b z) where
           rest-words = g .kept .rest-words ∙ fl .kept .rest-words;
         };
         held = rep-eq _ _ _ _ xs₂ ws₂ (λ i f l. more i f l) (g .held);
-        low = λ i f hi hf. omega (arith, g .held .cells i f hi hf, count-in M i f xs₁ hf, list-le p (countOf p) i f, fl .low i f hi hf, r .below .few);
+        low =
+            λ i f hi hf. omega (arith, g .held .cells i f hi hf, count-in M i f xs₁ hf, list-le p (countOf p) i f, fl .low i f hi hf, r .below .few);
         box-long = u .long ∙ fl .box-long;
         box-low = λ f. rw (u .passed .cells f) (omega (arith, list-abs true c p (countOf p) f (boxAt bx₁ f), fl .box-low f, r .below .few));
         box = λ f.
@@ -186,7 +205,8 @@ module _ {b : List ℕ} {z : Plan} {s t c x n : ℕ} {xs ws xs₁ ws₁ : List �
       let few = span-high (z .radius) s (z .width) (plan-limits (fr .planned) .radius) in
       ((fr .planned, record { wide = rw (e, d) (columns-wide (z .radius) s (z .width) (fr .column)); few = rw d few; row = fr .row }), zeros .0)
 
-  pub built : {xs₂ ws₂ : List ℕ} {bx₂ : List ℤ} → ((k : ℕ) → getD ws₂ k 0 < 2 ^ 64) → Filled b z x t c n xs₁ ws₁ xs₂ ws₂ bx₂ → JointAt (frameOf b) s t c xs ws xs₂ ws₂ bx₂
+  pub built : {xs₂ ws₂ : List ℕ} {bx₂ : List ℤ} → ((k : ℕ) → getD ws₂ k 0 < 2 ^ 64) → Filled b z x t c n xs₁ ws₁ xs₂ ws₂ bx₂ →
+      JointAt (frameOf b) s t c xs ws xs₂ ws₂ bx₂
   built {xs₂} {ws₂} fit fl =
       let kp = zeros .1 in
       joint-of (fr .planned) (pixel-of (fr .planned) (fr .column) (fr .row))

@@ -47,7 +47,8 @@ box-abs {p} {s} {t} k c f = ⊎-elim inside beyond (lt-or-le f 256)
         rw (List·getD-eq-default (balanceBox p s t c) (pos 0) l) (omega arith)
 
 -- a list of 256 cells that are the window's is the box
-pub box-is : (p : Frame) (s t c : ℕ) (bx : List ℤ) → length bx ≡ 256 → ((f : ℕ) → f < 256 → getD bx f (pos 0) ≡ cell p s t c f) → bx ≡ balanceBox p s t c
+pub box-is : (p : Frame) (s t c : ℕ) (bx : List ℤ) → length bx ≡ 256 → ((f : ℕ) → f < 256 → getD bx f (pos 0) ≡ cell p s t c f) →
+    bx ≡ balanceBox p s t c
 box-is p s t c bx l e =
     ext-getD (pos 0) bx (balanceBox p s t c) (l ∙ sym (box-long p s t c))
     (λ f h. let k : f < 256 = subst (λ (n : ℕ). f < n) l h in e f k ∙ sym (box-cell p s t c f k))
@@ -61,12 +62,14 @@ module _ {b : List ℕ} {z : Plan} (pl : Planned b z) where
   plan-words = let f = facts pl in ap₂ (λ (u v : ℕ). u * wordsPer v) (f .levels) (f .guides)
 
   module _ {s t : ℕ} (px : Pixel (frameOf b) s t) where
-    pub rep-of : {c : ℕ} {xs ws : List ℕ} {bx : List ℤ} → JointAt (frameOf b) s t c xs ws xs ws bx → Rep (z .levels) (z .guides) (count (frameOf b) s t) xs ws
+    pub rep-of : {c : ℕ} {xs ws : List ℕ} {bx : List ℤ} → JointAt (frameOf b) s t c xs ws xs ws bx →
+        Rep (z .levels) (z .guides) (count (frameOf b) s t) xs ws
     rep-of {c} {xs} {ws} j =
         let f = facts pl in
         rw (f .levels, f .guides) (lists-rep (frameOf b) s t px xs ws (j .counts) (j .words))
 
-    pub joint-of : {c : ℕ} {xs ws xs′ ws′ : List ℕ} {bx′ : List ℤ} → RestKept (z .levels) (z .guides) xs ws xs′ ws′ → cellCount (frameOf b) ≤ length xs → wordCount (frameOf b) ≤ length ws
+    pub joint-of : {c : ℕ} {xs ws xs′ ws′ : List ℕ} {bx′ : List ℤ} → RestKept (z .levels) (z .guides) xs ws xs′ ws′ →
+        cellCount (frameOf b) ≤ length xs → wordCount (frameOf b) ≤ length ws
         → Rep (z .levels) (z .guides) (count (frameOf b) s t) xs′ ws′ → ((k : ℕ) → getD ws′ k 0 < 2 ^ 64)
         → length bx′ ≡ 256 → ((f : ℕ) → f < 256 → getD bx′ f (pos 0) ≡ cell (frameOf b) s t c f) → JointAt (frameOf b) s t c xs ws xs′ ws′ bx′
     joint-of {c} {xs} {ws} {xs′} {ws′} {bx′} kp hx hw r fit l e =
@@ -75,15 +78,22 @@ module _ {b : List ℕ} {z : Plan} (pl : Planned b z) where
         let q : Rep (p .set .levels) (p .set .guides) (count p s t) xs′ ws′ = rw (f .levels, f .guides) at r in
         record {
           counts = rep-counts p s t px xs′ ws′ q (rw (kp .long) hx) ∙ ap (λ (y : List ℕ). jointCounts p s t ++ y) (rw plan-cells at (kp .rest));
-          words = rep-bits p s t px xs′ ws′ q (rw (kp .long-words) hw) fit ∙ ap (λ (y : List ℕ). occupancyWords p s t ++ y) (rw plan-words at (kp .rest-words));
+          words =
+              rep-bits p s t px xs′ ws′ q (rw (kp .long-words) hw) fit ∙ ap (λ (y : List ℕ). occupancyWords p s t ++ y)
+              (rw plan-words at (kp .rest-words));
           box = box-is p s t c bx′ l e;
         }
 
 -- stores that became a window's are the window's
-pub settled : {p : Frame} {s t c : ℕ} {xs ws xs′ ws′ : List ℕ} {bx′ : List ℤ} → Pixel p s t → JointAt p s t c xs ws xs′ ws′ bx′ → JointAt p s t c xs′ ws′ xs′ ws′ bx′
+pub settled : {p : Frame} {s t c : ℕ} {xs ws xs′ ws′ : List ℕ} {bx′ : List ℤ} → Pixel p s t → JointAt p s t c xs ws xs′ ws′ bx′ →
+    JointAt p s t c xs′ ws′ xs′ ws′ bx′
 settled {p} {s} {t} {c} {xs} {ws} {xs′} {ws′} px j = record {
-  counts = j .counts ∙ ap (λ (y : List ℕ). jointCounts p s t ++ y) (sym (ap (drop (cellCount p)) (j .counts) ∙ drop-at (jointCounts p s t) (drop (cellCount p) xs) (cellCount p) (counts-long p s t px)));
-  words = j .words ∙ ap (λ (y : List ℕ). occupancyWords p s t ++ y) (sym (ap (drop (wordCount p)) (j .words) ∙ drop-at (occupancyWords p s t) (drop (wordCount p) ws) (wordCount p) (bits-long p s t px)));
+  counts =
+      j .counts ∙ ap (λ (y : List ℕ). jointCounts p s t ++ y)
+      (sym (ap (drop (cellCount p)) (j .counts) ∙ drop-at (jointCounts p s t) (drop (cellCount p) xs) (cellCount p) (counts-long p s t px)));
+  words =
+      j .words ∙ ap (λ (y : List ℕ). occupancyWords p s t ++ y)
+      (sym (ap (drop (wordCount p)) (j .words) ∙ drop-at (occupancyWords p s t) (drop (wordCount p) ws) (wordCount p) (bits-long p s t px)));
   box = j .box;
 }
 

@@ -48,38 +48,54 @@ module _ {b : List ℕ} {z : Plan} (pl : Planned b z) {s t : ℕ} (hs : s < z .w
     centre-small = let k = pixel-of pl hs ht in omega (arith, in-frame, k .good .sound .guides-high)
 
     -- kind 1: a row of the table that begins at a place
-    pub table-weighs : {row : List ℕ} (at : ℕ) → z .kind ≡ 1 → at + frameOf b .set .guides ≤ length row → at ≤ 65536 → ((h : ℕ) → h < frameOf b .set .guides → getD row (at + h) 0 ≡ table (frameOf b) f h)
+    pub table-weighs : {row : List ℕ} (at : ℕ) → z .kind ≡ 1 → at + frameOf b .set .guides ≤ length row → at ≤ 65536 →
+        ((h : ℕ) → h < frameOf b .set .guides → getD row (at + h) 0 ≡ table (frameOf b) f h)
         → Weighs (frameOf b) s t row (record { row = at; slope = pos 1; offset = pos 0 })
     table-weighs {row} at one inside start value = record {
-      in-row = record { inside = inside; start = start; low = λ h l. rw (value h l) (omega (arith, pixel-of pl hs ht .good .table-low f h in-frame l)) };
+      in-row =
+          record { inside = inside; start = start; low = λ h l. rw (value h l) (omega (arith, pixel-of pl hs ht .good .table-low f h in-frame l)) };
       small = record { slope = omega arith; offset = omega arith };
-      is = λ h l. weight-table (frameOf b) s t h (sym (facts pl .kind) ∙ one) ∙ ap (λ (q : ℕ). pos (table (frameOf b) q h)) (sym centre-is) ∙ ap pos (sym (value h l))
+      is =
+          λ h l. weight-table (frameOf b) s t h (sym (facts pl .kind) ∙ one) ∙ ap (λ (q : ℕ). pos (table (frameOf b) q h)) (sym centre-is) ∙ ap pos
+          (sym (value h l))
           ∙ sym (+ℤ-idr (pos 1 *ℤ pos (getD row (at + h) 0)) ∙ one-mul (pos (getD row (at + h) 0)));
     }
 
     -- the built-in weights
-    pub mirror-weighs : {row : List ℕ} → z .kind ≡ 1 → z .weights ≡ 0 → Mirror row → Weighs (frameOf b) s t row (record { row = 255 - f; slope = pos 1; offset = pos 0 })
+    pub mirror-weighs : {row : List ℕ} → z .kind ≡ 1 → z .weights ≡ 0 → Mirror row →
+        Weighs (frameOf b) s t row (record { row = 255 - f; slope = pos 1; offset = pos 0 })
     mirror-weighs {row} one none mi =
         let few : frameOf b .set .guides ≤ 256 = pixel-of pl hs ht .good .sound .guides-high in
         table-weighs (255 - f) one (omega (arith, mi .long, few)) (omega arith)
         (λ h l. mi .is (255 - f + h) (omega (arith, few)) ∙ mirror-built f h centre-small ∙ sym (table-built pl none f h))
 
     -- the file's own
-    pub own-weighs : {row : List ℕ} → z .kind ≡ 1 → TableRow (frameOf b) (z .guides) f row → Weighs (frameOf b) s t row (record { row = 0; slope = pos 1; offset = pos 0 })
+    pub own-weighs : {row : List ℕ} → z .kind ≡ 1 → TableRow (frameOf b) (z .guides) f row →
+        Weighs (frameOf b) s t row (record { row = 0; slope = pos 1; offset = pos 0 })
     own-weighs {row} one r =
         table-weighs 0 one (omega (arith, r .long, pixel-of pl hs ht .good .sound .guides-high)) (omega arith)
         (λ h l. ap (λ (n : ℕ). getD row n 0) (zero-add h) ∙ r .is h (rw (facts pl .guides) l))
 
   -- kind 2
-  pub ramp-weighs : {row : List ℕ} {k : Coefficients} {a d : ℤ} → z .kind ≡ 2 → Ramp (z .guides) row → WeighsAt (frameOf b) s t k → CoefficientsSmall k → a ≡ k .slope → d ≡ k .offset
+  pub ramp-weighs : {row : List ℕ} {k : Coefficients} {a d : ℤ} → z .kind ≡ 2 → Ramp (z .guides) row → WeighsAt (frameOf b) s t k →
+      CoefficientsSmall k → a ≡ k .slope → d ≡ k .offset
       → Weighs (frameOf b) s t row (record { row = 0; slope = a; offset = d })
   ramp-weighs {row} {k} {a} {d} two ra w small ea ed =
       let f = facts pl in
-      let value : (h : ℕ) → h < frameOf b .set .guides → getD row (0 + h) 0 ≡ h = λ h l. ap (λ (x : ℕ). getD row x 0) (zero-add h) ∙ ra .is h (rw (f .guides) l) in
+      let value : (h : ℕ) → h < frameOf b .set .guides → getD row (0 + h) 0 ≡ h =
+      λ h l. ap (λ (x : ℕ). getD row x 0) (zero-add h) ∙ ra .is h (rw (f .guides) l) in
       record {
-        in-row = record { inside = omega (arith, ra .long, f .guides); start = omega arith; low = λ h l. omega (arith, value h l, f .limits .sound .guides-high) };
+        in-row =
+            record {
+              inside = omega (arith, ra .long, f .guides);
+              start = omega arith;
+              low =
+                  λ h l. omega (arith, value h l, f .limits .sound .guides-high);
+            };
         small = record { slope = rw ea (small .slope); offset = rw ed (small .offset) };
-        is = λ h l. weight-linear (frameOf b) s t h (sym (f .kind) ∙ two) ∙ ap₂ (λ (x y : ℤ). x *ℤ pos h +ℤ y) (sym (ea ∙ w .slope)) (sym (ed ∙ w .offset)) ∙ ap (λ (x : ℕ). a *ℤ pos x +ℤ d) (sym (value h l));
+        is =
+            λ h l. weight-linear (frameOf b) s t h (sym (f .kind) ∙ two) ∙ ap₂ (λ (x y : ℤ). x *ℤ pos h +ℤ y) (sym (ea ∙ w .slope))
+            (sym (ed ∙ w .offset)) ∙ ap (λ (x : ℕ). a *ℤ pos x +ℤ d) (sym (value h l));
       }
 
 -- ---- lists that are made number by number: after k turns the first k are there
@@ -93,11 +109,14 @@ made-start F xs = record { long = refl; is = λ f h. absurd (omega arith) }
 pub made-next : {F : ℕ → ℕ} (k v : ℕ) (xs ys : List ℕ) → k < length xs → v ≡ F k → Made F k xs ys → Made F (k + 1) xs (set ys k v)
 made-next k v xs ys h e r = record {
   long = length-set ys k v ∙ r .long;
-  is = λ f l. ⊎-elim (λ q. rw q (getD-set-same ys k v 0 (rw (r .long) h) ∙ e)) (λ n. getD-set-other ys k f v 0 n ∙ r .is f (omega arith)) (eq-or-ne f k);
+  is =
+      λ f l. ⊎-elim (λ q. rw q (getD-set-same ys k v 0 (rw (r .long) h) ∙ e)) (λ n. getD-set-other ys k f v 0 n ∙ r .is f (omega arith))
+      (eq-or-ne f k);
 }
 
 -- ---- a row of the file's table: its bytes low byte first, then exchanged
-pub low-first : (b : List ℕ) (first g : ℕ) → getD b (first + 2 * g) 0 < 256 → getD b (first + 2 * g + 1) 0 < 256 → exchanged (getD b (first + 2 * g) 0 + getD b (first + 2 * g + 1) 0 * 256) ≡ plane b first g
+pub low-first : (b : List ℕ) (first g : ℕ) → getD b (first + 2 * g) 0 < 256 → getD b (first + 2 * g + 1) 0 < 256 →
+    exchanged (getD b (first + 2 * g) 0 + getD b (first + 2 * g + 1) 0 * 256) ≡ plane b first g
 unfolding exchanged be16
 low-first b first g h l =
     let x = getD b (first + 2 * g) 0 in
@@ -113,10 +132,13 @@ pub record Copied (b : List ℕ) (first k : ℕ) (xs ys : List ℕ) : Type 0 whe
 pub copied-start : (b : List ℕ) (first : ℕ) (xs : List ℕ) → Copied b first 0 xs xs
 copied-start b first xs = record { long = refl; is = λ g h. absurd (omega arith) }
 
-pub copied-next : {b : List ℕ} {first k : ℕ} (v : ℕ) {xs ys : List ℕ} → k < length xs → exchanged v ≡ plane b first k → Copied b first k xs ys → Copied b first (k + 1) xs (set ys k v)
+pub copied-next : {b : List ℕ} {first k : ℕ} (v : ℕ) {xs ys : List ℕ} → k < length xs → exchanged v ≡ plane b first k → Copied b first k xs ys →
+    Copied b first (k + 1) xs (set ys k v)
 copied-next {k = k} v {ys = ys} h e r = record {
   long = length-set ys k v ∙ r .long;
-  is = λ g l. ⊎-elim (λ q. rw q (ap exchanged (getD-set-same ys k v 0 (rw (r .long) h)) ∙ e)) (λ n. ap exchanged (getD-set-other ys k g v 0 n) ∙ r .is g (omega arith)) (eq-or-ne g k);
+  is =
+      λ g l. ⊎-elim (λ q. rw q (ap exchanged (getD-set-same ys k v 0 (rw (r .long) h)) ∙ e))
+      (λ n. ap exchanged (getD-set-other ys k g v 0 n) ∙ r .is g (omega arith)) (eq-or-ne g k);
 }
 
 -- the first k numbers of the row have been exchanged, and the others are still to be
@@ -128,10 +150,13 @@ pub record Exchanging (b : List ℕ) (first m k : ℕ) (row : List ℕ) : Type 0
 pub exchange-start : {b : List ℕ} {first m : ℕ} {row : List ℕ} → Lower b first m row → Exchanging b first m 0 row
 exchange-start r = record { long = r .long; done = λ g h. absurd (omega arith); left = λ g _ h. r .is g h }
 
-pub exchange-next : {b : List ℕ} {first m k v : ℕ} {row : List ℕ} → m ≤ 256 → k < m → v ≡ exchanged (getD row k 0) → Exchanging b first m k row → Exchanging b first m (k + 1) (set row k v)
+pub exchange-next : {b : List ℕ} {first m k v : ℕ} {row : List ℕ} → m ≤ 256 → k < m → v ≡ exchanged (getD row k 0) → Exchanging b first m k row →
+    Exchanging b first m (k + 1) (set row k v)
 exchange-next {k = k} {v = v} {row = row} few h e r = record {
   long = length-set row k v ∙ r .long;
-  done = λ g l. ⊎-elim (λ q. rw q (getD-set-same row k v 0 (omega (arith, r .long)) ∙ e ∙ r .left k (omega arith) h)) (λ n. getD-set-other row k g v 0 n ∙ r .done g (omega arith)) (eq-or-ne g k);
+  done =
+      λ g l. ⊎-elim (λ q. rw q (getD-set-same row k v 0 (omega (arith, r .long)) ∙ e ∙ r .left k (omega arith) h))
+      (λ n. getD-set-other row k g v 0 n ∙ r .done g (omega arith)) (eq-or-ne g k);
   left = λ g l u. ap exchanged (getD-set-other row k g v 0 (λ q. omega arith)) ∙ r .left g (omega arith) u;
 }
 
@@ -146,5 +171,6 @@ module _ {b : List ℕ} {z : Plan} (pl : Planned b z) {f : ℕ} (hf : f < z .gui
       let last = weight-place pl own f (z .guides - 1) hf (omega arith) in
       omega (arith, last .1, row-place (z .guides - 1))
 
-  pub row-exchanged : {k : ℕ} {row : List ℕ} → z .guides ≤ k → Exchanging b (z .table + 2 * (f * z .guides)) (z .guides) k row → TableRow (frameOf b) (z .guides) f row
+  pub row-exchanged : {k : ℕ} {row : List ℕ} → z .guides ≤ k → Exchanging b (z .table + 2 * (f * z .guides)) (z .guides) k row →
+      TableRow (frameOf b) (z .guides) f row
   row-exchanged h r = record { long = r .long; is = λ g l. r .done g (omega arith) ∙ ap (be16 b) (row-place g) ∙ sym (table-own pl own f g) }

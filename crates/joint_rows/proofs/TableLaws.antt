@@ -39,7 +39,8 @@ module _ {b : List ℕ} {z : Plan} (pl : Planned b z) where
   weights-are = subst (λ (q : Plan). (q .weights ≡ 0 → ⊥) → q .weights ≡ q .guides * q .guides) (sym (pl .plan)) (own-count b)
 
   -- a weight's place, and that the file has it
-  pub weight-place : (z .weights ≡ 0 → ⊥) → (f g : ℕ) → f < z .guides → g < z .guides → (f * z .guides + g < 65536) × (z .table + 2 * (f * z .guides + g) + 1 < length b)
+  pub weight-place : (z .weights ≡ 0 → ⊥) → (f g : ℕ) → f < z .guides → g < z .guides →
+      (f * z .guides + g < 65536) × (z .table + 2 * (f * z .guides + g) + 1 < length b)
   weight-place n f g hf hg =
       let h : f * z .guides + g < z .guides * z .guides = digits-lt hf hg in
       (omega (arith, count-within), omega (arith, facts pl .table-last, weights-are n))

@@ -37,7 +37,8 @@ module _ (bx : List ℤ) (row : List ℕ) (at : ℕ) where
   part-join f n zero = ap (boxPart bx row at f) (add-zero n) ∙ sym (+ℤ-idr _) ∙ ap (λ (x : ℤ). boxPart bx row at f n +ℤ x) (sym (part-none (f + n)))
   part-join f n (suc k) =
       ap (boxPart bx row at f) (add-suc n k) ∙ part-next f (n + k) ∙ ap₂ (λ (x : ℤ) (j : ℕ). x +ℤ term j) (part-join f n k) (sym (add-assoc f n k))
-      ∙ +ℤ-assoc (boxPart bx row at f n) (boxPart bx row at (f + n) k) (term (f + n + k)) ∙ ap (λ (x : ℤ). boxPart bx row at f n +ℤ x) (sym (part-next (f + n) k))
+      ∙ +ℤ-assoc (boxPart bx row at f n) (boxPart bx row at (f + n) k) (term (f + n + k)) ∙ ap (λ (x : ℤ). boxPart bx row at f n +ℤ x)
+      (sym (part-next (f + n) k))
 
   dot-part : (n : ℕ) → boxDot bx row at n ≡ boxPart bx row at 0 n
   unfolding boxDot boxPart
@@ -62,20 +63,49 @@ module _ {at : ℕ} {bx : List ℤ} {row : List ℕ} where
   part-size : (f n : ℕ) → PartFits n f at bx row → natAbs (boxPart bx row at f n) + boxSize bx f * 65535 ≤ boxSize bx (f + n) * 65535
   part-size f zero p = rw (part-none bx row at f, add-zero f) (omega arith)
   part-size f (suc n) p =
-      let shorter : PartFits n f at bx row = record { low = p .low; inside = omega (arith, p .inside); start = p .start; long = omega (arith, p .long); weights = λ k a b. p .weights k a (omega arith) } in
+      let shorter : PartFits n f at bx row =
+      record {
+        low = p .low;
+        inside = omega (arith, p .inside);
+        start = p .start;
+        long = omega (arith, p .long);
+        weights =
+            λ k a b. p .weights k a (omega arith);
+      } in
       let light : getD row (at + (f + n)) 0 ≤ 65535 = le-trans (p .weights (f + n) (omega arith) (omega arith)) (omega arith) in
       let x : ℤ = getD bx (f + n) (pos 0) in
       rw (part-next bx row at f n, add-suc f n, size-next bx (f + n))
-      (omega (arith, abs-add-le (boxPart bx row at f n) (x *ℤ pos (getD row (at + (f + n)) 0)) (le-refl _) (abs-mul-le x (pos (getD row (at + (f + n)) 0)) {A = natAbs x} {B = 65535} (le-refl _) light), part-size f n shorter))
+      (omega (
+        arith,
+        abs-add-le (boxPart bx row at f n) (x *ℤ pos (getD row (at + (f + n)) 0)) (le-refl _)
+            (abs-mul-le x (pos (getD row (at + (f + n)) 0)) {A = natAbs x} {B = 65535} (le-refl _) light),
+        part-size f n shorter,
+      ))
 
   pub part-low : {f n : ℕ} → PartFits n f at bx row → natAbs (boxPart bx row at f n) ≤ 62979135
   part-low {f} {n} p = omega (arith, part-size f n p, p .low .few (f + n) (p .inside))
 
   pub first-half : {f n : ℕ} → PartFits (n + n) f at bx row → PartFits n f at bx row
-  first-half p = record { low = p .low; inside = omega (arith, p .inside); start = p .start; long = omega (arith, p .long); weights = λ k a b. p .weights k a (omega arith) }
+  first-half p =
+      record {
+        low = p .low;
+        inside = omega (arith, p .inside);
+        start = p .start;
+        long = omega (arith, p .long);
+        weights =
+            λ k a b. p .weights k a (omega arith);
+      }
 
   pub second-half : {f n : ℕ} → PartFits (n + n) f at bx row → PartFits n (f + n) at bx row
-  second-half p = record { low = p .low; inside = omega (arith, p .inside); start = p .start; long = omega (arith, p .long); weights = λ k a b. p .weights k (omega arith) (omega arith) }
+  second-half p =
+      record {
+        low = p .low;
+        inside = omega (arith, p .inside);
+        start = p .start;
+        long = omega (arith, p .long);
+        weights =
+            λ k a b. p .weights k (omega arith) (omega arith);
+      }
 
   module _ {f : ℕ} (n : ℕ) (p : PartFits (n + n) f at bx row) {r q : ℤ} (er : r ≡ boxPart bx row at f n) (eq : q ≡ boxPart bx row at (f + n) n) where
     pub halves-asks : (natAbs (toZ w32 (ofZ w32 r)) ≤ 62979135) × (natAbs (toZ w32 (ofZ w32 q)) ≤ 62979135)
@@ -84,7 +114,8 @@ module _ {at : ℕ} {bx : List ℤ} {row : List ℕ} where
         let b : natAbs q ≤ 62979135 = rw eq (part-low (second-half {n = n} p)) in
         (rw (back r a) a, rw (back q b) b)
 
-    pub halves-join : {v : ℤ} → mag v < 2 ^ hbits w32 → v ≡ toZ w32 (ofZ w32 r) +ℤ toZ w32 (ofZ w32 q) → toZ w32 (ofZ w32 v) ≡ boxPart bx row at f (n + n)
+    pub halves-join : {v : ℤ} → mag v < 2 ^ hbits w32 → v ≡ toZ w32 (ofZ w32 r) +ℤ toZ w32 (ofZ w32 q) →
+        toZ w32 (ofZ w32 v) ≡ boxPart bx row at f (n + n)
     halves-join s e =
         let a : natAbs r ≤ 62979135 = rw er (part-low (first-half {n = n} p)) in
         let b : natAbs q ≤ 62979135 = rw eq (part-low (second-half {n = n} p)) in
@@ -93,7 +124,8 @@ module _ {at : ℕ} {bx : List ℤ} {row : List ℕ} where
 -- ---- the row's products, part after part
 module _ {m at : ℕ} {row : List ℕ} {bx : List ℤ} (hm : m ≤ 256) (r : RowFits m at row) (lo : BoxInBounds bx) where
   pub part-of : {f : ℕ} (n : ℕ) → f + n ≤ m → PartFits n f at bx row
-  part-of n h = record { low = lo; inside = omega arith; start = r .start; long = omega (arith, r .inside); weights = λ k a b. r .low k (omega arith) }
+  part-of n h =
+      record { low = lo; inside = omega arith; start = r .start; long = omega (arith, r .inside); weights = λ k a b. r .low k (omega arith) }
 
   pub dot-low : (n : ℕ) → n ≤ m → natAbs (boxDot bx row at n) ≤ 62979135
   dot-low n h = rw (dot-part bx row at n) (part-low (part-of {f = 0} n (omega (arith, zero-add n))))

@@ -17,7 +17,8 @@ use Rattle.joint_search.specs.Formula.{FormulaInBounds}
 use Rattle.joint_search.proofs.ScanLaws.{sums-low}
 
 -- a level's sums fit
-pub level-low : {m i at : ℕ} {cs ws row : List ℕ} → Marked m i cs ws → RowFits m at row → (x y : ℕ) → x ≡ cellSum m i cs m → y ≡ cellDot m i at cs row m → (x ≤ 961) × (y ≤ 62979135)
+pub level-low : {m i at : ℕ} {cs ws row : List ℕ} → Marked m i cs ws → RowFits m at row → (x y : ℕ) → x ≡ cellSum m i cs m →
+    y ≡ cellDot m i at cs row m → (x ≤ 961) × (y ≤ 62979135)
 unfolding cellSum cellDot
 level-low {m} ok r x y ex ey = let e : min m m ≡ m = omega arith in sums-low ok r m x y (rw e ex) (rw e ey)
 
@@ -32,10 +33,13 @@ module _ (w : Formula) (sm : FormulaInBounds w) where
   natural n h = toZ-pos w64 (omega arith)
 
   pub level-asks : (d a : ℕ) → d ≤ 62979135 → a ≤ 961
-      → (natAbs (toZ w64 (ofZ w64 (w .slope))) ≤ 235497855) × (natAbs (toZ w64 (ofZ w64 (w .offset))) ≤ 180155859075) × (natAbs (toZ w64 d) ≤ 62979135) × (natAbs (toZ w64 a) ≤ 961)
+      →
+      (natAbs (toZ w64 (ofZ w64 (w .slope))) ≤ 235497855) × (natAbs (toZ w64 (ofZ w64 (w .offset))) ≤ 180155859075) ×
+      (natAbs (toZ w64 d) ≤ 62979135) × (natAbs (toZ w64 a) ≤ 961)
   level-asks d a hd ha = (rw slope-back (sm .slope), rw offset-back (sm .offset), rw (natural d hd) hd, rw (natural a (omega arith)) ha)
 
-  pub level-value : (r : ℤ) (d a : ℕ) → d ≤ 62979135 → a ≤ 961 → mag r < 2 ^ hbits w64 → r ≡ toZ w64 (ofZ w64 (w .slope)) *ℤ toZ w64 d +ℤ toZ w64 (ofZ w64 (w .offset)) *ℤ toZ w64 a
+  pub level-value : (r : ℤ) (d a : ℕ) → d ≤ 62979135 → a ≤ 961 → mag r < 2 ^ hbits w64 →
+      r ≡ toZ w64 (ofZ w64 (w .slope)) *ℤ toZ w64 d +ℤ toZ w64 (ofZ w64 (w .offset)) *ℤ toZ w64 a
       → toZ w64 (ofZ w64 r) ≡ w .slope *ℤ pos d +ℤ w .offset *ℤ pos a
   level-value r d a hd ha s e =
       toZ-ofZ (record { sfits = s }) ∙ (rw (slope-back, offset-back, natural d hd, natural a (omega arith)) at e)

@@ -57,7 +57,8 @@ module _ (X : ℕ → ℤ) where
       let R = sumℤ X (0 + suc c) (l - suc c) in
       let all : sumℤ X 0 l ≡ A +ℤ R = ap (sumℤ X 0) (sym d) ∙ fold-parts _+ℤ_ (pos 0) intSums X 0 (suc c) (l - suc c) in
       let same : pos 2 *ℤ A -ℤ sumℤ X 0 l ≡ A -ℤ R = ap (λ (q : ℤ). pos 2 *ℤ A -ℤ q) all ∙ solve2 (λ a r. # 2 ⊗ a ⊖ (a ⊕ r) ≐ a ⊖ r) refl A R in
-      let most : sum g 0 (suc c) + sum g (0 + suc c) (l - suc c) ≡ sum g 0 l = sym (fold-parts _+_ 0 natSums g 0 (suc c) (l - suc c)) ∙ ap (sum g 0) d in
+      let most : sum g 0 (suc c) + sum g (0 + suc c) (l - suc c) ≡ sum g 0 l =
+      sym (fold-parts _+_ 0 natSums g 0 (suc c) (l - suc c)) ∙ ap (sum g 0) d in
       rw (same, sym most)
       (abs-sub-le A R (sum-abs X g 0 (suc c) (λ i x y. low i (omega arith))) (sum-abs X g (0 + suc c) (l - suc c) (λ i x y. low i (omega arith))))
 
@@ -185,7 +186,8 @@ module _ {X : ℕ → ℤ} {l : ℕ} (low : (i : ℕ) → i < l → pos 0 ≤ℤ
   pub climbed-median : {c r n n′ : ℕ} → balanceOf X l c <ℤ pos 0 → Climbed (balanceOf X l) l c r n n′ → r ≡ medianOf X l
   climbed-median {c} {r} below k =
       median-is X l r (k .level) (k .here)
-      (λ i u. ⊎-elim (λ x. ≤-<-trans (balance-mono low i c (omega arith) (omega (arith, k .from, k .level))) below) (λ x. k .before i x u) (lt-or-le i c))
+      (λ i u. ⊎-elim (λ x. ≤-<-trans (balance-mono low i c (omega arith) (omega (arith, k .from, k .level))) below) (λ x. k .before i x u)
+      (lt-or-le i c))
 
   pub descended-median : {c r n n′ : ℕ} → c < l → Descended (balanceOf X l) c r n n′ → r ≡ medianOf X l
   descended-median {c} {r} h k =

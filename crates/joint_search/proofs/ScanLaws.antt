@@ -4,7 +4,19 @@ use mathlib.Core.Path.{_≡_, refl, sym, ap, _∙_, subst}
 use mathlib.Core.Logic.{⊎-elim}
 use mathlib.Core.List.{List}
 use Prim.Native.Nat.{ℕ, zero, suc, _+_, _-_, _*_, _/_, _%_, _^_, _≤_, _<_, min}
-use native.Mathlib.Nat.{zero-add, add-zero, add-suc, mul-le-mul, zero-mul, le-trans, le-refl, lt-of-le-of-lt, le-of-suc-le-suc, pow-succ', pos-of-ne-zero}
+use native.Mathlib.Nat.{
+  zero-add,
+  add-zero,
+  add-suc,
+  mul-le-mul,
+  zero-mul,
+  le-trans,
+  le-refl,
+  lt-of-le-of-lt,
+  le-of-suc-le-suc,
+  pow-succ',
+  pos-of-ne-zero,
+}
 use native.Mathlib.Numerals.{add-one}
 use native.Mathlib.Omega.{arith}
 use lib.Bits.{bitAnd, and-le-l}
@@ -25,7 +37,8 @@ no-bit : (j : ℕ) → bit 0 j ≡ 0
 no-bit j = bit-high 0 0 j (lit< tt) (omega arith)
 
 tz-pos : (w : ℕ) → w < 2 ^ 64 → 0 < w → (bit w (trailingZeros 64 w) ≡ 1) × (trailingZeros 64 w < 64)
-tz-pos w h p = (found, ⊎-elim (λ l. l) (λ l. absurd (omega (arith, found, bit-high 64 w (trailingZeros 64 w) h l))) (lt-or-le (trailingZeros 64 w) 64))
+tz-pos w h p =
+    (found, ⊎-elim (λ l. l) (λ l. absurd (omega (arith, found, bit-high 64 w (trailingZeros 64 w) h l))) (lt-or-le (trailingZeros 64 w) 64))
   where
     found : bit w (trailingZeros 64 w) ≡ 1
     found = tz-found 64 w p h
@@ -40,7 +53,8 @@ pred-above zero q j h w l = absurd (omega arith)
 pred-above (suc d) q zero h w l = absurd (omega arith)
 pred-above (suc d) q (suc j) h w l = go (q % 2) refl l (λ p m. pred-above d (q / 2) j p (half-lt q (2 ^ suc d) (2 ^ d) (pow-succ' 2 d) w) m)
   where
-    go : (r : ℕ) → q % 2 ≡ r → under r (trailingZeros d (q / 2)) < suc j → (0 < q / 2 → trailingZeros d (q / 2) < j → bit (q / 2 - 1) j ≡ bit (q / 2) j) → bit (q - 1) (suc j) ≡ bit q (suc j)
+    go : (r : ℕ) → q % 2 ≡ r → under r (trailingZeros d (q / 2)) < suc j →
+        (0 < q / 2 → trailingZeros d (q / 2) < j → bit (q / 2 - 1) j ≡ bit (q / 2) j) → bit (q - 1) (suc j) ≡ bit q (suc j)
     go zero e m ih =
         let half : (q - 1) / 2 ≡ q / 2 - 1 = omega arith in
         bit-suc (q - 1) j ∙ ap (λ (x : ℕ). bit x j) half ∙ ih (omega arith) (le-of-suc-le-suc m) ∙ sym (bit-suc q j)
@@ -68,20 +82,25 @@ module _ (w : ℕ) (h : w < 2 ^ 64) (p : 0 < w) where
   cleared-above j l = bit-and w (w - 1) j ∙ omega (arith, pred-above 64 w j p h l)
 
   cleared-upto : (j : ℕ) → j ≤ low → bit (bitAnd w (w - 1)) j ≡ 0
-  cleared-upto j l = bit-and w (w - 1) j ∙ ⊎-elim (λ m. omega (arith, tz-below 64 w j m)) (λ m. let e : j ≡ low = omega arith in rw e (omega (arith, pred-at 64 w p h))) (lt-or-le j low)
+  cleared-upto j l =
+      bit-and w (w - 1) j ∙ ⊎-elim (λ m. omega (arith, tz-below 64 w j m)) (λ m. let e : j ≡ low =
+      omega arith in rw e (omega (arith, pred-at 64 w p h))) (lt-or-le j low)
 
   cleared-lt : bitAnd w (w - 1) < 2 ^ 64
   cleared-lt = lt-of-le-of-lt (and-le-l w (w - 1)) h
 
   pub cleared-next : 0 < bitAnd w (w - 1) → low < trailingZeros 64 (bitAnd w (w - 1))
-  cleared-next q = ⊎-elim (λ l. l) (λ l. absurd (omega (arith, cleared-upto (trailingZeros 64 (bitAnd w (w - 1))) l, tz-pos (bitAnd w (w - 1)) cleared-lt q .0))) (lt-or-le low (trailingZeros 64 (bitAnd w (w - 1))))
+  cleared-next q =
+      ⊎-elim (λ l. l) (λ l. absurd (omega (arith, cleared-upto (trailingZeros 64 (bitAnd w (w - 1))) l, tz-pos (bitAnd w (w - 1)) cleared-lt q .0)))
+      (lt-or-le low (trailingZeros 64 (bitAnd w (w - 1))))
 
 -- ---- the next guide
 abbrev pub Passed : List ℕ → ℕ → ℕ → ℕ → ℕ → Type 0
 Passed ws first k g r = (h : ℕ) → g ≤ h → h < r → h < k * 64 → bit (getD ws (first + h / 64) 0) (h % 64) ≡ 0
 
 -- nothing in word j from its bit b up to bit r
-passed-word : (ws : List ℕ) (first k g j b r : ℕ) → Passed ws first k g (j * 64 + b) → r ≤ 64 → ((i : ℕ) → b ≤ i → i < r → bit (getD ws (first + j) 0) i ≡ 0) → Passed ws first k g (j * 64 + r)
+passed-word : (ws : List ℕ) (first k g j b r : ℕ) → Passed ws first k g (j * 64 + b) → r ≤ 64 →
+    ((i : ℕ) → b ≤ i → i < r → bit (getD ws (first + j) 0) i ≡ 0) → Passed ws first k g (j * 64 + r)
 passed-word ws first k g j b r p hr none h l u v = ⊎-elim (λ x. p h l x v) new (lt-or-le h (j * 64 + b))
   where
     new : j * 64 + b ≤ h → bit (getD ws (first + h / 64) 0) (h % 64) ≡ 0
@@ -94,7 +113,8 @@ pub passed-empty : (ws : List ℕ) (first k g j : ℕ) → Passed ws first k g (
 passed-empty ws first k g j p e =
     let n : j * 64 + 64 ≡ (j + 1) * 64 = omega arith in
     let z : j * 64 ≡ j * 64 + 0 = omega arith in
-    subst (λ (q : ℕ). Passed ws first k g q) n (passed-word ws first k g j 0 64 (subst (λ (q : ℕ). Passed ws first k g q) z p) (omega arith) (λ i a b. rw e (no-bit i)))
+    subst (λ (q : ℕ). Passed ws first k g q) n
+    (passed-word ws first k g j 0 64 (subst (λ (q : ℕ). Passed ws first k g q) z p) (omega arith) (λ i a b. rw e (no-bit i)))
 
 pub place-some : (c : Scan) → (c .rest ≡ 0 → ⊥) → placeOf c ≡ c .word * 64 + trailingZeros 64 (c .rest)
 unfolding placeOf
@@ -109,7 +129,8 @@ place-rest c h e = omega (arith, place-none c e)
 
 module _ (ws : List ℕ) (first k : ℕ) (hk : k ≤ 4) where
   -- at word i, all of which is left
-  pub begins-at : (g i : ℕ) → i < k → g ≤ i * 64 → Passed ws first k g (i * 64) → getD ws (first + i) 0 < 2 ^ 64 → (getD ws (first + i) 0 ≡ 0 → ⊥) → Follows ws first k g (record { word = i; rest = getD ws (first + i) 0 })
+  pub begins-at : (g i : ℕ) → i < k → g ≤ i * 64 → Passed ws first k g (i * 64) → getD ws (first + i) 0 < 2 ^ 64 → (getD ws (first + i) 0 ≡ 0 → ⊥) →
+      Follows ws first k g (record { word = i; rest = getD ws (first + i) 0 })
   begins-at g i hi hg p fit n =
       let w = getD ws (first + i) 0 in
       let t = tz-pos w fit (pos-of-ne-zero n) .1 in
@@ -120,7 +141,10 @@ module _ (ws : List ℕ) (first k : ℕ) (hk : k ≤ 4) where
         next = record {
           from = omega (arith, e);
           most = omega (arith, e, t);
-          none = rw e (passed-word ws first k g i 0 (trailingZeros 64 w) (subst (λ (q : ℕ). Passed ws first k g q) z p) (omega (arith, t)) (λ j a b. tz-below 64 w j b));
+          none =
+              rw e
+              (passed-word ws first k g i 0 (trailingZeros 64 w) (subst (λ (q : ℕ). Passed ws first k g q) z p) (omega (arith, t))
+              (λ j a b. tz-below 64 w j b));
         };
       }
 
@@ -152,10 +176,12 @@ module _ (ws : List ℕ) (first k : ℕ) (hk : k ≤ 4) where
     zeros : (r : ℕ) → ((i : ℕ) → trailingZeros 64 (c .rest) < i → i < r → bit (bitAnd (c .rest) (c .rest - 1)) i ≡ 0) → r ≤ 64
         → (i : ℕ) → trailingZeros 64 (c .rest) + 1 ≤ i → i < r → bit (getD ws (first + c .word) 0) i ≡ 0
     zeros r none hr i l u =
-        sym (sc .agrees i (omega arith) (omega arith) some) ∙ sym (cleared-above (c .rest) (sc .fits) rest-pos i (omega arith)) ∙ none i (omega arith) u
+        sym (sc .agrees i (omega arith) (omega arith) some) ∙ sym (cleared-above (c .rest) (sc .fits) rest-pos i (omega arith)) ∙ none i
+        (omega arith) u
 
     -- a bit is left in the word
-    pub goes-on : (bitAnd (c .rest) (c .rest - 1) ≡ 0 → ⊥) → Follows ws first k (placeOf c + 1) (record { word = c .word; rest = bitAnd (c .rest) (c .rest - 1) })
+    pub goes-on : (bitAnd (c .rest) (c .rest - 1) ≡ 0 → ⊥) →
+        Follows ws first k (placeOf c + 1) (record { word = c .word; rest = bitAnd (c .rest) (c .rest - 1) })
     goes-on n =
         let r = bitAnd (c .rest) (c .rest - 1) in
         let p = pos-of-ne-zero n in
@@ -171,7 +197,8 @@ module _ (ws : List ℕ) (first k : ℕ) (hk : k ≤ 4) where
           next = record {
             from = omega (arith, at, up, pl);
             most = omega (arith, t, pl, word-in, hk);
-            none = rw pl (passed-word ws first k (placeOf c + 1) (c .word) (trailingZeros 64 (c .rest) + 1) (trailingZeros 64 r) start (omega (arith, t))
+            none =
+                rw pl (passed-word ws first k (placeOf c + 1) (c .word) (trailingZeros 64 (c .rest) + 1) (trailingZeros 64 r) start (omega (arith, t))
                 (zeros (trailingZeros 64 r) (λ i l u. tz-below 64 r i u) (omega (arith, t))));
           };
         }
@@ -182,7 +209,8 @@ module _ (ws : List ℕ) (first k : ℕ) (hk : k ≤ 4) where
         let t = tz-pos (c .rest) (sc .fits) rest-pos .1 in
         let n : c .word * 64 + 64 ≡ (c .word + 1) * 64 = omega arith in
         let gap : Passed ws first k (placeOf c + 1) ((c .word + 1) * 64) = subst (λ (q : ℕ). Passed ws first k (placeOf c + 1) q) n
-        (passed-word ws first k (placeOf c + 1) (c .word) (trailingZeros 64 (c .rest) + 1) 64 start (omega arith) (zeros 64 (λ i l u. rw e (no-bit i)) (omega arith))) in
+        (passed-word ws first k (placeOf c + 1) (c .word) (trailingZeros 64 (c .rest) + 1) 64 start (omega arith)
+        (zeros 64 (λ i l u. rw e (no-bit i)) (omega arith))) in
         record {
           scans = f .scans;
           next = record {
@@ -196,10 +224,12 @@ module _ (ws : List ℕ) (first k : ℕ) (hk : k ≤ 4) where
 pub sum-run : (F : ℕ → ℕ) (a n : ℕ) → ((h : ℕ) → a ≤ h → h < a + n → F h ≡ 0) → sum F 0 (a + n) ≡ sum F 0 a
 unfolding fold
 sum-run F a zero z = rw (add-zero a)
-sum-run F a (suc n) z = rw (add-suc a n) (omega (arith, sum-run F a n (λ h l u. z h l (omega arith)), ap F (zero-add (a + n)), z (a + n) (omega arith) (omega arith)))
+sum-run F a (suc n) z =
+    rw (add-suc a n) (omega (arith, sum-run F a n (λ h l u. z h l (omega arith)), ap F (zero-add (a + n)), z (a + n) (omega arith) (omega arith)))
 
 pub sum-skip : (F : ℕ → ℕ) (a r : ℕ) → a ≤ r → ((h : ℕ) → a ≤ h → h < r → F h ≡ 0) → sum F 0 r ≡ sum F 0 a
-sum-skip F a r l z = let e : a + (r - a) ≡ r = omega arith in subst (λ (n : ℕ). sum F 0 n ≡ sum F 0 a) e (sum-run F a (r - a) (λ h x y. z h x (omega arith)))
+sum-skip F a r l z = let e : a + (r - a) ≡ r =
+    omega arith in subst (λ (n : ℕ). sum F 0 n ≡ sum F 0 a) e (sum-run F a (r - a) (λ h x y. z h x (omega arith)))
 
 pub sum-next : (F : ℕ → ℕ) (a : ℕ) → sum F 0 (suc a) ≡ sum F 0 a + F a
 unfolding fold
@@ -229,8 +259,10 @@ module _ {m i : ℕ} {cs ws : List ℕ} (ok : Marked m i cs ws) where
       let e = place-some c n in
       let q : placeOf c / 64 ≡ c .word = omega (arith, e, t .1) in
       let r : placeOf c % 64 ≡ trailingZeros 64 (c .rest) = omega (arith, e, t .1) in
-      let one : bit (getD ws (i * wordsPer m + placeOf c / 64) 0) (placeOf c % 64) ≡ 1 = rw (q, r) (sym (sc .agrees (trailingZeros 64 (c .rest)) (t .1) (omega arith) n) ∙ t .0) in
-      ⊎-elim (λ l. l) (λ l. absurd (omega (arith, one, ok .marks (placeOf c) (omega (arith, e, t .1, w)), count-out m i (placeOf c) cs l))) (lt-or-le (placeOf c) m)
+      let one : bit (getD ws (i * wordsPer m + placeOf c / 64) 0) (placeOf c % 64) ≡ 1 =
+      rw (q, r) (sym (sc .agrees (trailingZeros 64 (c .rest)) (t .1) (omega arith) n) ∙ t .0) in
+      ⊎-elim (λ l. l) (λ l. absurd (omega (arith, one, ok .marks (placeOf c) (omega (arith, e, t .1, w)), count-out m i (placeOf c) cs l)))
+      (lt-or-le (placeOf c) m)
 
   pub place-ended : (c : Scan) → c .rest ≡ 0 → m ≤ placeOf c
   place-ended c e = omega (arith, place-none c e, ok .guides)
@@ -243,11 +275,14 @@ module _ {m i : ℕ} {cs ws : List ℕ} (ok : Marked m i cs ws) where
     pub walk-start : (r : ℕ) → NextGuide ws (i * wordsPer m) (wordsPer m) 0 r → 0 ≡ sum T 0 (min r m)
     walk-start r n = sym (sum-skip T 0 (min r m) (omega arith) (λ h l u. zeros h (between 0 r n h l u)) ∙ sum-none T)
 
-    pub walk-again : (g r x y : ℕ) → g < m → NextGuide ws (i * wordsPer m) (wordsPer m) (g + 1) r → x ≡ sum T 0 (min g m) → y ≡ x + T g → y ≡ sum T 0 (min r m)
+    pub walk-again : (g r x y : ℕ) → g < m → NextGuide ws (i * wordsPer m) (wordsPer m) (g + 1) r → x ≡ sum T 0 (min g m) → y ≡ x + T g →
+        y ≡ sum T 0 (min r m)
     walk-again g r x y h n e d =
         let here : min g m ≡ g = omega arith in
         let before : x ≡ sum T 0 g = e ∙ ap (λ (q : ℕ). sum T 0 q) here in
-        sym (sum-skip T (g + 1) (min r m) (omega (arith, n .from)) (λ q l u. zeros q (between (g + 1) r n q l u)) ∙ ap (λ (q : ℕ). sum T 0 q) (add-one g) ∙ sum-next T g ∙ ap (λ (q : ℕ). q + T g) (sym before) ∙ sym d)
+        sym
+        (sum-skip T (g + 1) (min r m) (omega (arith, n .from)) (λ q l u. zeros q (between (g + 1) r n q l u)) ∙ ap (λ (q : ℕ). sum T 0 q)
+        (add-one g) ∙ sum-next T g ∙ ap (λ (q : ℕ). q + T g) (sym before) ∙ sym d)
 
     pub walk-done : (g x : ℕ) → m ≤ g → x ≡ sum T 0 (min g m) → x ≡ sum T 0 m
     walk-done g x h e = let d : min g m ≡ m = omega arith in e ∙ ap (λ (q : ℕ). sum T 0 q) d
@@ -285,12 +320,24 @@ module _ {m i : ℕ} {cs ws : List ℕ} (ok : Marked m i cs ws) where
 
     -- the sums as far as the scan has come
     pub sums-low : (n x y : ℕ) → x ≡ sum (λ f. getD cs (cellAt m i f) 0) 0 (min n m) → y ≡ sum term 0 (min n m) → (x ≤ 961) × (y ≤ 62979135)
-    sums-low n x y ex ey = (omega (arith, cells-mono (min n m) (omega arith)), omega (arith, dot-low (min n m) (omega arith), cells-mono (min n m) (omega arith)))
+    sums-low n x y ex ey =
+        (omega (arith, cells-mono (min n m) (omega arith)), omega (arith, dot-low (min n m) (omega arith), cells-mono (min n m) (omega arith)))
 
     -- a turn
     pub turn : (g : ℕ) → g < m
-        → (i * m + g < length cs) × (i * m + g ≤ 262144) × (at + g < length row) × (at + g ≤ 65792) × (getD cs (i * m + g) 0 ≤ 961) × (getD row (at + g) 0 ≤ 65535) × (getD cs (i * m + g) 0 * getD row (at + g) 0 ≤ 62979135)
-    turn g h = (omega (arith, ok .cells), omega (arith, base-low, ok .guides), omega (arith, rw′ .inside), omega (arith, rw′ .start, ok .guides), cell-low g h, le-trans (rw′ .low g h) (omega arith), omega (arith, term-low g h, cell-low g h))
+        →
+        (i * m + g < length cs) × (i * m + g ≤ 262144) × (at + g < length row) × (at + g ≤ 65792) × (getD cs (i * m + g) 0 ≤ 961) ×
+        (getD row (at + g) 0 ≤ 65535) × (getD cs (i * m + g) 0 * getD row (at + g) 0 ≤ 62979135)
+    turn g h = (
+      omega (arith, ok .cells),
+      omega (arith, base-low, ok .guides),
+      omega (arith, rw′ .inside),
+      omega (arith, rw′ .start, ok .guides),
+      cell-low g
+          h,
+      le-trans (rw′ .low g h) (omega arith),
+      omega (arith, term-low g h, cell-low g h),
+    )
 
   pub scan-asks : (i * wordsPer m + wordsPer m ≤ length ws) × (wordsPer m ≤ 4) × (0 ≤ 4) × (i * wordsPer m < 4096)
   scan-asks = (ok .words, omega (arith, ok .guides), omega arith, omega (arith, first-low))

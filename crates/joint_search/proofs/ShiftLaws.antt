@@ -33,7 +33,8 @@ module _ {m i : ℕ} {cs ws : List ℕ} (ok : Marked m i cs ws) (by : ℤ) (bx :
   pub shift-old : (g : ℕ) (out : List ℤ) → g < m → CountsAdded m i by cs (min g m) bx out → getD out g (pos 0) ≡ getD bx g (pos 0)
   shift-old g out h s = s .rest g (omega arith)
 
-  pub shift-again : (g r : ℕ) (out : List ℤ) (v : ℤ) → g < m → length bx ≡ 256 → NextGuide ws (i * wordsPer m) (wordsPer m) (g + 1) r → CountsAdded m i by cs (min g m) bx out
+  pub shift-again : (g r : ℕ) (out : List ℤ) (v : ℤ) → g < m → length bx ≡ 256 → NextGuide ws (i * wordsPer m) (wordsPer m) (g + 1) r →
+      CountsAdded m i by cs (min g m) bx out
       → v ≡ getD out g (pos 0) +ℤ by *ℤ pos (getD cs (cellAt m i g) 0) → CountsAdded m i by cs (min r m) bx (set out g v)
   shift-again g r out v h long n s e = record {
     long = length-set out g v ∙ s .long;
@@ -47,19 +48,24 @@ module _ {m i : ℕ} {cs ws : List ℕ} (ok : Marked m i cs ws) (by : ℤ) (bx :
           rw d (getD-set-same out g v (pos 0) inside ∙ e ∙ ap (λ (q : ℤ). q +ℤ by *ℤ pos (getD cs (cellAt m i g) 0)) (shift-old g out h s))
 
       off : (f : ℕ) → f < min r m → (f ≡ g → ⊥) → getD (set out g v) f (pos 0) ≡ getD bx f (pos 0) +ℤ by *ℤ pos (getD cs (cellAt m i f) 0)
-      off f l d = getD-set-other out g f v (pos 0) d ∙ ⊎-elim (λ x. s .cells f (omega arith)) (λ x. s .rest f (omega arith) ∙ sym (none f (between ok (g + 1) r n f (omega arith) l))) (lt-or-le f g)
+      off f l d =
+          getD-set-other out g f v (pos 0) d ∙ ⊎-elim (λ x. s .cells f (omega arith))
+          (λ x. s .rest f (omega arith) ∙ sym (none f (between ok (g + 1) r n f (omega arith) l))) (lt-or-le f g)
 
   pub shift-done : (g : ℕ) (out : List ℤ) → m ≤ g → CountsAdded m i by cs (min g m) bx out → CountsAdded m i by cs m bx out
   shift-done g out h s = let e : min g m ≡ m = omega arith in subst (λ (q : ℕ). CountsAdded m i by cs q bx out) e s
 
-pub shift-asks : {m i : ℕ} {cs ws : List ℕ} → Marked m i cs ws → (by by′ : ℤ) (bx out : List ℤ) (g : ℕ) → natAbs by ≤ 2 → BoxInBounds bx → g < m → CountsAdded m i by′ cs (min g m) bx out
+pub shift-asks : {m i : ℕ} {cs ws : List ℕ} → Marked m i cs ws → (by by′ : ℤ) (bx out : List ℤ) (g : ℕ) → natAbs by ≤ 2 → BoxInBounds bx → g < m →
+    CountsAdded m i by′ cs (min g m) bx out
     → (natAbs (toZ w16 (ofZ w16 (getD out g (pos 0)))) ≤ 961) × (natAbs (toZ w16 (ofZ w16 by)) ≤ 2) × (getD cs (i * m + g) 0 ≤ 961)
 shift-asks ok by by′ bx out g hb lo h s =
     let old : getD out g (pos 0) ≡ getD bx g (pos 0) = s .rest g (omega arith) in
     (rw (old, read-bounded w16 961 (lo .low g) tt) (lo .low g), rw (read-bounded w16 2 hb tt) hb, cell-low ok g h)
 
-pub shift-stored : (x by r : ℤ) (n : ℕ) → natAbs x ≤ 961 → mag r < 2 ^ hbits w16 → r ≡ toZ w16 (ofZ w16 x) +ℤ by *ℤ pos n → toZ w16 (ofZ w16 r) ≡ x +ℤ by *ℤ pos n
+pub shift-stored : (x by r : ℤ) (n : ℕ) → natAbs x ≤ 961 → mag r < 2 ^ hbits w16 → r ≡ toZ w16 (ofZ w16 x) +ℤ by *ℤ pos n →
+    toZ w16 (ofZ w16 r) ≡ x +ℤ by *ℤ pos n
 shift-stored x by r n h k e = toZ-ofZ (record { sfits = k }) ∙ e ∙ ap (λ (q : ℤ). q +ℤ by *ℤ pos n) (read-bounded w16 {z = x} 961 h tt)
 
-pub shift-low : (m i : ℕ) (by : ℤ) (cs : List ℕ) (bx out : List ℤ) (g : ℕ) → BoxInBounds bx → g < m → CountsAdded m i by cs (min g m) bx out → natAbs (getD out g (pos 0)) ≤ 961
+pub shift-low : (m i : ℕ) (by : ℤ) (cs : List ℕ) (bx out : List ℤ) (g : ℕ) → BoxInBounds bx → g < m → CountsAdded m i by cs (min g m) bx out →
+    natAbs (getD out g (pos 0)) ≤ 961
 shift-low m i by cs bx out g lo h s = let old : getD out g (pos 0) ≡ getD bx g (pos 0) = s .rest g (omega arith) in rw old (lo .low g)

@@ -108,16 +108,22 @@ module _ {b : List ℕ} {plan : Plan} {s t : ℕ} {cs ws : List ℕ} (st : Count
   last : (i l n : ℕ) → i < l → i * n + n ≤ l * n
   last i l n h = let e : suc i ≤ l = omega arith in subst (λ (q : ℕ). q ≤ l * n) (suc-mul i n) (mul-le-mul e (le-refl n))
 
-  level-cells : (i : ℕ) → i < frameOf b .set .levels → cellSum (frameOf b .set .guides) i cs (frameOf b .set .guides) ≡ sum (λ f. count (frameOf b) s t i f) 0 (frameOf b .set .guides)
+  level-cells : (i : ℕ) → i < frameOf b .set .levels →
+      cellSum (frameOf b .set .guides) i cs (frameOf b .set .guides) ≡ sum (λ f. count (frameOf b) s t i f) 0 (frameOf b .set .guides)
   unfolding cellSum
-  level-cells i h = let M = frameOf b .set .guides in fold-same _+_ 0 natSums _ _ 0 M (λ f u v. rep .cells i f h (subst (λ (q : ℕ). f < q) (zero-add M) v))
+  level-cells i h = let M =
+      frameOf b .set .guides in fold-same _+_ 0 natSums _ _ 0 M (λ f u v. rep .cells i f h (subst (λ (q : ℕ). f < q) (zero-add M) v))
 
   all-cells : sum (λ i. cellSum (frameOf b .set .guides) i cs (frameOf b .set .guides)) 0 (frameOf b .set .levels) ≤ 961
-  all-cells = le-trans (le-of-eq (fold-same _+_ 0 natSums _ _ 0 (frameOf b .set .levels) (λ i x y. level-cells i (omega arith)) ∙ counts-all spot)) (pixelCount-high spot)
+  all-cells =
+      le-trans (le-of-eq (fold-same _+_ 0 natSums _ _ 0 (frameOf b .set .levels) (λ i x y. level-cells i (omega arith)) ∙ counts-all spot))
+      (pixelCount-high spot)
 
   level-few : (i : ℕ) → i < frameOf b .set .levels → cellSum (frameOf b .set .guides) i cs (frameOf b .set .guides) ≤ 961
   level-few i h =
-      le-trans (sum-term (λ i. cellSum (frameOf b .set .guides) i cs (frameOf b .set .guides)) 0 (frameOf b .set .levels) i (omega arith) (omega arith)) all-cells
+      le-trans
+      (sum-term (λ i. cellSum (frameOf b .set .guides) i cs (frameOf b .set .guides)) 0 (frameOf b .set .levels) i (omega arith) (omega arith))
+      all-cells
 
   marked : (i : ℕ) → i < frameOf b .set .levels → Marked (frameOf b .set .guides) i cs ws
   marked i h = record {
@@ -164,14 +170,16 @@ module _ {b : List ℕ} {plan : Plan} {s t : ℕ} {cs ws : List ℕ} (st : Count
     cumulative-is : (c : ℕ) → c < plan .levels → cumulativeOf (levelWeightIn (plan .guides) cs row w) c ≡ cumulative (frameOf b) s t c
     cumulative-is zero h = levels.cumulative-zero _ ∙ level-is 0 h ∙ sym (cumulative-zero (frameOf b) s t)
     cumulative-is (suc c) h =
-        levels.cumulative-next _ c ∙ ap₂ (λ (x y : ℤ). x +ℤ y) (cumulative-is c (omega arith)) (level-is (suc c) h) ∙ sym (cumulative-next (frameOf b) s t c)
+        levels.cumulative-next _ c ∙ ap₂ (λ (x y : ℤ). x +ℤ y) (cumulative-is c (omega arith)) (level-is (suc c) h) ∙ sym
+        (cumulative-next (frameOf b) s t c)
 
     some : 0 < plan .levels
     some = omega (arith, levels-eq, spot .good .sound .levels-low)
 
     pub total-is : totalOf (levelWeightIn (plan .guides) cs row w) (plan .levels) ≡ totalWeight (frameOf b) s t
     total-is =
-        sym (levels.cumulative-last _ (plan .levels) some) ∙ cumulative-is (plan .levels - 1) (omega (arith, some)) ∙ ap (λ (l : ℕ). cumulative (frameOf b) s t (l - 1)) levels-eq ∙ cumulative-last spot
+        sym (levels.cumulative-last _ (plan .levels) some) ∙ cumulative-is (plan .levels - 1) (omega (arith, some)) ∙ ap
+        (λ (l : ℕ). cumulative (frameOf b) s t (l - 1)) levels-eq ∙ cumulative-last spot
 
     pub balance-is : (c : ℕ) → c < plan .levels → balanceIn plan cs row w c ≡ balance (frameOf b) s t c
     unfolding balanceOf balance
@@ -185,7 +193,10 @@ module _ {b : List ℕ} {plan : Plan} {s t : ℕ} {cs ws : List ℕ} (st : Count
     unfolding medianOf
     median-is =
         let f = median-first (frameOf b) s t in
-        let same : (i : ℕ) → i < plan .levels → leZ (totalOf (levelWeightIn (plan .guides) cs row w) (plan .levels)) (pos 2 *ℤ cumulativeOf (levelWeightIn (plan .guides) cs row w) i) ≡ leZ (totalWeight (frameOf b) s t) (pos 2 *ℤ cumulative (frameOf b) s t i) = λ i h. ap₂ (λ (u v : ℤ). leZ u (pos 2 *ℤ v)) total-is (cumulative-is i h) in
+        let same : (i : ℕ) → i < plan .levels →
+        leZ (totalOf (levelWeightIn (plan .guides) cs row w) (plan .levels)) (pos 2 *ℤ cumulativeOf (levelWeightIn (plan .guides) cs row w) i) ≡
+        leZ (totalWeight (frameOf b) s t) (pos 2 *ℤ cumulative (frameOf b) s t i) =
+        λ i h. ap₂ (λ (u v : ℤ). leZ u (pos 2 *ℤ v)) total-is (cumulative-is i h) in
         first-unique _ (plan .levels) (median (frameOf b) s t)
         (record {
           within = rw levels-eq (f .within);

@@ -38,17 +38,23 @@ table-weights {m} {row} {w} es eo = record {
 
 -- ---- the cases
 module _ (plan : Plan) (cs row : List ℕ) (w : Formula) (own c n : ℕ) where
-  pub arrival-weightless : {a k j : ℕ} → true ≡ weightlessIn plan cs row w → a ≡ own → k ≡ c → j ≡ n → arrivalAt a k j ≡ arrivalIn plan cs row w own c n
+  pub arrival-weightless : {a k j : ℕ} → true ≡ weightlessIn plan cs row w → a ≡ own → k ≡ c → j ≡ n →
+      arrivalAt a k j ≡ arrivalIn plan cs row w own c n
   unfolding arrivalIn
   arrival-weightless {a} {k} {j} e ea ek ej =
       ap₂ (λ (x y : ℕ). arrivalAt x y j) ea ek ∙ ap (λ (x : ℕ). arrivalAt own c x) ej
-      ∙ ap (λ (b : Bool). if b then arrivalAt own c n else arrivalAt (medianIn plan cs row w) (medianIn plan cs row w) (n + distance (medianIn plan cs row w) c)) e
+      ∙ ap
+      (λ (b : Bool). if b then arrivalAt own c n else arrivalAt (medianIn plan cs row w) (medianIn plan cs row w)
+      (n + distance (medianIn plan cs row w) c)) e
 
-  pub arrival-full : {a k : ℕ} → false ≡ weightlessIn plan cs row w → a ≡ medianIn plan cs row w → k ≡ n + distance a c → arrivalAt a a k ≡ arrivalIn plan cs row w own c n
+  pub arrival-full : {a k : ℕ} → false ≡ weightlessIn plan cs row w → a ≡ medianIn plan cs row w → k ≡ n + distance a c →
+      arrivalAt a a k ≡ arrivalIn plan cs row w own c n
   unfolding arrivalIn
   arrival-full {a} {k} e ea ek =
       ap (λ (j : ℕ). arrivalAt a a j) ek ∙ ap (λ (m : ℕ). arrivalAt m m (n + distance m c)) ea
-      ∙ ap (λ (b : Bool). if b then arrivalAt own c n else arrivalAt (medianIn plan cs row w) (medianIn plan cs row w) (n + distance (medianIn plan cs row w) c)) e
+      ∙ ap
+      (λ (b : Bool). if b then arrivalAt own c n else arrivalAt (medianIn plan cs row w) (medianIn plan cs row w)
+      (n + distance (medianIn plan cs row w) c)) e
 
 -- ---- by the counts of a window, in kind 1, it is the frame's
 pub kind-is : {b : List ℕ} {plan : Plan} → Planned b plan → {k : ℕ} → plan .kind ≡ k → frameOf b .set .kind ≡ k
@@ -58,8 +64,10 @@ table-monotone : {b : List ℕ} {plan : Plan} → Planned b plan → (s t : ℕ)
 unfolding monotone
 table-monotone {b} pl s t e = rw (eq-eqb (frameOf b .set .kind) 1 (kind-is pl e)) refl
 
-module _ {b : List ℕ} {plan : Plan} {s t : ℕ} {cs ws row : List ℕ} {w : Formula} (st : Counted b plan s t cs ws) (weighs : Weighs (frameOf b) s t row w) (one : plan .kind ≡ 1) where
-  module _ {own c n : ℕ} {r : TableArrival} {bx : List ℤ} (eo : own ≡ level (frameOf b) s t) (h : c < plan .levels) (er : r ≡ arrivalIn plan cs row w own c n) (eb : bx ≡ boxIn plan cs (r .cut .0)) where
+module _ {b : List ℕ} {plan : Plan} {s t : ℕ} {cs ws row : List ℕ} {w : Formula} (st : Counted b plan s t cs ws)
+    (weighs : Weighs (frameOf b) s t row w) (one : plan .kind ≡ 1) where
+  module _ {own c n : ℕ} {r : TableArrival} {bx : List ℤ} (eo : own ≡ level (frameOf b) s t) (h : c < plan .levels)
+      (er : r ≡ arrivalIn plan cs row w own c n) (eb : bx ≡ boxIn plan cs (r .cut .0)) where
     weightless-case : weightless (frameOf b) s t ≡ true → Arrives (frameOf b) s t c n r bx
     weightless-case z =
         let e : r ≡ arrivalAt own c n = er ∙ sym (arrival-weightless plan cs row w own c n (sym (weightless-is st weighs ∙ z)) refl refl refl) in
@@ -75,14 +83,17 @@ module _ {b : List ℕ} {plan : Plan} {s t : ℕ} {cs ws row : List ℕ} {w : Fo
     full-case : weightless (frameOf b) s t ≡ false → Arrives (frameOf b) s t c n r bx
     full-case z =
         let m = median (frameOf b) s t in
-        let e : r ≡ arrivalAt m m (n + distance m c) = er ∙ sym (arrival-full plan cs row w own c n (sym (weightless-is st weighs ∙ z)) (sym (median-is st weighs)) refl) in
+        let e : r ≡ arrivalAt m m (n + distance m c) =
+        er ∙ sym (arrival-full plan cs row w own c n (sym (weightless-is st weighs ∙ z)) (sym (median-is st weighs)) refl) in
         let q = sym (arrive-full (frameOf b) s t c n z) in
         let k : r .cut .0 ≡ m = ap (λ (x : TableArrival). x .cut .0) e in
         let l : m < plan .levels = rw (levels-eq st) (median-low (spot st)) in
         record {
           answer = ap (λ (x : TableArrival). x .answer .0) e ∙ ap (λ (x : State). x .answer) q;
           cut = k ∙ ap (λ (x : State). x .cut) q;
-          shifts = ap (λ (x : TableArrival). x .shifts) e ∙ ap (λ (u : Bool). n + (if u then distance m c else m)) (sym (table-monotone (st .planned) s t one)) ∙ ap (λ (x : State). x .shifts) q;
+          shifts =
+              ap (λ (x : TableArrival). x .shifts) e ∙ ap (λ (u : Bool). n + (if u then distance m c else m))
+              (sym (table-monotone (st .planned) s t one)) ∙ ap (λ (x : State). x .shifts) q;
           box = eb ∙ ap (boxIn plan cs) k ∙ sym (box-of st m l) ∙ ap (balanceBox (frameOf b) s t) (sym k);
         }
 

@@ -41,7 +41,8 @@ part-cell : (xs : List ℕ) (i n k : ℕ) → k < n → getD (take n (drop i xs)
 part-cell xs i n k h = getD-take n (drop i xs) k 0 h ∙ getD-drop i xs k 0
 
 -- the box moved to a level is the window's there
-pub box-moved : {b : List ℕ} {plan : Plan} {s t : ℕ} {cs ws : List ℕ} → Counted b plan s t cs ws → (to k : ℕ) {bx : List ℤ} → bx ≡ boxIn plan cs to → to ≡ k → k < plan .levels → bx ≡ balanceBox (frameOf b) s t k
+pub box-moved : {b : List ℕ} {plan : Plan} {s t : ℕ} {cs ws : List ℕ} → Counted b plan s t cs ws → (to k : ℕ) {bx : List ℤ} → bx ≡ boxIn plan cs to →
+    to ≡ k → k < plan .levels → bx ≡ balanceBox (frameOf b) s t k
 box-moved {plan = plan} {cs = cs} st to k e d h = e ∙ ap (boxIn plan cs) d ∙ sym (box-of st k h)
 
 -- a histogram's two lists, as they are lent
@@ -55,7 +56,8 @@ pub counts-long : (l : ℕ) (ns : List ℕ) → l + l ≤ length ns → length (
 counts-long l ns h = length-take-le l ns (omega arith)
 
 module _ {b : List ℕ} {z : Plan} (pl : Planned b z) where
-  pub counted-of : {s t c : ℕ} {xs ws xs′ ws′ : List ℕ} {bx′ : List ℤ} → s < z .width → t < z .height → JointAt (frameOf b) s t c xs ws xs′ ws′ bx′ → Counted b z s t xs′ ws′
+  pub counted-of : {s t c : ℕ} {xs ws xs′ ws′ : List ℕ} {bx′ : List ℤ} → s < z .width → t < z .height → JointAt (frameOf b) s t c xs ws xs′ ws′ bx′ →
+      Counted b z s t xs′ ws′
   counted-of hs ht j =
       let k = settled (pixel-of pl hs ht) j in
       record { planned = pl; column = hs; row = ht; counts = k .counts; words = k .words }

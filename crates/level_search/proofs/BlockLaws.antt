@@ -36,7 +36,8 @@ total-none xs at = omega (arith, ap (sumTo xs) (add-zero at))
 pub total-next : (xs : List ℕ) (at j s : ℕ) → s + sumTo xs at ≡ sumTo xs (at + j) → s + getD xs (at + j) 0 + sumTo xs at ≡ sumTo xs (at + (j + 1))
 total-next xs at j s e = let d : at + j + 1 ≡ at + (j + 1) = omega arith in omega (arith, sumTo-more xs (at + j), ap (sumTo xs) d)
 
-pub tally-block : {counts sums : List ℕ} {i n s : ℕ} (x y : ℕ) → TallyTo counts sums i (tally n s) → x + sumTo counts i ≡ sumTo counts (i + 16) → y + sumTo sums i ≡ sumTo sums (i + 16)
+pub tally-block : {counts sums : List ℕ} {i n s : ℕ} (x y : ℕ) → TallyTo counts sums i (tally n s) → x + sumTo counts i ≡ sumTo counts (i + 16) →
+    y + sumTo sums i ≡ sumTo sums (i + 16)
     → TallyTo counts sums (i + 16) (tally (n + x) (s + y))
 tally-block x y a e d = record { count = omega (arith, a .count); sum = omega (arith, a .sum) }
 
@@ -57,7 +58,8 @@ module _ {k : Coefficients} {counts sums : List ℕ} {w : ℤ} (v : Heaviest k c
   at i = weightOf k (sumTo counts i) (sumTo sums i)
 
   at-more : (i : ℕ) → at (i + 1) ≡ at i +ℤ weightOf k (getD counts i 0) (getD sums i 0)
-  at-more i = ap₂ (weightOf k) (sumTo-more counts i) (sumTo-more sums i) ∙ weigh-more k (sumTo counts i) (sumTo sums i) (getD counts i 0) (getD sums i 0)
+  at-more i =
+      ap₂ (weightOf k) (sumTo-more counts i) (sumTo-more sums i) ∙ weigh-more k (sumTo counts i) (sumTo sums i) (getD counts i 0) (getD sums i 0)
 
   -- the pixels of the levels below i at w each
   abbrev most : ℕ → ℤ
@@ -74,18 +76,24 @@ module _ {k : Coefficients} {counts sums : List ℕ} {w : ℤ} (v : Heaviest k c
   range i zero h = subst (λ (n : ℕ). (at n +ℤ most i) ≤ℤ (at i +ℤ most n)) (sym (add-zero i)) (≤ℤ-refl (at i +ℤ most i))
   range i (suc d) h =
       subst (λ (n : ℕ). (at n +ℤ most i) ≤ℤ (at i +ℤ most n)) (add-one (i + d) ∙ sym (add-suc i d))
-      (subst₂ (λ (x y : ℤ). (x +ℤ most i) ≤ℤ (at i +ℤ y)) (sym (at-more (i + d))) (sym (most-more (i + d))) (grow (at i) (at (i + d)) (most i) (most (i + d)) _ _ (range i d (omega arith)) (v .level (i + d) (omega arith))))
+      (subst₂ (λ (x y : ℤ). (x +ℤ most i) ≤ℤ (at i +ℤ y)) (sym (at-more (i + d))) (sym (most-more (i + d)))
+      (grow (at i) (at (i + d)) (most i) (most (i + d)) _ _ (range i d (omega arith)) (v .level (i + d) (omega arith))))
 
-  pub light-fails : {i n s : ℕ} → TallyTo counts sums i (tally n s) → Light k w counts i n s → (j : ℕ) → i ≤ j → j < i + 16 → passes k counts sums j ≡ false
+  pub light-fails : {i n s : ℕ} → TallyTo counts sums i (tally n s) → Light k w counts i n s → (j : ℕ) → i ≤ j → j < i + 16 →
+      passes k counts sums j ≡ false
   unfolding passes reachesHalf
   light-fails {i} {n} {s} a l j h m =
       let e : i + (suc j - i) ≡ suc j = omega arith in
-      let d : sumTo counts (i + 16) ≡ (sumTo counts (i + 16) - sumTo counts i) + sumTo counts i = omega (arith, sumTo-le counts {i = i} {n = i + 16} (omega arith)) in
-      let r : (at (suc j) +ℤ most i) ≤ℤ (at i +ℤ most (suc j)) = subst (λ (q : ℕ). (at q +ℤ most i) ≤ℤ (at i +ℤ most q)) e (range i (suc j - i) (omega (arith, l .whole))) in
+      let d : sumTo counts (i + 16) ≡ (sumTo counts (i + 16) - sumTo counts i) + sumTo counts i =
+      omega (arith, sumTo-le counts {i = i} {n = i + 16} (omega arith)) in
+      let r : (at (suc j) +ℤ most i) ≤ℤ (at i +ℤ most (suc j)) =
+      subst (λ (q : ℕ). (at q +ℤ most i) ≤ℤ (at i +ℤ most q)) e (range i (suc j - i) (omega (arith, l .whole))) in
       let y : most (suc j) ≤ℤ (w *ℤ pos (sumTo counts (i + 16) - sumTo counts i) +ℤ most i) =
       ≤-trans (mul-mono-l w (v .not-negative) (pos-≤ (sumTo-le counts {i = suc j} {n = i + 16} (omega arith))))
       (≤-of-eq (ap (λ (q : ℕ). w *ℤ pos q) d ∙ most-both (sumTo counts (i + 16) - sumTo counts i) (sumTo counts i))) in
-      lt-leZ (still-short (at (suc j)) (at i) (most i) (most (suc j)) (w *ℤ pos (sumTo counts (i + 16) - sumTo counts i)) (k .total) r y (rw (a .count, a .sum) at (l .short)))
+      lt-leZ
+      (still-short (at (suc j)) (at i) (most i) (most (suc j)) (w *ℤ pos (sumTo counts (i + 16) - sumTo counts i)) (k .total) r y
+      (rw (a .count, a .sum) at (l .short)))
 
   pub fail-block : {i n s : ℕ} → TallyTo counts sums i (tally n s) → Light k w counts i n s → FailTo k counts sums i → FailTo k counts sums (i + 16)
   fail-block {i} a l f = record { fails = λ j h. go j h (native.Mathlib.Decide.decLt j i) }

@@ -36,7 +36,8 @@ module _ {counts sums : List ℕ} where
   pub tally-next : {n s i : ℕ} → TallyTo counts sums i (tally n s) → TallyTo counts sums (i + 1) (tally (n + getD counts i 0) (s + getD sums i 0))
   tally-next {n} {s} {i} a = record { count = omega (arith, a .count, sumTo-more counts i); sum = omega (arith, a .sum, sumTo-more sums i) }
 
-  pub tally-back : {n s : ℕ} (c : ℕ) → TallyTo counts sums (c + 1) (tally n s) → TallyTo counts sums c (tally (n - getD counts c 0) (s - getD sums c 0))
+  pub tally-back : {n s : ℕ} (c : ℕ) → TallyTo counts sums (c + 1) (tally n s) →
+      TallyTo counts sums c (tally (n - getD counts c 0) (s - getD sums c 0))
   tally-back {n} {s} c a = record { count = omega (arith, a .count, sumTo-more counts c); sum = omega (arith, a .sum, sumTo-more sums c) }
 
   pub tally-enough : {n s : ℕ} (c : ℕ) → TallyTo counts sums (c + 1) (tally n s) → (getD counts c 0 ≤ n) × (getD sums c 0 ≤ s)
@@ -60,7 +61,8 @@ module _ {counts sums : List ℕ} where
 
     pub first-here : {i : ℕ} → FailTo k counts sums i → i < length counts → passes k counts sums i ≡ true → i ≡ firstLevel k counts sums
     unfolding firstLevel
-    first-here {i} f h e = sym (first-unique (passes k counts sums) (length counts) i (record { within = omega arith; passes = λ _. e; before = f .fails }))
+    first-here {i} f h e =
+        sym (first-unique (passes k counts sums) (length counts) i (record { within = omega arith; passes = λ _. e; before = f .fails }))
 
     -- some level passes, so those that fall short are not all
     pub fail-inside : Searchable k counts sums → {i : ℕ} → FailTo k counts sums i → i < length counts
@@ -68,7 +70,8 @@ module _ {counts sums : List ℕ} where
     fail-inside q {i} f = go (native.Mathlib.Decide.decLt (firstLevel k counts sums) i)
       where
         go : Dec (firstLevel k counts sums < i) → i < length counts
-        go (yes h) = absurd (true≢false (sym (first-is (passes k counts sums) (length counts) .passes (q .some)) ∙ f .fails (firstLevel k counts sums) h))
+        go (yes h) =
+            absurd (true≢false (sym (first-is (passes k counts sums) (length counts) .passes (q .some)) ∙ f .fails (firstLevel k counts sums) h))
         go (no h) = omega (arith, q .some)
 
     -- and where all but the last do, it passes
@@ -87,16 +90,19 @@ module _ {counts sums : List ℕ} where
         go j h true d = absurd (true≢false (sym (r .rises j c (omega arith) l d) ∙ e))
         go j h false d = d
 
-    pub found-at : {f : Found} {i n s shifts : ℕ} → f ≡ foundAt i n s shifts → FailTo k counts sums i → i < length counts → passes k counts sums i ≡ true
+    pub found-at : {f : Found} {i n s shifts : ℕ} → f ≡ foundAt i n s shifts → FailTo k counts sums i → i < length counts →
+        passes k counts sums i ≡ true
         → TallyTo counts sums (i + 1) (tally n s) → FoundAt k counts sums f
     found-at {f} {i} {n} {s} {shifts} e fail h p a =
         subst (FoundAt k counts sums) (sym e) (record { level = first-here fail h p; tally = a })
 
 -- the shifts of what is found
-pub shifted : (shifts from : ℕ) {f : Found} {i n s m : ℕ} → f ≡ foundAt i n s m → m + from ≡ shifts + i → from ≤ i → (f .shifts + from ≡ shifts + f .level .0) × (from ≤ f .level .0)
+pub shifted : (shifts from : ℕ) {f : Found} {i n s m : ℕ} → f ≡ foundAt i n s m → m + from ≡ shifts + i → from ≤ i →
+    (f .shifts + from ≡ shifts + f .level .0) × (from ≤ f .level .0)
 shifted shifts from e h l = rw e (h, l)
 
-pub shifted-back : (shifts cut : ℕ) {f : Found} {i n s m : ℕ} → f ≡ foundAt i n s m → m + i ≡ shifts + cut → i ≤ cut → (f .shifts + f .level .0 ≡ shifts + cut) × (f .level .0 ≤ cut)
+pub shifted-back : (shifts cut : ℕ) {f : Found} {i n s m : ℕ} → f ≡ foundAt i n s m → m + i ≡ shifts + cut → i ≤ cut →
+    (f .shifts + f .level .0 ≡ shifts + cut) × (f .level .0 ≤ cut)
 shifted-back shifts cut e h l = rw e (h, l)
 
 -- ---- upward: the levels below i fall short

@@ -78,7 +78,8 @@ module _ (p : Frame) (s t : ℕ) where
   pub below-linear : p .set .kind ≡ 2 → (n : ℕ)
       → slope p s t *ℤ pos (belowSum p s t (guide p) n) +ℤ offset p s t *ℤ pos (belowSum p s t (λ x y. 1) n) ≡ cumulativeBelow p s t n
   below-linear two zero =
-      rw (below-zero (guide p), below-zero (λ x y. 1)) (solve2 (λ c d. c ⊗ # 0 ⊕ d ⊗ # 0 ≐ # 0) refl (slope p s t) (offset p s t)) ∙ sym (cumulativeBelow-zero p s t)
+      rw (below-zero (guide p), below-zero (λ x y. 1)) (solve2 (λ c d. c ⊗ # 0 ⊕ d ⊗ # 0 ≐ # 0) refl (slope p s t) (offset p s t)) ∙ sym
+      (cumulativeBelow-zero p s t)
   below-linear two (suc n) =
       rw (below-next (guide p) n, below-next (λ x y. 1) n)
       (solve6 (λ c d g f x y. c ⊗ (g ⊕ x) ⊕ d ⊗ (f ⊕ y) ≐ (c ⊗ g ⊕ d ⊗ f) ⊕ (c ⊗ x ⊕ d ⊗ y)) refl (slope p s t) (offset p s t)
@@ -91,7 +92,8 @@ to-below : (p : Frame) (s t : ℕ) (f : ℕ → ℕ → ℕ) (xs : List ℕ) →
     → (n : ℕ) → n ≤ p .set .levels → sumTo xs n ≡ belowSum p s t f n
 to-below p s t f xs c zero h = sumTo-none xs ∙ sym (below-zero p s t f)
 to-below p s t f xs c (suc n) h =
-    ap (sumTo xs) (sym (add-one n)) ∙ sumTo-more xs n ∙ ap₂ _+_ (to-below p s t f xs c n (omega arith)) (c n (omega arith)) ∙ sym (below-next p s t f n)
+    ap (sumTo xs) (sym (add-one n)) ∙ sumTo-more xs n ∙ ap₂ _+_ (to-below p s t f xs c n (omega arith)) (c n (omega arith)) ∙ sym
+    (below-next p s t f n)
 
 module _ {p : Frame} {s t : ℕ} (q : Pixel p s t) {counts sums : List ℕ} (c : Profiled p s t counts sums) where
   pub count-to : (n : ℕ) → n ≤ p .set .levels → sumTo counts n ≡ belowSum p s t (λ x y. 1) n
@@ -121,7 +123,8 @@ module _ {p : Frame} {s t : ℕ} (q : Pixel p s t) {counts sums : List ℕ} (c :
     unfolding passes reachesHalf
     passes-is i h =
         let e : weightOf k (sumTo counts (suc i)) (sumTo sums (suc i)) ≡ cumulative p s t i =
-        rw (w .slope, w .offset, count-to (suc i) (omega arith), sum-to (suc i) (omega arith)) (below-linear p s t two (suc i)) ∙ cumulativeBelow-suc p s t i in
+        rw (w .slope, w .offset, count-to (suc i) (omega arith), sum-to (suc i) (omega arith)) (below-linear p s t two (suc i)) ∙ cumulativeBelow-suc
+        p s t i in
         ap₂ (λ (a b : ℤ). leZ a (pos 2 *ℤ b)) (w .total) e
 
     pub median-is : firstLevel k counts sums ≡ median p s t
@@ -150,17 +153,23 @@ module _ {p : Frame} {s t : ℕ} (q : Pixel p s t) {counts sums : List ℕ} (c :
         }
 
     -- ---- no pixel outweighs the larger end of the formula
-    pixel-below : {m : ℤ} → EndsBelow k (p .set .guides) m → (b : Bool) (g : ℕ) → g < p .set .guides → (if b then weight p s t g else pos 0) ≤ℤ (m *ℤ pos (if b then 1 else 0))
+    pixel-below : {m : ℤ} → EndsBelow k (p .set .guides) m → (b : Bool) (g : ℕ) → g < p .set .guides →
+        (if b then weight p s t g else pos 0) ≤ℤ (m *ℤ pos (if b then 1 else 0))
     pixel-below {m} e true g h =
         ≤-trans (≤-of-eq (weight-linear p s t g two ∙ sym (ap₂ (λ (c d : ℤ). c *ℤ pos g +ℤ d) (w .slope) (w .offset))))
-        (≤-trans (formula-below (k .slope) (k .offset) m {g = g} {m = p .set .guides - 1} (omega arith) (e .low) (e .high)) (≤-of-eq (sym (mul-one m))))
+        (≤-trans (formula-below (k .slope) (k .offset) m {g = g} {m = p .set .guides - 1} (omega arith) (e .low) (e .high))
+        (≤-of-eq (sym (mul-one m))))
     pixel-below {m} e false g h = ≤-of-eq (sym (*ℤ-zero m))
 
     level-below : {m : ℤ} → EndsBelow k (p .set .guides) m → (i : ℕ) → levelWeight p s t i ≤ℤ (m *ℤ pos (levelSum p s t (λ x y. 1) i))
     unfolding levelWeight levelSum
     level-below {m} e i =
-        ≤-trans (over-mono p s t _ (λ x y. m *ℤ pos (if eqb (level p x y) i then 1 else 0)) (λ x y h. pixel-below e (eqb (level p x y) i) (guide p x y) (q .good .guide-low x y (h .wide) (h .high))))
-        (≤-of-eq (over-scale p s t m (λ x y. pos (if eqb (level p x y) i then 1 else 0)) ∙ ap (λ (z : ℤ). m *ℤ z) (over-pos p s t (λ x y. if eqb (level p x y) i then 1 else 0))))
+        ≤-trans
+        (over-mono p s t _ (λ x y. m *ℤ pos (if eqb (level p x y) i then 1 else 0))
+        (λ x y h. pixel-below e (eqb (level p x y) i) (guide p x y) (q .good .guide-low x y (h .wide) (h .high))))
+        (≤-of-eq
+        (over-scale p s t m (λ x y. pos (if eqb (level p x y) i then 1 else 0)) ∙ ap (λ (z : ℤ). m *ℤ z)
+        (over-pos p s t (λ x y. if eqb (level p x y) i then 1 else 0))))
 
     pub heaviest : {m : ℤ} → EndsBelow k (p .set .guides) m → Heaviest k counts sums m
     heaviest {m} e =
@@ -173,7 +182,8 @@ module _ {p : Frame} {s t : ℕ} (q : Pixel p s t) {counts sums : List ℕ} (c :
         }
 
 -- ---- what is answered
-pub answered : {p : Frame} {s t : ℕ} → Pixel p s t → {counts sums : List ℕ} → Profiled p s t counts sums → p .set .kind ≡ 2 → {k : Coefficients} → WeighsAt p s t k → {c n : ℕ} {f : Found} {m : Bool}
+pub answered : {p : Frame} {s t : ℕ} → Pixel p s t → {counts sums : List ℕ} → Profiled p s t counts sums → p .set .kind ≡ 2 → {k : Coefficients} →
+    WeighsAt p s t k → {c n : ℕ} {f : Found} {m : Bool}
     → m ≡ monotone p s t → FoundAt k counts sums f → f .shifts ≡ n + (if m then distance (f .level .0) c else f .level .0)
     → Answered p s t c n f
 unfolding arrive
@@ -195,11 +205,13 @@ module _ {b : List ℕ} {z : Plan} (pl : Planned b z) (two : z .kind ≡ 2) {s t
   q : Pixel (frameOf b) s t
   q = pixel-of pl hs ht
 
-  module _ {k : Coefficients} (w : WeighsAt (frameOf b) s t k × CoefficientsSmall k) {counts sums : List ℕ} (v : Profiled (frameOf b) s t counts sums) {m : Bool} (em : m ≡ endsNotNegative k (z .guides)) where
+  module _ {k : Coefficients} (w : WeighsAt (frameOf b) s t k × CoefficientsSmall k) {counts sums : List ℕ}
+      (v : Profiled (frameOf b) s t counts sums) {m : Bool} (em : m ≡ endsNotNegative k (z .guides)) where
     is-monotone : m ≡ monotone (frameOf b) s t
     is-monotone = em ∙ ends-monotone pl two (w .0)
 
-    pub answerable : {c n : ℕ} {a : Tally} → c < z .levels → n ≤ 4294967296 → (m ≡ true → BelowAt (frameOf b) s t (c + 1) a) → Answerable k (z .guides) m c n a counts sums
+    pub answerable : {c n : ℕ} {a : Tally} → c < z .levels → n ≤ 4294967296 → (m ≡ true → BelowAt (frameOf b) s t (c + 1) a) →
+        Answerable k (z .guides) m c n a counts sums
     answerable lc ln below = record {
       search = searchable q v (guided pl two) (w .0) (w .1);
       heaviest = λ y e. heaviest q v (guided pl two) (w .0) (rw (facts pl .guides) at e);
@@ -211,11 +223,13 @@ module _ {b : List ℕ} {z : Plan} (pl : Planned b z) (two : z .kind ≡ 2) {s t
       rising = λ e. rising q v (guided pl two) (w .0) (sym is-monotone ∙ e);
     }
 
-    pub answered-at : {c n : ℕ} {f : Found} → FoundAt k counts sums f → f .shifts ≡ n + (if m then distance (f .level .0) c else f .level .0) → Answered (frameOf b) s t c n f
+    pub answered-at : {c n : ℕ} {f : Found} → FoundAt k counts sums f → f .shifts ≡ n + (if m then distance (f .level .0) c else f .level .0) →
+        Answered (frameOf b) s t c n f
     answered-at e sh = answered q v (guided pl two) (w .0) is-monotone e sh
 
 -- ---- the tally of the levels below an end
-module _ {b : List ℕ} {z : Plan} (pl : Planned b z) {s t : ℕ} (hs : s < z .width) (ht : t < z .height) {counts sums : List ℕ} (v : Profiled (frameOf b) s t counts sums) {n : ℕ} (h : n ≤ z .levels) where
+module _ {b : List ℕ} {z : Plan} (pl : Planned b z) {s t : ℕ} (hs : s < z .width) (ht : t < z .height) {counts sums : List ℕ}
+    (v : Profiled (frameOf b) s t counts sums) {n : ℕ} (h : n ≤ z .levels) where
   pub gather-asks : LevelCells counts sums × (n ≤ length counts)
   gather-asks = (level-cells (pixel-of pl hs ht) v, omega (arith, v .count-long, facts pl .levels))
 

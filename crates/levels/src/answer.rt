@@ -11,7 +11,7 @@ ghost use Rattle.spec.specs.Base.{if_then_else_, distance};
 ghost use Rattle.level_search.specs.Search.{FoundAt};
 ghost use Rattle.levels.specs.Answer.{Answerable};
 
-// By the coefficients k over so many guides: from the cut point where the window is monotone, with the tally of the levels up to it; else, and that
+// By the coefficients over so many guides: from the cut point where the window is monotone, with the tally of the levels up to it; else, and that
 // is often, from level 0, where no tally is asked for.
 pub fn answer(
     counts: &[u32],

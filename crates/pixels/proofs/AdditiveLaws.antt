@@ -134,7 +134,8 @@ module _ (p : List ℕ) (h : ℕ → ℕ → ℕ) where
     high (suc m) l = rw (native.Mathlib.Nat.suc-mul m top) (omega (arith, high m (omega arith), pixels-next _+_ 0 p h m, low m l))
 
 -- ---- for integers: n pixels with at most top each
-pub high-abs : (p : List ℕ) (h : ℕ → ℕ → ℤ) (top n : ℕ) → ((k : ℕ) → k < n → natAbs (h (levelIn p k) (guideIn p k)) ≤ top) → natAbs (pixelFoldTo _+ℤ_ (pos 0) p h n) ≤ n * top
+pub high-abs : (p : List ℕ) (h : ℕ → ℕ → ℤ) (top n : ℕ) → ((k : ℕ) → k < n → natAbs (h (levelIn p k) (guideIn p k)) ≤ top) →
+    natAbs (pixelFoldTo _+ℤ_ (pos 0) p h n) ≤ n * top
 unfolding pixelFoldTo
 high-abs p h top n low = le-trans (sum-abs _ (λ k. top) 0 n (λ k x y. low k (omega arith))) (le-of-eq (sum-const top 0 n))
 
@@ -152,16 +153,21 @@ module _ {A : Type 0} {_⊕_ : A → A → A} {o : A} {change : Bool → A → A
   }
 
   -- ---- a step of the window, whose lines were read into the lists e and l
-  module _ {b : List ℕ} {z : Plan} (pl : Planned b z) {s t s′ t′ : ℕ} (adj : Adjacent z s t s′ t′) {d : Step} (ed : d ≡ stepOf z s t s′ t′) (e l : List ℕ)
-      (re : (h : ℕ → ℕ → A) → pixelFold _⊕_ o e h ≡ lineFold _⊕_ o b (d .entering) h) (rl : (h : ℕ → ℕ → A) → pixelFold _⊕_ o l h ≡ lineFold _⊕_ o b (d .leaving) h) where
-    pub window-step : (q : Q) → windowSum _⊕_ o share (frameOf b) s′ t′ q ⊕ pixelFold _⊕_ o l (share q) ≡ windowSum _⊕_ o share (frameOf b) s t q ⊕ pixelFold _⊕_ o e (share q)
+  module _ {b : List ℕ} {z : Plan} (pl : Planned b z) {s t s′ t′ : ℕ} (adj : Adjacent z s t s′ t′) {d : Step} (ed : d ≡ stepOf z s t s′ t′)
+      (e l : List ℕ)
+      (re : (h : ℕ → ℕ → A) → pixelFold _⊕_ o e h ≡ lineFold _⊕_ o b (d .entering) h) (rl : (h : ℕ → ℕ → A) →
+      pixelFold _⊕_ o l h ≡ lineFold _⊕_ o b (d .leaving) h) where
+    pub window-step : (q : Q) →
+        windowSum _⊕_ o share (frameOf b) s′ t′ q ⊕ pixelFold _⊕_ o l (share q) ≡ windowSum _⊕_ o share (frameOf b) s t q ⊕ pixelFold _⊕_ o e
+        (share q)
     window-step q =
         ap (λ (y : A). windowSum _⊕_ o share (frameOf b) s′ t′ q ⊕ y) (rl (share q))
         ∙ (rw ed (step-law _⊕_ o pl (share q) (laws .sums) adj))
         ∙ ap (λ (y : A). windowSum _⊕_ o share (frameOf b) s t q ⊕ y) (sym (re (share q)))
 
     -- a number that was the old window's is the new one's
-    pub slid : {c c′ : Q → A} → Exchanged _⊕_ o share e l c c′ → (q : Q) → c q ≡ windowSum _⊕_ o share (frameOf b) s t q → c′ q ≡ windowSum _⊕_ o share (frameOf b) s′ t′ q
+    pub slid : {c c′ : Q → A} → Exchanged _⊕_ o share e l c c′ → (q : Q) → c q ≡ windowSum _⊕_ o share (frameOf b) s t q →
+        c′ q ≡ windowSum _⊕_ o share (frameOf b) s′ t′ q
     slid x q here =
         laws .cancel _ _ (pixelFold _⊕_ o l (share q)) (x .cells q ∙ ap (λ (y : A). y ⊕ pixelFold _⊕_ o e (share q)) here ∙ sym (window-step q))
 
@@ -175,7 +181,8 @@ module _ {Q : Type 0} (share : Q → ℕ → ℕ → ℕ) where
       (fits-next limit w (c q) _ _ _ h (omega (arith, pixels-next _+_ 0 p (share q) k, upto p (share q) (suc k) (countOf p) l)))
 
   -- one list in, another out
-  module _ {limit : ℕ} {e l : List ℕ} {c : Q → ℕ} (x : Exchangeable share limit e l c) {c₁ : Q → ℕ} (g : PassedTo _+_ 0 share changed true e (countOf e) c c₁) where
+  module _ {limit : ℕ} {e l : List ℕ} {c : Q → ℕ} (x : Exchangeable share limit e l c) {c₁ : Q → ℕ}
+      (g : PassedTo _+_ 0 share changed true e (countOf e) c c₁) where
     pub leave-fits : (q : Q) → Fits limit false (c₁ q) (pixelFold _+_ 0 l (share q))
     unfolding changed
     leave-fits q = omega (arith, g .cells q, x .there q)
@@ -186,11 +193,14 @@ module _ {Q : Type 0} (share : Q → ℕ → ℕ → ℕ) where
 
   module _ {b : List ℕ} {z : Plan} (pl : Planned b z) {s t s′ t′ : ℕ} (adj : Adjacent z s t s′ t′) {d : Step} (ed : d ≡ stepOf z s t s′ t′)
       {e l : List ℕ} (re : LinePixels b z (d .entering) e) (rl : LinePixels b z (d .leaving) l) where
-    pub stepped : (q : Q) → windowSum _+_ 0 share (frameOf b) s′ t′ q + pixelFold _+_ 0 l (share q) ≡ windowSum _+_ 0 share (frameOf b) s t q + pixelFold _+_ 0 e (share q)
+    pub stepped : (q : Q) →
+        windowSum _+_ 0 share (frameOf b) s′ t′ q + pixelFold _+_ 0 l (share q) ≡ windowSum _+_ 0 share (frameOf b) s t q + pixelFold _+_ 0 e
+        (share q)
     stepped = window-step naturals share pl adj ed e l (re .sum) (rl .sum)
 
     -- what leaves is there
-    pub leaving-there : {c : Q → ℕ} → ((q : Q) → c q ≡ windowSum _+_ 0 share (frameOf b) s t q) → (q : Q) → pixelFold _+_ 0 l (share q) ≤ c q + pixelFold _+_ 0 e (share q)
+    pub leaving-there : {c : Q → ℕ} → ((q : Q) → c q ≡ windowSum _+_ 0 share (frameOf b) s t q) → (q : Q) →
+        pixelFold _+_ 0 l (share q) ≤ c q + pixelFold _+_ 0 e (share q)
     leaving-there here q = omega (arith, here q, stepped q)
 
 -- ---- integers: one list in, another out
@@ -200,5 +210,6 @@ unfolding changedℤ
 exchangedℤ share {e} {l} {c} g o = record {
   cells = λ q.
       let n = pixelFold _+ℤ_ (pos 0) l (share q) in
-      ap (λ (y : ℤ). y +ℤ n) (o .cells q ∙ ap (λ (y : ℤ). y -ℤ n) (g .cells q)) ∙ solve2 (λ a n. (a ⊖ n) ⊕ n ≐ a) refl (c q +ℤ pixelFold _+ℤ_ (pos 0) e (share q)) n;
+      ap (λ (y : ℤ). y +ℤ n) (o .cells q ∙ ap (λ (y : ℤ). y -ℤ n) (g .cells q)) ∙ solve2 (λ a n. (a ⊖ n) ⊕ n ≐ a) refl
+      (c q +ℤ pixelFold _+ℤ_ (pos 0) e (share q)) n;
 }

@@ -37,7 +37,8 @@ pub record Held (b : List ℕ) (d : Line) (n : ℕ) (p : List ℕ) : Type 0 wher
 pub held-none : (b : List ℕ) (d : Line) (p : List ℕ) → 62 ≤ length p → Held b d 0 p
 held-none b d p e = record { long = e; level = λ k h. absurd (omega arith); guide = λ k h. absurd (omega arith) }
 
-module _ {b : List ℕ} {d : Line} {k i f : ℕ} {p : List ℕ} (h : k < 31) (v : Held b d k p) (ei : i ≡ pixelLevel b (pixelOf d k)) (ef : f ≡ pixelGuide b (pixelOf d k)) where
+module _ {b : List ℕ} {d : Line} {k i f : ℕ} {p : List ℕ} (h : k < 31) (v : Held b d k p) (ei : i ≡ pixelLevel b (pixelOf d k))
+    (ef : f ≡ pixelGuide b (pixelOf d k)) where
   inside : 2 * k + 1 < length p
   inside = omega (arith, v .long)
 
@@ -45,10 +46,12 @@ module _ {b : List ℕ} {d : Line} {k i f : ℕ} {p : List ℕ} (h : k < 31) (v 
   held-next = record {
     long = rw (put-long p k i f) (v .long);
     level = λ j l. getD-set-other (set p (2 * k) i) (2 * k + 1) (2 * j) f 0 (λ e. absurd (omega arith))
-        ∙ ⊎-elim (λ q. rw q (getD-set-same p (2 * k) i 0 (omega (arith, inside)) ∙ ei)) (λ n. getD-set-other p (2 * k) (2 * j) i 0 (λ e. n (omega arith)) ∙ v .level j (omega arith)) (eq-or-ne j k);
+        ∙ ⊎-elim (λ q. rw q (getD-set-same p (2 * k) i 0 (omega (arith, inside)) ∙ ei))
+        (λ n. getD-set-other p (2 * k) (2 * j) i 0 (λ e. n (omega arith)) ∙ v .level j (omega arith)) (eq-or-ne j k);
     guide = λ j l.
         ⊎-elim (λ q. rw q (getD-set-same (set p (2 * k) i) (2 * k + 1) f 0 (rw (length-set p (2 * k) i) inside) ∙ ef))
-        (λ n. getD-set-other (set p (2 * k) i) (2 * k + 1) (2 * j + 1) f 0 (λ e. n (omega arith)) ∙ getD-set-other p (2 * k) (2 * j + 1) i 0 (λ e. absurd (omega arith)) ∙ v .guide j (omega arith))
+        (λ n. getD-set-other (set p (2 * k) i) (2 * k + 1) (2 * j + 1) f 0 (λ e. n (omega arith)) ∙ getD-set-other p (2 * k) (2 * j + 1) i 0
+        (λ e. absurd (omega arith)) ∙ v .guide j (omega arith))
         (eq-or-ne j k);
   }
 

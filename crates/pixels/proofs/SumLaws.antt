@@ -70,7 +70,8 @@ columns-start b z x t = record {
 }
 
 module _ {b : List ℕ} {z : Plan} {x t : ℕ} where
-  pub columns-next : {k n u q : ℕ} {d : Line} {p : List ℕ} {a : Sums} → ColumnSums b z x t k (sums n u q) → d ≡ columnLine z (x + k) t → LinePixels b z d p → ListSums p (countOf p) a
+  pub columns-next : {k n u q : ℕ} {d : Line} {p : List ℕ} {a : Sums} → ColumnSums b z x t k (sums n u q) → d ≡ columnLine z (x + k) t →
+      LinePixels b z d p → ListSums p (countOf p) a
       → ColumnSums b z x t (k + 1) (sums (n + a .count) (u + a .sum) (q + a .squares))
   columns-next {k} {p = p} v ed r l = record {
     count = ap₂ _+_ (v .count) (l .count) ∙ sym (columns-more _+_ 0 b z x t one k p ed (r .sum one));
@@ -81,7 +82,8 @@ module _ {b : List ℕ} {z : Plan} {x t : ℕ} where
     squares-high = omega (arith, v .squares-high, l .squares-high, r .below .few);
   }
 
-  pub columns-end : Planned b z → (s : ℕ) {n : ℕ} {a : Sums} → x ≡ s - z .radius → n ≡ span (z .radius) s (z .width) → ColumnSums b z x t n a → SumsAt (frameOf b) s t a
+  pub columns-end : Planned b z → (s : ℕ) {n : ℕ} {a : Sums} → x ≡ s - z .radius → n ≡ span (z .radius) s (z .width) → ColumnSums b z x t n a →
+      SumsAt (frameOf b) s t a
   unfolding pixelCount guideSum squareSum
   columns-end pl s ex en v = record {
     count = v .count ∙ columns-window _+_ 0 b z x t one pl s ex en;

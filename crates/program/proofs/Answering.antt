@@ -66,14 +66,17 @@ whole-of : (b : List ℕ) → outputText b accepted ≡ parts b (frameOf b .set 
 unfolding outputText ways sizeText wayText guidedText
 whole-of b =
     let p = frameOf b in
-    sym (append-assoc (sizeText (p .set .width) (p .set .height) ++ rows p (p .set .height)) (wayText jointWord (shiftCount b)) (guidedText (p .set .kind) (shiftCount b)))
+    sym
+    (append-assoc (sizeText (p .set .width) (p .set .height) ++ rows p (p .set .height)) (wayText jointWord (shiftCount b))
+    (guidedText (p .set .kind) (shiftCount b)))
 
 module _ {b : List ℕ} {z : Plan} (a : Planned b z) where
   pub whole : outputText b accepted ≡ parts b (z .width) (z .height) (z .kind)
   whole = let f = facts a in rw (f .width, f .height, f .kind) (whole-of b)
 
   -- the rows of a plane that begins with the filtered one
-  pub plane-text : {plane : List ℕ} (rest : List ℕ) → plane ≡ filtered (frameOf b) ++ rest → planeText plane (z .width) (z .height) ≡ rows (frameOf b) (z .height)
+  pub plane-text : {plane : List ℕ} (rest : List ℕ) → plane ≡ filtered (frameOf b) ++ rest →
+      planeText plane (z .width) (z .height) ≡ rows (frameOf b) (z .height)
   plane-text rest e =
       let f = facts a in
       let p = frameOf b in

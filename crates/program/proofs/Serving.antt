@@ -66,7 +66,8 @@ module _ (k : Settings) (s : Small k) (have : Room) (out : ℕ) (l : Lent have o
   unfolding short wayOf roomOf
   joint-fits =
       let c : k .levels * k .guides ≤ 64 * 64 = mul-le-mul {n₁ = k .levels} {m₁ = k .guides} {n₂ = 64} {m₂ = 64} (s .levels) (s .guides) in
-      let w : k .levels * wordsPerLevel k ≤ 64 * 1 = mul-le-mul {n₁ = k .levels} {m₁ = wordsPerLevel k} {n₂ = 64} {m₂ = 1} (s .levels) (omega (arith, s .guides)) in
+      let w : k .levels * wordsPerLevel k ≤ 64 * 1 =
+      mul-le-mul {n₁ = k .levels} {m₁ = wordsPerLevel k} {n₂ = 64} {m₂ = 1} (s .levels) (omega (arith, s .guides)) in
       holds _ have out (pixels k) (omega (arith, c, l .counts)) (omega (arith, w, l .words)) (omega arith) (omega (arith, s .area, l .plane))
 
   columns-fit : short k 2 have out (pixels k) ≡ false
@@ -78,7 +79,8 @@ module _ (k : Settings) (s : Small k) (have : Room) (out : ℕ) (l : Lent have o
   chain-fits : short k 3 have out (pixels k) ≡ false
   unfolding short wayOf roomOf
   chain-fits =
-      let c : nodeCount k ≤ 31 * 31 = mul-le-mul {n₁ = 2 * k .radius + 1} {m₁ = 2 * k .radius + 1} {n₂ = 31} {m₂ = 31} (omega (arith, s .radius)) (omega (arith, s .radius)) in
+      let c : nodeCount k ≤ 31 * 31 =
+      mul-le-mul {n₁ = 2 * k .radius + 1} {m₁ = 2 * k .radius + 1} {n₂ = 31} {m₂ = 31} (omega (arith, s .radius)) (omega (arith, s .radius)) in
       holds _ have out (pixels k) (omega arith) (omega arith) (omega (arith, c, l .numbers)) (omega (arith, s .area, l .plane))
 
   -- no check of the filter's own fires
@@ -92,7 +94,8 @@ module _ (k : Settings) (s : Small k) (have : Room) (out : ℕ) (l : Lent have o
   serves way (inr (inl e, q)) = rw e (none-fires 2 (rw (eq-eqb (k .kind) 2 q)) columns-fit)
   serves way (inr (inr e, q)) = rw e (none-fires 3 (rw (eq-eqb (k .kind) 2 q)) chain-fits)
 
-pub filter-passes : {b : List ℕ} {z : Plan} (way : ℕ) (have : Room) (out : ℕ) → Admitted b z → Serving way z → Lent have out → filterOutcome b way have out ≡ accepted
+pub filter-passes : {b : List ℕ} {z : Plan} (way : ℕ) (have : Room) (out : ℕ) → Admitted b z → Serving way z → Lent have out →
+    filterOutcome b way have out ≡ accepted
 unfolding filterOutcome
 filter-passes {b} {z} way have out a s l =
     ap (λ (o : Outcome). o ▷ filterChecks (settingsOf b) way have out) (a .planned .accepts) ∙ serves (settingsOf b) (small a) have out l way (by s)

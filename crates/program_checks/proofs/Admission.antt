@@ -36,7 +36,8 @@ unfolding programOutcome
 admitted b {z} e ok =
     let q = both-accepted (of-size b) (verdict b ▷ of-picture b) ok in
     let r = both-accepted (verdict b) (of-picture b) (q .1) in
-    let t : (ltb 64 (z .width) || ltb 64 (z .levels) || ltb 64 (z .guides)) ≡ false = picture-test b e ∙ not-fired 12 (tooLarge (settingsOf b)) (r .1) in
+    let t : (ltb 64 (z .width) || ltb 64 (z .levels) || ltb 64 (z .guides)) ≡ false =
+    picture-test b e ∙ not-fired 12 (tooLarge (settingsOf b)) (r .1) in
     let u = neither (ltb 64 (z .width) || ltb 64 (z .levels)) (ltb 64 (z .guides)) t in
     let v = neither (ltb 64 (z .width)) (ltb 64 (z .levels)) (u .0) in
     record {

@@ -11,8 +11,38 @@ use Rattle.spec.specs.declared.Room.{Room}
 use Rattle.spec.specs.Base.{fold, foldRect, first, tabulateFrom, tabulate}
 use Rattle.spec.specs.Bytes.{be16, be32, to16, to32, all16}
 use Rattle.spec.specs.Refusal.{Outcome, accepted, refused}
-use Rattle.spec.specs.Frame.{guide, trailerAt, settingsOf, trailerOf, ownWeights, valuePart, guidePart, tablePart, builtIn, planOf, pixelLevel, pixelGuide, frameOf}
-use Rattle.spec.specs.Checks.{badMark, badSize, badCounts, badKind, badRadius, settingsOutcome, badDistance, scan, scanFile, valueScan, guideScan, tableScan, contents, trailerOutcome, verdict}
+use Rattle.spec.specs.Frame.{
+  guide,
+  trailerAt,
+  settingsOf,
+  trailerOf,
+  ownWeights,
+  valuePart,
+  guidePart,
+  tablePart,
+  builtIn,
+  planOf,
+  pixelLevel,
+  pixelGuide,
+  frameOf,
+}
+use Rattle.spec.specs.Checks.{
+  badMark,
+  badSize,
+  badCounts,
+  badKind,
+  badRadius,
+  settingsOutcome,
+  badDistance,
+  scan,
+  scanFile,
+  valueScan,
+  guideScan,
+  tableScan,
+  contents,
+  trailerOutcome,
+  verdict,
+}
 use Rattle.spec.specs.Window.{span, over, pixelCount, guideSum, squareSum, count, levelSum}
 use Rattle.spec.specs.Weight.{scaledVariance, guidedWeight, weight, monotone}
 use Rattle.spec.specs.Median.{totalWeight, cumulative, balance, isZero, weightless, median, answer, differences}
@@ -21,7 +51,20 @@ use Rattle.spec.specs.Filter.{turn, serpentine, filtered, filterEnd}
 use Rattle.spec.specs.Joint.{jointCounts, occupancyWord, occupancyWords, balanceBox}
 use Rattle.spec.specs.Columns.{columnSum, columnStore}
 use Rattle.spec.specs.Chain.{Entry, entryOf, entries, Reads, ChainStore}
-use Rattle.spec.specs.Calls.{wayOf, badWay, roomOf, badPixel, lacks, short, walkChecks, walkOutcome, filterChecks, filterOutcome, balanceChecks, balanceOutcome}
+use Rattle.spec.specs.Calls.{
+  wayOf,
+  badWay,
+  roomOf,
+  badPixel,
+  lacks,
+  short,
+  walkChecks,
+  walkOutcome,
+  filterChecks,
+  filterOutcome,
+  balanceChecks,
+  balanceOutcome,
+}
 use Rattle.spec.specs.Writer.{fieldBytes, distanceBytes, written, writtenSize, badLength, scanList, writerOutcome}
 use Rattle.spec.specs.Program.{digits, spaced, rows, ways, tooLarge, programOutcome, beside, outputText, printed}
 
@@ -57,7 +100,13 @@ abbrev settings : ℕ → ℕ → ℕ → ℕ → ℕ → ℕ → ℕ → Settin
 settings w h l m k r e = record { width = w; height = h; levels = l; guides = m; kind = k; radius = r; smoothing = e }
 
 unfoldable pub reply : Question → Reply
-unfolding fold foldRect first tabulateFrom tabulate be16 be32 to16 to32 all16 trailerAt settingsOf trailerOf ownWeights valuePart guidePart tablePart builtIn planOf pixelLevel pixelGuide frameOf badMark badSize badCounts badKind badRadius settingsOutcome badDistance scan scanFile valueScan guideScan tableScan contents trailerOutcome verdict span over pixelCount guideSum squareSum count levelSum scaledVariance guidedWeight weight monotone totalWeight cumulative balance isZero weightless median answer differences arrive move follow step after answers walkEnd walkAnswers turn serpentine filtered filterEnd jointCounts occupancyWord occupancyWords balanceBox columnSum columnStore entryOf entries wayOf badWay roomOf badPixel lacks short walkChecks walkOutcome filterChecks filterOutcome balanceChecks balanceOutcome fieldBytes distanceBytes written writtenSize badLength scanList writerOutcome digits spaced rows ways tooLarge programOutcome beside outputText printed
+unfolding fold foldRect first tabulateFrom tabulate be16 be32 to16 to32 all16 trailerAt settingsOf trailerOf ownWeights valuePart guidePart tablePart
+    builtIn planOf pixelLevel pixelGuide frameOf badMark badSize badCounts badKind badRadius settingsOutcome badDistance scan scanFile valueScan
+    guideScan tableScan contents trailerOutcome verdict span over pixelCount guideSum squareSum count levelSum scaledVariance guidedWeight weight
+    monotone totalWeight cumulative balance isZero weightless median answer differences arrive move follow step after answers walkEnd walkAnswers
+    turn serpentine filtered filterEnd jointCounts occupancyWord occupancyWords balanceBox columnSum columnStore entryOf entries wayOf badWay roomOf
+    badPixel lacks short walkChecks walkOutcome filterChecks filterOutcome balanceChecks balanceOutcome fieldBytes distanceBytes written writtenSize
+    badLength scanList writerOutcome digits spaced rows ways tooLarge programOutcome beside outputText printed
 reply (accept b) = says (verdict b)
 reply (walk b s t l) = let p = frameOf b in closed (walkEnd p s t l) (walkAnswers p s t l)
 reply (filter b) = let p = frameOf b in closed (filterEnd p) (filtered p)
@@ -75,7 +124,8 @@ reply (stores b s t l) =
     let x = walkEnd p s t l in
     let u = x .column in
     let v = x .row in
-    holds (jointCounts p u v) (occupancyWords p u v) (take (p .set .guides + 1) (balanceBox p u v (x .cut))) (columnStore p u v) (entries p u v (p .set .levels))
+    holds (jointCounts p u v) (occupancyWords p u v) (take (p .set .guides + 1) (balanceBox p u v (x .cut))) (columnStore p u v)
+    (entries p u v (p .set .levels))
 
 -- ---- the files
 
@@ -141,7 +191,9 @@ cases =
     accept fileA ⇒ says accepted
     ∷ filter fileA ⇒ gives (1 ∷ 3 ∷ 3 ∷ []) 3
     ∷ weigh fileA 1 ⇒ weighs (pos 21 ∷ pos 21 ∷ pos 9 ∷ [])
-    ∷ output fileA ⇒ prints (51 ∷ 32 ∷ 49 ∷ 10 ∷ 49 ∷ 32 ∷ 51 ∷ 32 ∷ 51 ∷ 10 ∷ 106 ∷ 111 ∷ 105 ∷ 110 ∷ 116 ∷ 32 ∷ 51 ∷ 10 ∷ 99 ∷ 111 ∷ 108 ∷ 117 ∷ 109 ∷ 110 ∷ 115 ∷ 32 ∷ 51 ∷ 10 ∷ 99 ∷ 104 ∷ 97 ∷ 105 ∷ 110 ∷ 32 ∷ 51 ∷ 10 ∷ [])
+    ∷ output fileA ⇒ prints
+    (51 ∷ 32 ∷ 49 ∷ 10 ∷ 49 ∷ 32 ∷ 51 ∷ 32 ∷ 51 ∷ 10 ∷ 106 ∷ 111 ∷ 105 ∷ 110 ∷ 116 ∷ 32 ∷ 51 ∷ 10 ∷ 99 ∷ 111 ∷ 108 ∷ 117 ∷ 109 ∷ 110 ∷ 115 ∷ 32 ∷
+    51 ∷ 10 ∷ 99 ∷ 104 ∷ 97 ∷ 105 ∷ 110 ∷ 32 ∷ 51 ∷ 10 ∷ [])
     ∷ accept fileB ⇒ says accepted
     ∷ weigh fileB 2 ⇒ weighs (pos 550 ∷ pos 550 ∷ pos 2110 ∷ pos 550 ∷ negsuc 814 ∷ [])
     ∷ sumOf fileB 2 ⇒ weighs (pos 2945 ∷ [])
@@ -193,7 +245,8 @@ cases =
     ∷ accept (placedTable 2 4 13) ⇒ says (refused 6 [])
     ∷ accept (made 3 1 8 4 2 1 1 (5 ∷ 1 ∷ 7 ∷ []) (0 ∷ 0 ∷ 3 ∷ []) []) ⇒ says accepted
     ∷ accept (made 3 1 8 4 2 1 1 (5 ∷ 1 ∷ 8 ∷ []) (0 ∷ 0 ∷ 4 ∷ []) []) ⇒ says (refused 7 (4 ∷ []))
-    ∷ output (made 3 1 8 4 2 1 1 (5 ∷ 1 ∷ 3 ∷ []) (0 ∷ 0 ∷ 4 ∷ []) []) ⇒ prints (114 ∷ 101 ∷ 102 ∷ 117 ∷ 115 ∷ 101 ∷ 100 ∷ 32 ∷ 55 ∷ 32 ∷ 49 ∷ 48 ∷ 10 ∷ [])
+    ∷ output (made 3 1 8 4 2 1 1 (5 ∷ 1 ∷ 3 ∷ []) (0 ∷ 0 ∷ 4 ∷ []) []) ⇒ prints
+    (114 ∷ 101 ∷ 102 ∷ 117 ∷ 115 ∷ 101 ∷ 100 ∷ 32 ∷ 55 ∷ 32 ∷ 49 ∷ 48 ∷ 10 ∷ [])
     ∷ accept (made 1 1 8 2 1 1 0 (2 ∷ []) (0 ∷ []) (0 ∷ 256 ∷ 0 ∷ 0 ∷ [])) ⇒ says accepted
     ∷ accept (made 1 1 8 2 1 1 0 (2 ∷ []) (0 ∷ []) (0 ∷ 257 ∷ 0 ∷ 0 ∷ [])) ⇒ says (refused 7 (6 ∷ []))
     ∷ filter (made 2 1 8 2 1 1 0 (2 ∷ 6 ∷ []) (0 ∷ 1 ∷ []) (1 ∷ 2 ∷ 0 ∷ 1 ∷ [])) ⇒ gives (6 ∷ 6 ∷ []) 6
@@ -223,7 +276,8 @@ cases =
     (0 ∷ 0 ∷ 0 ∷ 0 ∷ 1 ∷ 0 ∷ 0 ∷ 0 ∷ 0 ∷ 0 ∷ 0 ∷ 0 ∷ 0 ∷ 0 ∷ 1 ∷ 0 ∷ 0 ∷ 0 ∷ 0 ∷ 0 ∷ 1 ∷ 0 ∷ 0 ∷ 0 ∷ 0 ∷ 0 ∷ 0 ∷ 0 ∷ 0 ∷ 0 ∷ 0 ∷ 0 ∷ [])
     (0 ∷ 1 ∷ 0 ∷ 4 ∷ 0 ∷ 1 ∷ 0 ∷ 0 ∷ [])
     (pos 0 ∷ pos 0 ∷ pos 1 ∷ pos 0 ∷ pos 0 ∷ [])
-    (0 ∷ 0 ∷ 0 ∷ 0 ∷ 0 ∷ 1 ∷ 0 ∷ 0 ∷ 0 ∷ 1 ∷ 0 ∷ 0 ∷ 0 ∷ 0 ∷ 0 ∷ 0 ∷ 0 ∷ 0 ∷ 0 ∷ 1 ∷ 0 ∷ 0 ∷ 0 ∷ 0 ∷ 0 ∷ 0 ∷ 0 ∷ 0 ∷ 0 ∷ 0 ∷ 0 ∷ 0 ∷ 0 ∷ 0 ∷ 0 ∷ 0 ∷ 0 ∷ 0 ∷ 0 ∷ 0 ∷ 0 ∷ 0 ∷ 0 ∷ 2 ∷ 0 ∷ 0 ∷ 0 ∷ 0 ∷ 0 ∷ 1 ∷ 0 ∷ 1 ∷ 0 ∷ 1 ∷ 0 ∷ 0 ∷ 0 ∷ 0 ∷ 0 ∷ 2 ∷ 0 ∷ 0 ∷ 0 ∷ 0 ∷ [])
+    (0 ∷ 0 ∷ 0 ∷ 0 ∷ 0 ∷ 1 ∷ 0 ∷ 0 ∷ 0 ∷ 1 ∷ 0 ∷ 0 ∷ 0 ∷ 0 ∷ 0 ∷ 0 ∷ 0 ∷ 0 ∷ 0 ∷ 1 ∷ 0 ∷ 0 ∷ 0 ∷ 0 ∷ 0 ∷ 0 ∷ 0 ∷ 0 ∷ 0 ∷ 0 ∷ 0 ∷ 0 ∷ 0 ∷ 0 ∷ 0 ∷ 0 ∷
+    0 ∷ 0 ∷ 0 ∷ 0 ∷ 0 ∷ 0 ∷ 0 ∷ 2 ∷ 0 ∷ 0 ∷ 0 ∷ 0 ∷ 0 ∷ 1 ∷ 0 ∷ 1 ∷ 0 ∷ 1 ∷ 0 ∷ 0 ∷ 0 ∷ 0 ∷ 0 ∷ 2 ∷ 0 ∷ 0 ∷ 0 ∷ 0 ∷ [])
     (record { level = 1; count = 1; guides = 0 } ∷ record { level = 3; count = 1; guides = 2 } ∷ record { level = 5; count = 1; guides = 0 } ∷ [])
     ∷ []
 

@@ -30,7 +30,9 @@ span-high r c n = omega arith
 
 -- ---- n, S, Q
 pub pixelCount-nodes : (p : Frame) (s t : ℕ) → pixelCount p s t ≤ (2 * p .set .radius + 1) * (2 * p .set .radius + 1)
-pixelCount-nodes p s t = le-trans (le-of-eq (pixelCount-is p s t)) (mul-le-mul (span-high (p .set .radius) s (p .set .width)) (span-high (p .set .radius) t (p .set .height)))
+pixelCount-nodes p s t =
+    le-trans (le-of-eq (pixelCount-is p s t))
+    (mul-le-mul (span-high (p .set .radius) s (p .set .width)) (span-high (p .set .radius) t (p .set .height)))
 
 pub pixelCount-high : {p : Frame} {s t : ℕ} → Pixel p s t → pixelCount p s t ≤ 961
 pixelCount-high {p} {s} {t} k =
@@ -70,7 +72,8 @@ count-high {p} k i f = over-high k (inCell p i f) 1 (λ x y h. one (eqb (level p
     one false = omega arith
 
 -- ---- sums of integers of which each is at most B in size
-pub over-size : (p : Frame) (s t : ℕ) (f : ℕ → ℕ → ℤ) (B : ℕ) → ((x y : ℕ) → InWindow p s t x y → natAbs (f x y) ≤ B) → natAbs (Σℤ p s t f) ≤ pixelCount p s t * B
+pub over-size : (p : Frame) (s t : ℕ) (f : ℕ → ℕ → ℤ) (B : ℕ) → ((x y : ℕ) → InWindow p s t x y → natAbs (f x y) ≤ B) →
+    natAbs (Σℤ p s t f) ≤ pixelCount p s t * B
 over-size p s t f B h = le-trans (over-abs p s t f (λ x y. B) h) (le-of-eq (over-constant p s t B))
 
 if-abs : (b : Bool) (w : ℤ) (B : ℕ) → natAbs w ≤ B → natAbs (if b then w else pos 0) ≤ B
@@ -84,7 +87,8 @@ sign-abs false w B h = omega (arith, abs-mul (negsuc 0) w)
 pub cell-abs : {p : Frame} {s t : ℕ} → Pixel p s t → (c f : ℕ) → natAbs (cell p s t c f) ≤ 961
 unfolding cell
 cell-abs {p} {s} {t} k c f =
-    le-trans (over-size p s t _ 1 (λ x y h. if-abs (eqb (guide p x y) f) (if leb (level p x y) c then pos 1 else negsuc 0) 1 (one (leb (level p x y) c))))
+    le-trans
+    (over-size p s t _ 1 (λ x y h. if-abs (eqb (guide p x y) f) (if leb (level p x y) c then pos 1 else negsuc 0) 1 (one (leb (level p x y) c))))
     (omega (arith, pixelCount-high k))
   where
     one : (b : Bool) → natAbs (if b then pos 1 else negsuc 0) ≤ 1
@@ -113,7 +117,8 @@ module _ (p : Frame) (s t B : ℕ) (low : (x y : ℕ) → InWindow p s t x y →
 -- ---- the weights
 diff-abs : (a b B : ℕ) → a ≤ B → b ≤ B → natAbs (pos a -ℤ pos b) ≤ B
 diff-abs a b B h l =
-    abs-le {z = pos a -ℤ pos b} (omega (arith, ints, diff-parts (pos a) (pos b), posPart-neg (pos B), negPart-neg (pos B), posPart-neg (pos b), negPart-neg (pos b)))
+    abs-le {z = pos a -ℤ pos b}
+    (omega (arith, ints, diff-parts (pos a) (pos b), posPart-neg (pos B), negPart-neg (pos B), posPart-neg (pos b), negPart-neg (pos b)))
     (omega (arith, ints, diff-parts (pos a) (pos b)))
 
 pub deviation-abs : {p : Frame} {s t : ℕ} → Pixel p s t → (g : ℕ) → g ≤ 255 → natAbs (pos (pixelCount p s t * g) -ℤ pos (guideSum p s t)) ≤ 245055
@@ -127,7 +132,8 @@ variance-abs {p} {s} {t} k e h =
     let c : n * n * p .set .smoothing ≤ 60051953025 = mul-le-mul (mul-le-mul (pixelCount-high k) (pixelCount-high k)) h in
     let u = pos (n * squareSum p s t) -ℤ pos (guideSum p s t * guideSum p s t) in
     abs-le-nonneg (<-to-≤ (variance-pos k e))
-    (omega (arith, ints, add-parts u (pos (n * n * p .set .smoothing)), diff-parts (pos (n * squareSum p s t)) (pos (guideSum p s t * guideSum p s t))))
+    (omega
+    (arith, ints, add-parts u (pos (n * n * p .set .smoothing)), diff-parts (pos (n * squareSum p s t)) (pos (guideSum p s t * guideSum p s t))))
 
 guided-abs : {p : Frame} {s t : ℕ} → Pixel p s t → p .set .kind ≡ 2 → 1 ≤ p .set .smoothing → p .set .smoothing ≤ 65025 → (g : ℕ) → g ≤ 255
     → natAbs (weight p s t g) ≤ 180155859075
@@ -135,19 +141,23 @@ unfolding guidedWeight variance
 guided-abs {p} {s} {t} k two e h g l =
     let f : guide p s t ≤ 255 = omega (arith, k .good .guide-low s t (k .in-column) (k .in-row), k .good .sound .guides-high) in
     subst (λ (z : ℤ). natAbs z ≤ 180155859075) (sym (weight-guided p s t g two))
-    (abs-add-le (variance p s t) ((pos (pixelCount p s t * guide p s t) -ℤ pos (guideSum p s t)) *ℤ (pos (pixelCount p s t * g) -ℤ pos (guideSum p s t)))
+    (abs-add-le (variance p s t)
+    ((pos (pixelCount p s t * guide p s t) -ℤ pos (guideSum p s t)) *ℤ (pos (pixelCount p s t * g) -ℤ pos (guideSum p s t)))
     (variance-abs k e h)
-    (abs-mul-le (pos (pixelCount p s t * guide p s t) -ℤ pos (guideSum p s t)) (pos (pixelCount p s t * g) -ℤ pos (guideSum p s t)) (deviation-abs k (guide p s t) f) (deviation-abs k g l)))
+    (abs-mul-le (pos (pixelCount p s t * guide p s t) -ℤ pos (guideSum p s t)) (pos (pixelCount p s t * g) -ℤ pos (guideSum p s t))
+    (deviation-abs k (guide p s t) f) (deviation-abs k g l)))
 
 -- kind 1: at most 256
 pub weight-table-abs : {p : Frame} {s t : ℕ} → Pixel p s t → p .set .kind ≡ 1 → (g : ℕ) → g < p .set .guides → natAbs (weight p s t g) ≤ 256
 weight-table-abs {p} {s} {t} k one g h =
-    subst (λ (z : ℤ). natAbs z ≤ 256) (sym (weight-table p s t g one)) (k .good .table-low (guide p s t) g (k .good .guide-low s t (k .in-column) (k .in-row)) h)
+    subst (λ (z : ℤ). natAbs z ≤ 256) (sym (weight-table p s t g one))
+    (k .good .table-low (guide p s t) g (k .good .guide-low s t (k .in-column) (k .in-row)) h)
 
 pub weight-abs : {p : Frame} {s t : ℕ} → Pixel p s t → (g : ℕ) → g < p .set .guides → natAbs (weight p s t g) ≤ 180155859075
 weight-abs {p} {s} {t} k g h = go (k .good .sound .kinds)
   where
-    go : ((p .set .kind ≡ 1) × (p .set .smoothing ≡ 0)) ⊎ ((p .set .kind ≡ 2) × (1 ≤ p .set .smoothing) × (p .set .smoothing ≤ 65025)) → natAbs (weight p s t g) ≤ 180155859075
+    go : ((p .set .kind ≡ 1) × (p .set .smoothing ≡ 0)) ⊎ ((p .set .kind ≡ 2) × (1 ≤ p .set .smoothing) × (p .set .smoothing ≤ 65025)) →
+        natAbs (weight p s t g) ≤ 180155859075
     go (inl a) = omega (arith, weight-table-abs k (a .0) g h)
     go (inr a) = guided-abs k (a .0) (a .1) (a .2) g (omega (arith, k .good .sound .guides-high))
 
@@ -163,7 +173,8 @@ unfolding offset deviation
 offset-abs {p} {s} {t} k e h =
     let f : guide p s t ≤ 255 = omega (arith, k .good .guide-low s t (k .in-column) (k .in-row), k .good .sound .guides-high) in
     abs-sub-le (variance p s t) (pos (guideSum p s t) *ℤ (pos (pixelCount p s t * guide p s t) -ℤ pos (guideSum p s t))) (variance-abs k e h)
-    (abs-mul-le (pos (guideSum p s t)) (pos (pixelCount p s t * guide p s t) -ℤ pos (guideSum p s t)) (guideSum-high k) (deviation-abs k (guide p s t) f))
+    (abs-mul-le (pos (guideSum p s t)) (pos (pixelCount p s t * guide p s t) -ℤ pos (guideSum p s t)) (guideSum-high k)
+    (deviation-abs k (guide p s t) f))
 
 -- ---- T, U, a level's weight and the balance: below 2^48
 module _ {p : Frame} {s t : ℕ} (k : Pixel p s t) where

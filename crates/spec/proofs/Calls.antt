@@ -15,7 +15,20 @@ use Rattle.spec.specs.Base.{if_then_else_}
 use Rattle.spec.specs.Refusal.{accepted, _▷_, refuse}
 use Rattle.spec.specs.Frame.{Frame, pixels, settingsOf, frameOf}
 use Rattle.spec.specs.Checks.{outside, verdict}
-use Rattle.spec.specs.Calls.{wayOf, badWay, roomOf, badPixel, lacks, short, walkChecks, walkOutcome, filterChecks, filterOutcome, balanceChecks, balanceOutcome}
+use Rattle.spec.specs.Calls.{
+  wayOf,
+  badWay,
+  roomOf,
+  badPixel,
+  lacks,
+  short,
+  walkChecks,
+  walkOutcome,
+  filterChecks,
+  filterOutcome,
+  balanceChecks,
+  balanceOutcome,
+}
 use Rattle.spec.proofs.Checks.{both-accepted, not-fired, neither, both}
 use Rattle.spec.proofs.Limits.{FrameLimits, Pixel, limits-of}
 use Rattle.spec.proofs.Bench.{reply, fileA}
@@ -70,7 +83,8 @@ pub record WalkAccepted (b : List ℕ) (way s t n : ℕ) (have : Room) (out : �
   pub room : Fits (roomOf (wayOf way) (settingsOf b)) have
   pub answers : n + 1 ≤ out
 
-pub walk-accepted : (b : List ℕ) (way s t n : ℕ) (have : Room) (out : ℕ) → walkOutcome b way s t n have out ≡ accepted → WalkAccepted b way s t n have out
+pub walk-accepted : (b : List ℕ) (way s t n : ℕ) (have : Room) (out : ℕ) → walkOutcome b way s t n have out ≡ accepted →
+    WalkAccepted b way s t n have out
 unfolding walkOutcome walkChecks short
 walk-accepted b way s t n have out e =
     let k = settingsOf b in

@@ -13,7 +13,19 @@ use Rattle.spec.specs.declared.Trailer.{Trailer}
 use Rattle.spec.specs.Base.{if_then_else_, first}
 use Rattle.spec.specs.Refusal.{Outcome, accepted, refused, _▷_, refuse}
 use Rattle.spec.specs.Frame.{trailerAt, settingsOf, trailerOf, pixels, tableSize, ownWeights, planOf}
-use Rattle.spec.specs.Checks.{outside, badMark, settingsOutcome, badDistance, scan, valueScan, guideScan, tableScan, contents, trailerOutcome, verdict}
+use Rattle.spec.specs.Checks.{
+  outside,
+  badMark,
+  settingsOutcome,
+  badDistance,
+  scan,
+  valueScan,
+  guideScan,
+  tableScan,
+  contents,
+  trailerOutcome,
+  verdict,
+}
 use Rattle.spec.proofs.First.{First, first-is, first-unique}
 
 -- ---- the first that fires
@@ -45,18 +57,23 @@ pub inside : (low high n : ℕ) → outside low high n ≡ false → (low ≤ n)
 inside low high n e = let q = neither _ _ e in (ltb-false _ _ (q .0), ltb-false _ _ (q .1))
 
 -- ---- a scan finds the first number that is too large, or none is
-pub scan-found : (f : ℕ → ℕ) (n limit offset k : ℕ) → k < n → limit ≤ f k → ((j : ℕ) → j < k → f j < limit) → refused 7 ((offset + 2 * k) ∷ []) ≡ scan f n limit offset
+pub scan-found : (f : ℕ → ℕ) (n limit offset k : ℕ) → k < n → limit ≤ f k → ((j : ℕ) → j < k → f j < limit) →
+    refused 7 ((offset + 2 * k) ∷ []) ≡ scan f n limit offset
 unfolding scan
 scan-found f n limit offset k h l before =
     let is : first (λ j. leb limit (f j)) n ≡ k
-    = first-unique (λ j. leb limit (f j)) n k (record { within = omega arith; passes = λ _. le-leb _ _ l; before = λ j b. lt-leb _ _ (before j b) }) in
+    =
+    first-unique (λ j. leb limit (f j)) n k
+    (record { within = omega arith; passes = λ _. le-leb _ _ l; before = λ j b. lt-leb _ _ (before j b) }) in
     simp (is, lt-ltb k n h)
 
 pub scan-none : (f : ℕ → ℕ) (n limit offset : ℕ) → ((j : ℕ) → j < n → f j < limit) → accepted ≡ scan f n limit offset
 unfolding scan
 scan-none f n limit offset all =
     let is : first (λ j. leb limit (f j)) n ≡ n
-    = first-unique (λ j. leb limit (f j)) n n (record { within = omega arith; passes = λ h. absurd (omega arith); before = λ j b. lt-leb _ _ (all j b) }) in
+    =
+    first-unique (λ j. leb limit (f j)) n n
+    (record { within = omega arith; passes = λ h. absurd (omega arith); before = λ j b. lt-leb _ _ (all j b) }) in
     simp (is, le-ltb n n (omega arith))
 
 pub scan-accepted : (f : ℕ → ℕ) (n limit offset : ℕ) → scan f n limit offset ≡ accepted → (k : ℕ) → k < n → f k < limit

@@ -22,14 +22,26 @@ use Rattle.spec.specs.Checks.{SettingsLimits}
 use Rattle.spec.proofs.Limits.{FrameLimits, Pixel}
 use Rattle.spec.specs.Weight.{slope, offset}
 use Rattle.spec.proofs.Levels.{levelWeight, cumulative-zero, cumulative-next, level-linear}
-use Rattle.spec.proofs.Totals.{leZ-le, leZ-lt, median-at, median-low, median-is, total-guided-pos, pos-weightless, le-balance, lt-balance, balance-lt}
+use Rattle.spec.proofs.Totals.{
+  leZ-le,
+  leZ-lt,
+  median-at,
+  median-low,
+  median-is,
+  total-guided-pos,
+  pos-weightless,
+  le-balance,
+  lt-balance,
+  balance-lt,
+}
 use Rattle.spec.proofs.Present.{levelCount, absent-weight}
 
 -- kind 2 has no hollow window
 pub guided-full : {p : Frame} {s t : ℕ} → Pixel p s t → p .set .kind ≡ 2 → (pos 0 <ℤ totalWeight p s t) × (weightless p s t ≡ false)
 guided-full {p} {s} {t} k two = go (k .good .sound .kinds)
   where
-    go : ((p .set .kind ≡ 1) × (p .set .smoothing ≡ 0)) ⊎ ((p .set .kind ≡ 2) × (1 ≤ p .set .smoothing) × (p .set .smoothing ≤ 65025)) → (pos 0 <ℤ totalWeight p s t) × (weightless p s t ≡ false)
+    go : ((p .set .kind ≡ 1) × (p .set .smoothing ≡ 0)) ⊎ ((p .set .kind ≡ 2) × (1 ≤ p .set .smoothing) × (p .set .smoothing ≤ 65025)) →
+        (pos 0 <ℤ totalWeight p s t) × (weightless p s t ≡ false)
     go (inl h) = absurd (omega (arith, h .0))
     go (inr h) = let q = total-guided-pos k two (h .1) in (q, pos-weightless p s t q)
 
@@ -85,14 +97,17 @@ climb-on p s t a f e = failed-next p s t a f (lt-balance p s t a (leZ-lt (totalW
 pub climb-over : (p : Frame) (s t a : ℕ) → pos 0 <ℤ totalWeight p s t → Failed p s t a → levelCount p s t a ≡ 0
     → (cumulativeBelow p s t (suc a) ≡ cumulativeBelow p s t a) × Failed p s t (suc a)
 climb-over p s t a h f e =
-    let same : cumulative p s t a ≡ cumulativeBelow p s t a = cumulativeBelow-next p s t a ∙ ap (λ (q : ℤ). cumulativeBelow p s t a +ℤ q) (absent-weight p s t a e) ∙ +ℤ-idr (cumulativeBelow p s t a) in
+    let same : cumulative p s t a ≡ cumulativeBelow p s t a =
+    cumulativeBelow-next p s t a ∙ ap (λ (q : ℤ). cumulativeBelow p s t a +ℤ q) (absent-weight p s t a e) ∙ +ℤ-idr (cumulativeBelow p s t a) in
     (cumulativeBelow-suc p s t a ∙ same, failed-next p s t a f (go a f same))
   where
     go : (n : ℕ) → Failed p s t n → cumulative p s t n ≡ cumulativeBelow p s t n → balance p s t n <ℤ pos 0
     go zero g same =
         let z : cumulative p s t 0 ≡ pos 0 = same ∙ cumulativeBelow-zero p s t in
         lt-balance p s t 0 (subst (λ (q : ℤ). (pos 2 *ℤ q) <ℤ totalWeight p s t) (sym z) h)
-    go (suc j) g same = lt-balance p s t (suc j) (subst (λ (q : ℤ). (pos 2 *ℤ q) <ℤ totalWeight p s t) (sym (same ∙ cumulativeBelow-suc p s t j)) (balance-lt p s t j (g j (omega arith))))
+    go (suc j) g same =
+        lt-balance p s t (suc j)
+        (subst (λ (q : ℤ). (pos 2 *ℤ q) <ℤ totalWeight p s t) (sym (same ∙ cumulativeBelow-suc p s t j)) (balance-lt p s t j (g j (omega arith))))
 
 -- ---- along the chain: the first entry at which twice the weight so far reaches T; c and d weigh an entry, u is the weight before it
 unfoldable pub climb : ℤ → ℤ → ℤ → ℤ → List Entry → ℕ
@@ -132,20 +147,27 @@ unfolding climb entriesFrom entryOf
 climb-from {p} {s} {t} k two zero a e f = absurd (omega (arith, median-low k, failed-low k a f))
 climb-from {p} {s} {t} k two (suc n) a e f = go (eqb (levelSum p s t (λ x y. 1) a) 0) refl (climb-from k two n (suc a) (omega arith))
   where
-    weighed : cumulativeBelow p s t a +ℤ (slope p s t *ℤ pos (levelSum p s t (guide p) a) +ℤ offset p s t *ℤ pos (levelSum p s t (λ x y. 1) a)) ≡ cumulative p s t a
+    weighed : cumulativeBelow p s t a +ℤ (slope p s t *ℤ pos (levelSum p s t (guide p) a) +ℤ offset p s t *ℤ pos (levelSum p s t (λ x y. 1) a)) ≡
+        cumulative p s t a
     weighed = ap (λ (q : ℤ). cumulativeBelow p s t a +ℤ q) (sym (level-linear p s t a two)) ∙ sym (cumulativeBelow-next p s t a)
 
     test : (b : Bool) → leZ (totalWeight p s t) (pos 2 *ℤ cumulative p s t a) ≡ b
-        → (Failed p s t (suc a) → climb (totalWeight p s t) (slope p s t) (offset p s t) (cumulativeBelow p s t (suc a)) (entriesFrom p s t (suc a) n) ≡ median p s t)
+        →
+        (Failed p s t (suc a) →
+        climb (totalWeight p s t) (slope p s t) (offset p s t) (cumulativeBelow p s t (suc a)) (entriesFrom p s t (suc a) n) ≡ median p s t)
         → (if b then a else climb (totalWeight p s t) (slope p s t) (offset p s t) (cumulative p s t a) (entriesFrom p s t (suc a) n)) ≡ median p s t
     test true d ih = sym (climb-found p s t a f (omega arith) d)
     test false d ih =
-        ap (λ (u : ℤ). climb (totalWeight p s t) (slope p s t) (offset p s t) u (entriesFrom p s t (suc a) n)) (sym (cumulativeBelow-suc p s t a)) ∙ ih (climb-on p s t a f d)
+        ap (λ (u : ℤ). climb (totalWeight p s t) (slope p s t) (offset p s t) u (entriesFrom p s t (suc a) n)) (sym (cumulativeBelow-suc p s t a)) ∙
+        ih (climb-on p s t a f d)
 
     go : (b : Bool) → eqb (levelSum p s t (λ x y. 1) a) 0 ≡ b
-        → (Failed p s t (suc a) → climb (totalWeight p s t) (slope p s t) (offset p s t) (cumulativeBelow p s t (suc a)) (entriesFrom p s t (suc a) n) ≡ median p s t)
+        →
+        (Failed p s t (suc a) →
+        climb (totalWeight p s t) (slope p s t) (offset p s t) (cumulativeBelow p s t (suc a)) (entriesFrom p s t (suc a) n) ≡ median p s t)
         → climb (totalWeight p s t) (slope p s t) (offset p s t) (cumulativeBelow p s t a)
-        ((if b then [] else record { level = a; count = levelSum p s t (λ x y. 1) a; guides = levelSum p s t (guide p) a } ∷ []) ++ entriesFrom p s t (suc a) n) ≡ median p s t
+        ((if b then [] else record { level = a; count = levelSum p s t (λ x y. 1) a; guides = levelSum p s t (guide p) a } ∷ []) ++ entriesFrom p s t
+        (suc a) n) ≡ median p s t
     go true d ih =
         let q = climb-over p s t a (guided-full k two .0) f (eqb-true _ _ d) in
         ap (λ (u : ℤ). climb (totalWeight p s t) (slope p s t) (offset p s t) u (entriesFrom p s t (suc a) n)) (sym (q .0)) ∙ ih (q .1)

@@ -104,7 +104,8 @@ module _ {A : Type 0} (_⊕_ : A → A → A) (z : A) (laws : Sums _⊕_ z) wher
       ≡ fold _⊕_ z (λ i. fold _⊕_ z (λ f. times _⊕_ z (count p s t i f) (F i f)) 0 (p .set .guides)) 0 (p .set .levels)
   over-joint p s t F hl hg =
       over-same p s t _ _ (λ x y a b. sym (pick-both F (level p x y) (guide p x y) (p .set .levels) (p .set .guides) (hl x y a b) (hg x y a b)))
-      ∙ over-fold p s t (λ i x y. fold _⊕_ z (λ f. if eqb (level p x y) i && eqb (guide p x y) f then F i f else z) 0 (p .set .guides)) (p .set .levels)
+      ∙ over-fold p s t (λ i x y. fold _⊕_ z (λ f. if eqb (level p x y) i && eqb (guide p x y) f then F i f else z) 0 (p .set .guides))
+      (p .set .levels)
       ∙ ap (λ (q : ℕ → A). fold _⊕_ z q 0 (p .set .levels))
       (fun-ext (λ i. over-fold p s t (λ f x y. if eqb (level p x y) i && eqb (guide p x y) f then F i f else z) (p .set .guides)
       ∙ ap (λ (q : ℕ → A). fold _⊕_ z q 0 (p .set .guides)) (fun-ext (λ f. over-count p s t i f (F i f)))))

@@ -55,7 +55,8 @@ module _ (p : Frame) (s t : ℕ) where
   unfolding cumulative levelWeight
   cumulative-next i =
       over-inWindow _+ℤ_ (pos 0) intSums p s t _ _ (λ x y h. split-level (level p x y) i (weight p s t (guide p x y)))
-      ∙ over-add p s t (λ x y. if leb (level p x y) i then weight p s t (guide p x y) else pos 0) (λ x y. if eqb (level p x y) (suc i) then weight p s t (guide p x y) else pos 0)
+      ∙ over-add p s t (λ x y. if leb (level p x y) i then weight p s t (guide p x y) else pos 0)
+      (λ x y. if eqb (level p x y) (suc i) then weight p s t (guide p x y) else pos 0)
 
   -- where every level is at most i
   pub cumulative-all : (i : ℕ) → ((x y : ℕ) → InWindow p s t x y → level p x y ≤ i) → cumulative p s t i ≡ totalWeight p s t
@@ -76,9 +77,12 @@ pub level-joint : {p : Frame} {s t : ℕ} → Pixel p s t → (i : ℕ)
 unfolding levelWeight
 level-joint {p} {s} {t} k i =
     over-inWindow _+ℤ_ (pos 0) intSums p s t _ _
-    (λ x y h. sym (pick-inner _+ℤ_ (pos 0) intSums (weight p s t) (eqb (level p x y) i) (guide p x y) (p .set .guides) (k .good .guide-low x y (h .wide) (h .high))))
+    (λ x y h. sym
+    (pick-inner _+ℤ_ (pos 0) intSums (weight p s t) (eqb (level p x y) i) (guide p x y) (p .set .guides)
+    (k .good .guide-low x y (h .wide) (h .high))))
     ∙ over-fold _+ℤ_ (pos 0) intSums p s t (λ f x y. if eqb (level p x y) i && eqb (guide p x y) f then weight p s t f else pos 0) (p .set .guides)
-    ∙ ap (λ (q : ℕ → ℤ). sumℤ q 0 (p .set .guides)) (fun-ext (λ f. over-count _+ℤ_ (pos 0) intSums p s t i f (weight p s t f) ∙ times-is (count p s t i f) (weight p s t f)))
+    ∙ ap (λ (q : ℕ → ℤ). sumℤ q 0 (p .set .guides))
+    (fun-ext (λ f. over-count _+ℤ_ (pos 0) intSums p s t i f (weight p s t f) ∙ times-is (count p s t i f) (weight p s t f)))
 
 -- ---- kinds
 pub weight-table : (p : Frame) (s t g : ℕ) → p .set .kind ≡ 1 → weight p s t g ≡ pos (table p (guide p s t) g)
@@ -95,7 +99,8 @@ pub weight-linear : (p : Frame) (s t g : ℕ) → p .set .kind ≡ 2 → weight 
 unfolding guidedWeight variance deviation slope offset
 weight-linear p s t g e =
     weight-guided p s t g e
-    ∙ solve5 (λ v a n x u. v ⊕ a ⊗ (n ⊗ x ⊖ u) ≐ (n ⊗ a) ⊗ x ⊕ (v ⊖ u ⊗ a)) refl (variance p s t) (deviation p s t) (pos (pixelCount p s t)) (pos g) (pos (guideSum p s t))
+    ∙ solve5 (λ v a n x u. v ⊕ a ⊗ (n ⊗ x ⊖ u) ≐ (n ⊗ a) ⊗ x ⊕ (v ⊖ u ⊗ a)) refl (variance p s t) (deviation p s t) (pos (pixelCount p s t)) (pos g)
+    (pos (guideSum p s t))
 
 linear-part : (b : Bool) (c d w : ℤ) (g : ℕ) → w ≡ c *ℤ pos g +ℤ d
     → (if b then w else pos 0) ≡ c *ℤ pos (if b then g else 0) +ℤ d *ℤ pos (if b then 1 else 0)
@@ -106,11 +111,16 @@ pub level-linear : (p : Frame) (s t i : ℕ) → p .set .kind ≡ 2
     → levelWeight p s t i ≡ slope p s t *ℤ pos (levelSum p s t (guide p) i) +ℤ offset p s t *ℤ pos (levelSum p s t (λ x y. 1) i)
 unfolding levelWeight levelSum
 level-linear p s t i e =
-    over-inWindow _+ℤ_ (pos 0) intSums p s t _ _ (λ x y h. linear-part (eqb (level p x y) i) (slope p s t) (offset p s t) (weight p s t (guide p x y)) (guide p x y) (weight-linear p s t (guide p x y) e))
-    ∙ over-add p s t (λ x y. slope p s t *ℤ pos (if eqb (level p x y) i then guide p x y else 0)) (λ x y. offset p s t *ℤ pos (if eqb (level p x y) i then 1 else 0))
+    over-inWindow _+ℤ_ (pos 0) intSums p s t _ _
+    (λ x y h. linear-part (eqb (level p x y) i) (slope p s t) (offset p s t) (weight p s t (guide p x y)) (guide p x y)
+    (weight-linear p s t (guide p x y) e))
+    ∙ over-add p s t (λ x y. slope p s t *ℤ pos (if eqb (level p x y) i then guide p x y else 0))
+    (λ x y. offset p s t *ℤ pos (if eqb (level p x y) i then 1 else 0))
     ∙ ap₂ (λ (x y : ℤ). x +ℤ y)
-    (over-scale p s t (slope p s t) (λ x y. pos (if eqb (level p x y) i then guide p x y else 0)) ∙ ap (λ (q : ℤ). slope p s t *ℤ q) (over-pos p s t (λ x y. if eqb (level p x y) i then guide p x y else 0)))
-    (over-scale p s t (offset p s t) (λ x y. pos (if eqb (level p x y) i then 1 else 0)) ∙ ap (λ (q : ℤ). offset p s t *ℤ q) (over-pos p s t (λ x y. if eqb (level p x y) i then 1 else 0)))
+    (over-scale p s t (slope p s t) (λ x y. pos (if eqb (level p x y) i then guide p x y else 0)) ∙ ap (λ (q : ℤ). slope p s t *ℤ q)
+    (over-pos p s t (λ x y. if eqb (level p x y) i then guide p x y else 0)))
+    (over-scale p s t (offset p s t) (λ x y. pos (if eqb (level p x y) i then 1 else 0)) ∙ ap (λ (q : ℤ). offset p s t *ℤ q)
+    (over-pos p s t (λ x y. if eqb (level p x y) i then 1 else 0)))
 
 -- ---- the balance by the box
 -- cell f of the box at the cut c
@@ -131,10 +141,14 @@ pub balance-signed : (p : Frame) (s t c : ℕ)
 unfolding balance cumulative totalWeight
 balance-signed p s t c =
     ap₂ (λ (a b : ℤ). a +ℤ b) (sym (over-scale p s t (pos 2) (λ x y. if leb (level p x y) c then weight p s t (guide p x y) else pos 0)))
-    (solve1 (λ a. opposite a ≐ opposite (# 1) ⊗ a) refl (Σℤ p s t (λ x y. weight p s t (guide p x y))) ∙ sym (over-scale p s t (negsuc 0) (λ x y. weight p s t (guide p x y))))
-    ∙ sym (over-add p s t (λ x y. pos 2 *ℤ (if leb (level p x y) c then weight p s t (guide p x y) else pos 0)) (λ x y. negsuc 0 *ℤ weight p s t (guide p x y)))
+    (solve1 (λ a. opposite a ≐ opposite (# 1) ⊗ a) refl (Σℤ p s t (λ x y. weight p s t (guide p x y))) ∙ sym
+    (over-scale p s t (negsuc 0) (λ x y. weight p s t (guide p x y))))
+    ∙ sym
+    (over-add p s t (λ x y. pos 2 *ℤ (if leb (level p x y) c then weight p s t (guide p x y) else pos 0))
+    (λ x y. negsuc 0 *ℤ weight p s t (guide p x y)))
     ∙ over-inWindow _+ℤ_ (pos 0) intSums p s t _ _
-    (λ x y h. ap (λ (q : ℤ). pos 2 *ℤ (if leb (level p x y) c then weight p s t (guide p x y) else pos 0) +ℤ q) (solve1 (λ a. opposite (# 1) ⊗ a ≐ opposite a) refl (weight p s t (guide p x y)))
+    (λ x y h. ap (λ (q : ℤ). pos 2 *ℤ (if leb (level p x y) c then weight p s t (guide p x y) else pos 0) +ℤ q)
+    (solve1 (λ a. opposite (# 1) ⊗ a ≐ opposite a) refl (weight p s t (guide p x y)))
     ∙ signed (leb (level p x y) c) (weight p s t (guide p x y)))
 
 pull : (b : Bool) (u w : ℤ) → (if b then u *ℤ w else pos 0) ≡ w *ℤ (if b then u else pos 0)
@@ -148,10 +162,14 @@ unfolding cell
 balance-box p s t c n k =
     balance-signed p s t c
     ∙ over-inWindow _+ℤ_ (pos 0) intSums p s t _ _
-    (λ x y h. sym (fold-pick _+ℤ_ (pos 0) intSums (λ f. (if leb (level p x y) c then pos 1 else negsuc 0) *ℤ weight p s t f) (guide p x y) n (k x y h)))
-    ∙ over-fold _+ℤ_ (pos 0) intSums p s t (λ f x y. if eqb (guide p x y) f then (if leb (level p x y) c then pos 1 else negsuc 0) *ℤ weight p s t f else pos 0) n
+    (λ x y h. sym
+    (fold-pick _+ℤ_ (pos 0) intSums (λ f. (if leb (level p x y) c then pos 1 else negsuc 0) *ℤ weight p s t f) (guide p x y) n (k x y h)))
+    ∙ over-fold _+ℤ_ (pos 0) intSums p s t
+    (λ f x y. if eqb (guide p x y) f then (if leb (level p x y) c then pos 1 else negsuc 0) *ℤ weight p s t f else pos 0) n
     ∙ ap (λ (q : ℕ → ℤ). sumℤ q 0 n)
-    (fun-ext (λ f. over-inWindow _+ℤ_ (pos 0) intSums p s t _ _ (λ x y h. pull (eqb (guide p x y) f) (if leb (level p x y) c then pos 1 else negsuc 0) (weight p s t f))
+    (fun-ext
+    (λ f. over-inWindow _+ℤ_ (pos 0) intSums p s t _ _
+    (λ x y h. pull (eqb (guide p x y) f) (if leb (level p x y) c then pos 1 else negsuc 0) (weight p s t f))
     ∙ over-scale p s t (weight p s t f) (λ x y. if eqb (guide p x y) f then (if leb (level p x y) c then pos 1 else negsuc 0) else pos 0)
     ∙ *ℤ-comm (weight p s t f) (cell p s t c f)))
 

@@ -15,8 +15,37 @@ use Rattle.spec.specs.declared.Trailer.{Trailer}
 use Rattle.spec.specs.declared.Plan.{Plan}
 use Rattle.spec.specs.Base.{if_then_else_, distance}
 use Rattle.spec.specs.Refusal.{accepted, _▷_, refuse}
-use Rattle.spec.specs.Frame.{Frame, level, guide, table, pixels, ownWeights, settingsOf, trailerOf, planOf, plane, pixelLevel, pixelGuide, builtIn, frameOf}
-use Rattle.spec.specs.Checks.{heaviest, outside, badSize, badCounts, badKind, badRadius, settingsOutcome, scanFile, valueScan, guideScan, tableScan, verdict, SettingsLimits}
+use Rattle.spec.specs.Frame.{
+  Frame,
+  level,
+  guide,
+  table,
+  pixels,
+  ownWeights,
+  settingsOf,
+  trailerOf,
+  planOf,
+  plane,
+  pixelLevel,
+  pixelGuide,
+  builtIn,
+  frameOf,
+}
+use Rattle.spec.specs.Checks.{
+  heaviest,
+  outside,
+  badSize,
+  badCounts,
+  badKind,
+  badRadius,
+  settingsOutcome,
+  scanFile,
+  valueScan,
+  guideScan,
+  tableScan,
+  verdict,
+  SettingsLimits,
+}
 use Rattle.spec.proofs.Checks.{both-accepted, not-fired, neither, inside, scan-accepted, Passed, passed}
 
 pub record FrameLimits (p : Frame) : Type 0 where
@@ -93,7 +122,8 @@ module _ (b : List ℕ) (ok : verdict b ≡ accepted) where
   unfolding frameOf ownWeights trailerOf
   table-below f g hf hg = go (eqb (trailerOf b .table) 0) refl
     where
-      go : (c : Bool) → eqb (trailerOf b .table) 0 ≡ c → (if c then builtIn f g else plane b (planOf b .table) (f * settingsOf b .guides + g)) ≤ heaviest
+      go : (c : Bool) → eqb (trailerOf b .table) 0 ≡ c →
+          (if c then builtIn f g else plane b (planOf b .table) (f * settingsOf b .guides + g)) ≤ heaviest
       go true e = built-in-low f g
       go false e = weight-below (f * settingsOf b .guides + g) (rw e (digits-lt hf hg))
 

@@ -38,13 +38,15 @@ apart v i w = go (decLe v i)
     go (no h) =
         let e : distance v i ≡ distance v (suc i) + 1 = omega arith in
         rw (lt-leb v i (omega arith))
-        (solve2 (λ w d. w ⊗ d ≐ w ⊗ (d ⊕ # 1) ⊕ opposite (# 1) ⊗ w) refl w (pos (distance v (suc i))) ∙ ap (λ (n : ℕ). w *ℤ pos n +ℤ negsuc 0 *ℤ w) (sym e))
+        (solve2 (λ w d. w ⊗ d ≐ w ⊗ (d ⊕ # 1) ⊕ opposite (# 1) ⊗ w) refl w (pos (distance v (suc i))) ∙ ap (λ (n : ℕ). w *ℤ pos n +ℤ negsuc 0 *ℤ w)
+        (sym e))
 
 pub differences-next : (p : Frame) (s t i : ℕ) → differences p s t (suc i) ≡ differences p s t i +ℤ balance p s t i
 unfolding differences
 differences-next p s t i =
     over-inWindow _+ℤ_ (pos 0) intSums p s t _ _ (λ x y h. apart (level p x y) i (weight p s t (guide p x y)))
-    ∙ over-add p s t (λ x y. weight p s t (guide p x y) *ℤ pos (distance (level p x y) i)) (λ x y. (if leb (level p x y) i then pos 1 else negsuc 0) *ℤ weight p s t (guide p x y))
+    ∙ over-add p s t (λ x y. weight p s t (guide p x y) *ℤ pos (distance (level p x y) i))
+    (λ x y. (if leb (level p x y) i then pos 1 else negsuc 0) *ℤ weight p s t (guide p x y))
     ∙ ap (λ (q : ℤ). differences p s t i +ℤ q) (sym (balance-signed p s t i))
 
 -- below the answer it falls
@@ -53,13 +55,15 @@ falls p s t i zero h =
     let e : i + 0 ≡ i = add-zero i in
     let b : balance p s t i <ℤ pos 0 = median-before p s t i (omega arith) in
     subst (λ (n : ℕ). differences p s t (suc n) <ℤ differences p s t i) (sym e)
-    (subst (λ (z : ℤ). z <ℤ differences p s t i) (sym (differences-next p s t i)) (omega (arith, ints, add-parts (differences p s t i) (balance p s t i))))
+    (subst (λ (z : ℤ). z <ℤ differences p s t i) (sym (differences-next p s t i))
+    (omega (arith, ints, add-parts (differences p s t i) (balance p s t i))))
 falls p s t i (suc d) h =
     let e : i + suc d ≡ suc (i + d) = add-suc i d in
     let b : balance p s t (suc (i + d)) <ℤ pos 0 = median-before p s t (suc (i + d)) (omega arith) in
     let ih : differences p s t (suc (i + d)) <ℤ differences p s t i = falls p s t i d (omega arith) in
     subst (λ (n : ℕ). differences p s t (suc n) <ℤ differences p s t i) (sym e)
-    (subst (λ (z : ℤ). z <ℤ differences p s t i) (sym (differences-next p s t (suc (i + d)))) (omega (arith, ints, add-parts (differences p s t (suc (i + d))) (balance p s t (suc (i + d))))))
+    (subst (λ (z : ℤ). z <ℤ differences p s t i) (sym (differences-next p s t (suc (i + d))))
+    (omega (arith, ints, add-parts (differences p s t (suc (i + d))) (balance p s t (suc (i + d))))))
 
 pub least-below : (p : Frame) (s t i : ℕ) → i < median p s t → differences p s t (median p s t) <ℤ differences p s t i
 least-below p s t i h =
@@ -68,12 +72,16 @@ least-below p s t i h =
 
 -- from the answer on it rises, where no weight is negative
 rises : {p : Frame} {s t : ℕ} → Pixel p s t → NoneNegative p s t → (d : ℕ) → differences p s t (median p s t) ≤ℤ differences p s t (median p s t + d)
-rises {p} {s} {t} k light zero = subst (λ (n : ℕ). differences p s t (median p s t) ≤ℤ differences p s t n) (sym (add-zero (median p s t))) (≤ℤ-refl (differences p s t (median p s t)))
+rises {p} {s} {t} k light zero =
+    subst (λ (n : ℕ). differences p s t (median p s t) ≤ℤ differences p s t n) (sym (add-zero (median p s t)))
+    (≤ℤ-refl (differences p s t (median p s t)))
 rises {p} {s} {t} k light (suc d) =
     let ih : differences p s t (median p s t) ≤ℤ differences p s t (median p s t + d) = rises k light d in
-    let b : pos 0 ≤ℤ balance p s t (median p s t + d) = ≤-trans (median-at k) (balance-mono p s t light (median p s t) (median p s t + d) (omega arith)) in
+    let b : pos 0 ≤ℤ balance p s t (median p s t + d) =
+    ≤-trans (median-at k) (balance-mono p s t light (median p s t) (median p s t + d) (omega arith)) in
     subst (λ (n : ℕ). differences p s t (median p s t) ≤ℤ differences p s t n) (sym (add-suc (median p s t) d))
-    (subst (λ (z : ℤ). differences p s t (median p s t) ≤ℤ z) (sym (differences-next p s t (median p s t + d))) (omega (arith, ints, add-parts (differences p s t (median p s t + d)) (balance p s t (median p s t + d)))))
+    (subst (λ (z : ℤ). differences p s t (median p s t) ≤ℤ z) (sym (differences-next p s t (median p s t + d)))
+    (omega (arith, ints, add-parts (differences p s t (median p s t + d)) (balance p s t (median p s t + d)))))
 
 pub least : {p : Frame} {s t : ℕ} → Pixel p s t → NoneNegative p s t → (i : ℕ) → differences p s t (median p s t) ≤ℤ differences p s t i
 least {p} {s} {t} k light i = go (decLt i (median p s t))
@@ -96,7 +104,8 @@ not-weightless p s t light some = go (weightless p s t) refl
     go false e = refl
     go true e =
         absurd (some (λ x y h. ≤-antisymm
-        (subst (λ (z : ℤ). weight p s t (guide p x y) ≤ℤ z) (weightless-total p s t e) (over-termℤ p s t (λ u v. weight p s t (guide p u v)) light x y h)) (light x y h)))
+        (subst (λ (z : ℤ). weight p s t (guide p x y) ≤ℤ z) (weightless-total p s t e)
+        (over-termℤ p s t (λ u v. weight p s t (guide p u v)) light x y h)) (light x y h)))
 
 pub answer-median : (p : Frame) (s t : ℕ) → weightless p s t ≡ false → answer p s t ≡ median p s t
 unfolding answer

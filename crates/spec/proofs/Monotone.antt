@@ -46,11 +46,13 @@ pub monotone-weight : {p : Frame} {s t : ℕ} → Pixel p s t → monotone p s t
 unfolding monotone
 monotone-weight {p} {s} {t} k e g h = go (k .good .sound .kinds)
   where
-    go : ((p .set .kind ≡ 1) × (p .set .smoothing ≡ 0)) ⊎ ((p .set .kind ≡ 2) × (1 ≤ p .set .smoothing) × (p .set .smoothing ≤ 65025)) → pos 0 ≤ℤ weight p s t g
+    go : ((p .set .kind ≡ 1) × (p .set .smoothing ≡ 0)) ⊎ ((p .set .kind ≡ 2) × (1 ≤ p .set .smoothing) × (p .set .smoothing ≤ 65025)) →
+        pos 0 ≤ℤ weight p s t g
     go (inl a) = subst (λ (z : ℤ). pos 0 ≤ℤ z) (sym (weight-table p s t g (a .0))) 0≤pos
     go (inr a) =
         let two : p .set .kind ≡ 2 = a .0 in
-        let f : (nonNeg (weight p s t 0) && nonNeg (weight p s t (p .set .guides - 1))) ≡ true = rw (ne-eqb (p .set .kind) 1 (λ d. omega arith)) at e in
+        let f : (nonNeg (weight p s t 0) && nonNeg (weight p s t (p .set .guides - 1))) ≡ true =
+        rw (ne-eqb (p .set .kind) 1 (λ d. omega arith)) at e in
         let q = both (nonNeg (weight p s t 0)) (nonNeg (weight p s t (p .set .guides - 1))) f in
         let low = k .good .sound .guides-low in
         let m : p .set .guides - 1 ≡ (p .set .guides - 1 - g) + g = omega arith in
@@ -85,7 +87,8 @@ cell-step false v c = go (eqb v (suc c))
     go false = refl
 cell-step true v c = go (decLe v c) (ℕ-discrete v (suc c))
   where
-    go : Dec (v ≤ c) → Dec (v ≡ suc c) → (if leb v (suc c) then pos 1 else negsuc 0) ≡ (if leb v c then pos 1 else negsuc 0) +ℤ pos 2 *ℤ pos (indicator (eqb v (suc c) && true))
+    go : Dec (v ≤ c) → Dec (v ≡ suc c) →
+        (if leb v (suc c) then pos 1 else negsuc 0) ≡ (if leb v c then pos 1 else negsuc 0) +ℤ pos 2 *ℤ pos (indicator (eqb v (suc c) && true))
     go (yes a) d = rw (le-leb v (suc c) (omega arith), le-leb v c a, ne-eqb v (suc c) (λ e. omega arith)) refl
     go (no a) (yes e) = rw (le-leb v (suc c) (omega arith), lt-leb v c (omega arith), eq-eqb v (suc c) e) refl
     go (no a) (no e) = rw (lt-leb v (suc c) (omega arith), lt-leb v c (omega arith), ne-eqb v (suc c) e) refl
@@ -94,8 +97,10 @@ pub cell-next : (p : Frame) (s t c f : ℕ) → cell p s t (suc c) f ≡ cell p 
 unfolding cell count
 cell-next p s t c f =
     over-inWindow _+ℤ_ (pos 0) intSums p s t _ _ (λ x y h. cell-step (eqb (guide p x y) f) (level p x y) c)
-    ∙ over-add p s t (λ x y. if eqb (guide p x y) f then (if leb (level p x y) c then pos 1 else negsuc 0) else pos 0) (λ x y. pos 2 *ℤ pos (inCell p (suc c) f x y))
-    ∙ ap (λ (q : ℤ). cell p s t c f +ℤ q) (over-scale p s t (pos 2) (λ x y. pos (inCell p (suc c) f x y)) ∙ ap (λ (q : ℤ). pos 2 *ℤ q) (over-pos p s t (inCell p (suc c) f)))
+    ∙ over-add p s t (λ x y. if eqb (guide p x y) f then (if leb (level p x y) c then pos 1 else negsuc 0) else pos 0)
+    (λ x y. pos 2 *ℤ pos (inCell p (suc c) f x y))
+    ∙ ap (λ (q : ℤ). cell p s t c f +ℤ q)
+    (over-scale p s t (pos 2) (λ x y. pos (inCell p (suc c) f x y)) ∙ ap (λ (q : ℤ). pos 2 *ℤ q) (over-pos p s t (inCell p (suc c) f)))
 
 -- a cell that no pixel has the guide of
 pub cell-none : (p : Frame) (s t c f : ℕ) → ((x y : ℕ) → InWindow p s t x y → guide p x y ≡ f → ⊥) → cell p s t c f ≡ pos 0
@@ -122,10 +127,12 @@ module _ (p : Frame) (s t : ℕ) (light : NoneNegative p s t) where
   cumulative-step i (suc d) =
       subst (λ (j : ℕ). cumulative p s t i ≤ℤ cumulative p s t j) (sym (add-suc i d))
       (subst (λ (u : ℤ). cumulative p s t i ≤ℤ u) (sym (cumulative-next p s t (i + d)))
-      (let a = cumulative-step i d in let b = level-weight-low (suc (i + d)) in omega (arith, ints, add-parts (cumulative p s t (i + d)) (levelWeight p s t (suc (i + d))))))
+      (let a = cumulative-step i d in let b =
+      level-weight-low (suc (i + d)) in omega (arith, ints, add-parts (cumulative p s t (i + d)) (levelWeight p s t (suc (i + d))))))
 
   pub cumulative-mono : (i j : ℕ) → i ≤ j → cumulative p s t i ≤ℤ cumulative p s t j
-  cumulative-mono i j h = let e : i + (j - i) ≡ j = omega arith in subst (λ (n : ℕ). cumulative p s t i ≤ℤ cumulative p s t n) e (cumulative-step i (j - i))
+  cumulative-mono i j h = let e : i + (j - i) ≡ j =
+      omega arith in subst (λ (n : ℕ). cumulative p s t i ≤ℤ cumulative p s t n) e (cumulative-step i (j - i))
 
   pub balance-mono : (i j : ℕ) → i ≤ j → balance p s t i ≤ℤ balance p s t j
   unfolding balance

@@ -1,4 +1,5 @@
--- What the plan of an accepted file says: the frame's settings, and where its pixels and its weights stand. Every function on a file begins from `facts`.
+-- What the plan of an accepted file says: the frame's settings, and where its pixels and its weights stand. Every function on a file begins from
+-- `facts`.
 -- Assumes nothing.
 use mathlib.Core.Path.{_≡_, refl, sym, ap₂, subst, _∙_}
 use mathlib.Core.Bool.{Bool, true, false}
@@ -15,7 +16,23 @@ use Rattle.spec.specs.declared.Trailer.{Trailer}
 use Rattle.spec.specs.declared.Plan.{Plan}
 use Rattle.spec.specs.Base.{if_then_else_}
 use Rattle.spec.specs.Refusal.{accepted}
-use Rattle.spec.specs.Frame.{Frame, level, guide, table, tableSize, ownWeights, settingsOf, trailerOf, trailerAt, planOf, plane, pixelLevel, pixelGuide, builtIn, frameOf}
+use Rattle.spec.specs.Frame.{
+  Frame,
+  level,
+  guide,
+  table,
+  tableSize,
+  ownWeights,
+  settingsOf,
+  trailerOf,
+  trailerAt,
+  planOf,
+  plane,
+  pixelLevel,
+  pixelGuide,
+  builtIn,
+  frameOf,
+}
 use Rattle.spec.specs.Checks.{verdict, Planned, SettingsLimits}
 use Rattle.spec.proofs.Checks.{Near, Passed, passed}
 use Rattle.spec.proofs.Limits.{FrameLimits, Pixel, limits-of}
@@ -86,7 +103,9 @@ smoothing-of {p} g two = go (g .sound .kinds)
 -- ---- the table of kind 1, by whether the file has weights of its own
 module _ (b : List ℕ) (f g : ℕ) where
   tabled : (c : Bool) → eqb (trailerOf b .table) 0 ≡ c → ((if c then 0 else tableSize (settingsOf b)) ≡ 0 → ⊥)
-      → (if c then builtIn f g else plane b (planOf b .table) (f * settingsOf b .guides + g)) ≡ plane b (planOf b .table) (f * settingsOf b .guides + g)
+      →
+      (if c then builtIn f g else plane b (planOf b .table) (f * settingsOf b .guides + g)) ≡ plane b (planOf b .table)
+      (f * settingsOf b .guides + g)
   tabled true e h = absurd (h refl)
   tabled false e h = refl
 
@@ -105,12 +124,14 @@ module _ (b : List ℕ) (f g : ℕ) where
       let m : 2 ≤ settingsOf b .guides = limits-of b ok .sound .guides-low in
       built _ refl (le-trans (omega arith) (mul-le-mul m m)) h
 
-pub table-own : {b : List ℕ} {z : Plan} → Planned b z → (z .weights ≡ 0 → ⊥) → (f g : ℕ) → table (frameOf b) f g ≡ plane b (z .table) (f * z .guides + g)
+pub table-own : {b : List ℕ} {z : Plan} → Planned b z → (z .weights ≡ 0 → ⊥) → (f g : ℕ) →
+    table (frameOf b) f g ≡ plane b (z .table) (f * z .guides + g)
 table-own {b} {z} k n f g =
     subst (λ (q : Plan). (q .weights ≡ 0 → ⊥) → table (frameOf b) f g ≡ plane b (q .table) (f * q .guides + g)) (sym (k .plan)) (own-tabled b f g) n
 
 pub table-built : {b : List ℕ} {z : Plan} → Planned b z → z .weights ≡ 0 → (f g : ℕ) → table (frameOf b) f g ≡ builtIn f g
-table-built {b} {z} k n f g = subst (λ (q : Plan). q .weights ≡ 0 → table (frameOf b) f g ≡ builtIn f g) (sym (k .plan)) (own-built b f g (k .accepts)) n
+table-built {b} {z} k n f g =
+    subst (λ (q : Plan). q .weights ≡ 0 → table (frameOf b) f g ≡ builtIn f g) (sym (k .plan)) (own-built b f g (k .accepts)) n
 
 -- ---- a plan's kind is 1 or 2
 pub kind-table : {b : List ℕ} {z : Plan} → Planned b z → (z .kind ≡ 2 → ⊥) → z .kind ≡ 1

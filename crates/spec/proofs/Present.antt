@@ -30,7 +30,8 @@ absent-here v i h e = let q : _≡_ {A = ℕ} (if eqb v i then 1 else 0) 1 = rw 
 pub absent : (p : Frame) (s t i : ℕ) → levelCount p s t i ≡ 0 → (x y : ℕ) → InWindow p s t x y → level p x y ≡ i → ⊥
 unfolding levelSum
 absent p s t i e x y h =
-    absent-here (level p x y) i (subst (λ (n : ℕ). (if eqb (level p x y) i then 1 else 0) ≤ n) e (over-term p s t (λ u v. if eqb (level p u v) i then 1 else 0) x y h))
+    absent-here (level p x y) i
+    (subst (λ (n : ℕ). (if eqb (level p x y) i then 1 else 0) ≤ n) e (over-term p s t (λ u v. if eqb (level p u v) i then 1 else 0) x y h))
 
 pub absent-weight : (p : Frame) (s t i : ℕ) → levelCount p s t i ≡ 0 → levelWeight p s t i ≡ pos 0
 unfolding levelWeight
@@ -46,4 +47,5 @@ pub absent-fold : (p : Frame) (s t i d : ℕ) → ((j : ℕ) → i < j → j ≤
 absent-fold p s t i zero h = ap (cumulative p s t) (add-zero i)
 absent-fold p s t i (suc d) h =
     let e : i + suc d ≡ suc (i + d) = add-suc i d in
-    ap (cumulative p s t) e ∙ absent-up p s t (i + d) (h (suc (i + d)) (omega arith) (omega arith)) ∙ absent-fold p s t i d (λ j a b. h j a (omega arith))
+    ap (cumulative p s t) e ∙ absent-up p s t (i + d) (h (suc (i + d)) (omega arith) (omega arith)) ∙ absent-fold p s t i d
+    (λ j a b. h j a (omega arith))

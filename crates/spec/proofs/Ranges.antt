@@ -116,7 +116,8 @@ module _ {A : Type 0} (_⊕_ : A → A → A) (z : A) (laws : Sums _⊕_ z) wher
   unfolding fold foldRect
   foldRect-turn f x zero y ny = sym (fold-none y ny)
   foldRect-turn f x (suc nx) y ny =
-      ap (λ (q : A). q ⊕ fold _⊕_ z (λ t. f (x + nx) t) y ny) (foldRect-turn f x nx y ny) ∙ sym (fold-both (λ t. fold _⊕_ z (λ s. f s t) x nx) (λ t. f (x + nx) t) y ny)
+      ap (λ (q : A). q ⊕ fold _⊕_ z (λ t. f (x + nx) t) y ny) (foldRect-turn f x nx y ny) ∙ sym
+      (fold-both (λ t. fold _⊕_ z (λ s. f s t) x nx) (λ t. f (x + nx) t) y ny)
 
   -- ---- the window of a frame, one column to the right, one row down. Left and up are the same equations, read from the other window
 
@@ -133,7 +134,8 @@ module _ {A : Type 0} (_⊕_ : A → A → A) (z : A) (laws : Sums _⊕_ z) wher
   unfolding over foldRect inRow
   over-down p s t f h =
       ap (λ (q : A). q ⊕ lost _⊕_ z (inRow _⊕_ z p s f) (p .set .radius) t) (foldRect-turn f _ _ _ _)
-      ∙ window-right (λ y. fold _⊕_ z (λ x. f x y) (s - p .set .radius) (span (p .set .radius) s (p .set .width))) (p .set .radius) t (p .set .height) h
+      ∙ window-right (λ y. fold _⊕_ z (λ x. f x y) (s - p .set .radius) (span (p .set .radius) s (p .set .width))) (p .set .radius) t
+      (p .set .height) h
       ∙ ap (λ (q : A). q ⊕ gained _⊕_ z (inRow _⊕_ z p s f) (p .set .radius) t (p .set .height)) (sym (foldRect-turn f _ _ _ _))
 
 pub natSums : Sums _+_ 0

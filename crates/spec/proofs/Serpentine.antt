@@ -1,4 +1,5 @@
--- The filter's walk: after i moves it is at the pixel that it should be, having answered there; each pixel is visited once; so its answers, put to their
+-- The filter's walk: after i moves it is at the pixel that it should be, having answered there; each pixel is visited once; so its answers, put to
+-- their
 -- pixels' places, are the filtered plane.
 -- Assumes nothing.
 use Prim.Native.Nat.{ℕ, zero, suc, _+_, _-_, _*_, _/_, _%_, _<_}
@@ -120,7 +121,8 @@ module _ (k : Settings) (pos : 0 < k .width) where
   unfolding move
   down s t h = simp (lt-ltb (t + 1) (k .height) h)
 
-  in-row : (q d : ℕ) → d + 1 < k .width → (b : Bool) → eqb (q % 2) 0 ≡ b → move k (columnIn (k .width) q d) q (q % 2) ≡ To (columnIn (k .width) q (d + 1)) q
+  in-row : (q d : ℕ) → d + 1 < k .width → (b : Bool) → eqb (q % 2) 0 ≡ b →
+      move k (columnIn (k .width) q d) q (q % 2) ≡ To (columnIn (k .width) q (d + 1)) q
   in-row q d h true e =
       let z : q % 2 ≡ 0 = eqb-true (q % 2) 0 e in
       rw (z, column-even (k .width) pos q d z, column-even (k .width) pos q (d + 1) z) (right d q h)
@@ -150,12 +152,16 @@ module _ (k : Settings) (pos : 0 < k .width) where
   turn-moves i l = by (eqb ((i + 1) % k .width) 0) refl
     where
       by : (b : Bool) → eqb ((i + 1) % k .width) 0 ≡ b →
-          move k (columnAfter (k .width) i) (i / k .width) (if b then 2 else (i / k .width) % 2) ≡ To (columnAfter (k .width) (i + 1)) ((i + 1) / k .width)
+          move k (columnAfter (k .width) i) (i / k .width) (if b then 2 else (i / k .width) % 2) ≡ To (columnAfter (k .width) (i + 1))
+          ((i + 1) / k .width)
       by true e =
           let z : (i + 1) % k .width ≡ 0 = eqb-true ((i + 1) % k .width) 0 e in
           let full : i % k .width + 1 ≡ k .width = ends (k .width) pos i z in
           let n = next-row (k .width) pos i full in
-          let q : i / k .width + 1 < k .height = rw (n .0) at (div-lt-iff-lt-mul {k = k .width} {x = i + 1} {y = k .height} pos .1 (subst (λ (m : ℕ). i + 1 < m) (mul-comm (k .width) (k .height)) l)) in
+          let q : i / k .width + 1 < k .height =
+          rw (n .0) at
+          (div-lt-iff-lt-mul {k = k .width} {x = i + 1} {y = k .height} pos .1
+          (subst (λ (m : ℕ). i + 1 < m) (mul-comm (k .width) (k .height)) l)) in
           rw (n .0, n .1) (to-row (i / k .width) (i % k .width) full q _ refl)
       by false e =
           let z : (i + 1) % k .width ≡ 0 → ⊥ = eqb-false ((i + 1) % k .width) 0 e in
@@ -181,11 +187,13 @@ pub record At (p : Frame) (x : State) (s t : ℕ) : Type 0 where
 pub at-arrive : (p : Frame) (s t c n : ℕ) → At p (arrive p s t c n) s t
 at-arrive p s t c n = record { column = arrive-column p s t c n; row = arrive-row p s t c n; answer = arrive-answer p s t c n }
 
-pub at-turn : (p : Frame) (x : State) (i : ℕ) → 0 < p .set .width → i + 1 < pixels (p .set) → At p x (columnAfter (p .set .width) i) (i / p .set .width)
+pub at-turn : (p : Frame) (x : State) (i : ℕ) → 0 < p .set .width → i + 1 < pixels (p .set) →
+    At p x (columnAfter (p .set .width) i) (i / p .set .width)
     → At p (step p x (turn (p .set .width) i)) (columnAfter (p .set .width) (i + 1)) ((i + 1) / p .set .width)
 at-turn p x i pos h a =
     let w = p .set .width in
-    let m : move (p .set) (x .column) (x .row) (turn w i) ≡ To (columnAfter w (i + 1)) ((i + 1) / w) = rw (a .column, a .row) (turn-moves (p .set) pos i h) in
+    let m : move (p .set) (x .column) (x .row) (turn w i) ≡ To (columnAfter w (i + 1)) ((i + 1) / w) =
+    rw (a .column, a .row) (turn-moves (p .set) pos i h) in
     subst (λ (y : State). At p y (columnAfter w (i + 1)) ((i + 1) / w)) (sym (step-to p x (turn w i) _ _ m)) (at-arrive p _ _ (x .cut) (x .shifts))
 
 -- it begins at the first pixel
@@ -209,13 +217,15 @@ serpentine-at {p} g (suc i) h =
     after-next p (start p 0 0) (serpentine k) i l ∙ ap (step p x) (serpentine-byte k i (omega arith)) in
     let j : i + 1 ≡ suc i = omega arith in
     subst (λ (y : State). At p y (columnAfter w (suc i)) (suc i / w)) (sym e)
-    (subst (λ (n : ℕ). At p (step p x (turn w i)) (columnAfter w n) (n / w)) j (at-turn p x i (g .sound .width-low) (omega arith) (serpentine-at g i (omega arith))))
+    (subst (λ (n : ℕ). At p (step p x (turn w i)) (columnAfter w n) (n / w)) j
+    (at-turn p x i (g .sound .width-low) (omega arith) (serpentine-at g i (omega arith))))
 
 -- its answers: every one of its moves is made
 pub serpentine-answers : {p : Frame} → FrameLimits p → (i : ℕ) → i < pixels (p .set)
     → getD (walkAnswers p 0 0 (serpentine (p .set))) i 0 ≡ answer p (columnAfter (p .set .width) i) (i / p .set .width)
 unfolding walkAnswers walkEnd
-serpentine-answers {p} g i h = getD-answers p (start p 0 0) (serpentine (p .set)) i (omega (arith, serpentine-length (p .set))) ∙ serpentine-at g i h .answer
+serpentine-answers {p} g i h =
+    getD-answers p (start p 0 0) (serpentine (p .set)) i (omega (arith, serpentine-length (p .set))) ∙ serpentine-at g i h .answer
 
 -- ---- the plane
 pub filtered-at : (p : Frame) (q : ℕ) → q < pixels (p .set) → getD (filtered p) q 0 ≡ answer p (q % p .set .width) (q / p .set .width)

@@ -139,20 +139,25 @@ module _ (p : Frame) (s t : ℕ) where
   unfolding over foldRect
   over-term f x y h =
       le-trans (sum-term (f x) (t - p .set .radius) (span (p .set .radius) t (p .set .height)) y (omega arith) (inWindow-bottom h))
-      (sum-term (λ u. sum (f u) (t - p .set .radius) (span (p .set .radius) t (p .set .height))) (s - p .set .radius) (span (p .set .radius) s (p .set .width)) x (omega arith) (inWindow-right h))
+      (sum-term (λ u. sum (f u) (t - p .set .radius) (span (p .set .radius) t (p .set .height))) (s - p .set .radius)
+      (span (p .set .radius) s (p .set .width)) x (omega arith) (inWindow-right h))
 
   pub over-termℤ : (f : ℕ → ℕ → ℤ) → ((x y : ℕ) → InWindow p s t x y → pos 0 ≤ℤ f x y) → (x y : ℕ) → InWindow p s t x y → f x y ≤ℤ Σℤ p s t f
   unfolding over foldRect
   over-termℤ f k x y h =
-      ≤-trans (sum-termℤ (f x) (t - p .set .radius) (span (p .set .radius) t (p .set .height)) y (λ v c d. k x v (in-window p s t x v (omega arith) (inWindow-right h) c d)) (omega arith) (inWindow-bottom h))
-      (sum-termℤ (λ u. sumℤ (f u) (t - p .set .radius) (span (p .set .radius) t (p .set .height))) (s - p .set .radius) (span (p .set .radius) s (p .set .width)) x
+      ≤-trans
+      (sum-termℤ (f x) (t - p .set .radius) (span (p .set .radius) t (p .set .height)) y
+      (λ v c d. k x v (in-window p s t x v (omega arith) (inWindow-right h) c d)) (omega arith) (inWindow-bottom h))
+      (sum-termℤ (λ u. sumℤ (f u) (t - p .set .radius) (span (p .set .radius) t (p .set .height))) (s - p .set .radius)
+      (span (p .set .radius) s (p .set .width)) x
       (λ u a b. sum-nonneg (f u) _ _ (λ v c d. k u v (in-window p s t u v a b c d))) (omega arith) (inWindow-right h))
 
   -- the number of pixels
   pub pixelCount-is : pixelCount p s t ≡ span (p .set .radius) s (p .set .width) * span (p .set .radius) t (p .set .height)
   unfolding pixelCount over foldRect
   pixelCount-is =
-      fold-same _+_ 0 natSums _ _ _ _ (λ x a b. sum-const 1 _ _ ∙ native.Mathlib.Nat.mul-one _) ∙ sum-const (span (p .set .radius) t (p .set .height)) _ _
+      fold-same _+_ 0 natSums _ _ _ _ (λ x a b. sum-const 1 _ _ ∙ native.Mathlib.Nat.mul-one _) ∙ sum-const
+      (span (p .set .radius) t (p .set .height)) _ _
 
   whole : (c : ℕ) → Σ p s t (λ x y. c) ≡ span (p .set .radius) s (p .set .width) * (span (p .set .radius) t (p .set .height) * c)
   unfolding over foldRect

@@ -73,11 +73,15 @@ total-guided p s t e =
     ∙ ap₂ (λ (x y : ℤ). x +ℤ y)
     (over-scale p s t (slope p s t) (λ x y. pos (guide p x y)) ∙ ap (λ (q : ℤ). slope p s t *ℤ q) (over-pos p s t (guide p)))
     (over-constantℤ p s t (offset p s t))
-    ∙ solve4 (λ n a u v. (n ⊗ a) ⊗ u ⊕ n ⊗ (v ⊖ u ⊗ a) ≐ n ⊗ v) refl (pos (pixelCount p s t)) (deviation p s t) (pos (guideSum p s t)) (variance p s t)
+    ∙ solve4 (λ n a u v. (n ⊗ a) ⊗ u ⊕ n ⊗ (v ⊖ u ⊗ a) ≐ n ⊗ v) refl (pos (pixelCount p s t)) (deviation p s t) (pos (guideSum p s t))
+    (variance p s t)
 
 -- n·Q is at least S²
 squares : (p : Frame) (s t : ℕ)
-    → Σℤ p s t (λ x y. (pos (pixelCount p s t) *ℤ pos (guide p x y) -ℤ pos (guideSum p s t)) *ℤ (pos (pixelCount p s t) *ℤ pos (guide p x y) -ℤ pos (guideSum p s t)))
+    →
+    Σℤ p s t
+    (λ x y. (pos (pixelCount p s t) *ℤ pos (guide p x y) -ℤ pos (guideSum p s t)) *ℤ
+    (pos (pixelCount p s t) *ℤ pos (guide p x y) -ℤ pos (guideSum p s t)))
     ≡ pos (pixelCount p s t) *ℤ (pos (pixelCount p s t) *ℤ pos (squareSum p s t) -ℤ pos (guideSum p s t) *ℤ pos (guideSum p s t))
 unfolding guideSum squareSum
 squares p s t =
@@ -89,7 +93,8 @@ squares p s t =
     ∙ ap₂ (λ (x y : ℤ). x +ℤ y)
     (over-add p s t (λ x y. (n *ℤ n) *ℤ (pos (guide p x y) *ℤ pos (guide p x y))) (λ x y. negℤ (pos 2 *ℤ n *ℤ u) *ℤ pos (guide p x y))
     ∙ ap₂ (λ (x y : ℤ). x +ℤ y)
-    (over-scale p s t (n *ℤ n) (λ x y. pos (guide p x y) *ℤ pos (guide p x y)) ∙ ap (λ (q : ℤ). (n *ℤ n) *ℤ q) (over-pos p s t (λ x y. guide p x y * guide p x y)))
+    (over-scale p s t (n *ℤ n) (λ x y. pos (guide p x y) *ℤ pos (guide p x y)) ∙ ap (λ (q : ℤ). (n *ℤ n) *ℤ q)
+    (over-pos p s t (λ x y. guide p x y * guide p x y)))
     (over-scale p s t (negℤ (pos 2 *ℤ n *ℤ u)) (λ x y. pos (guide p x y)) ∙ ap (λ (q : ℤ). negℤ (pos 2 *ℤ n *ℤ u) *ℤ q) (over-pos p s t (guide p))))
     (over-constantℤ p s t (u *ℤ u))
     ∙ solve3 (λ n u q. ((n ⊗ n) ⊗ q ⊕ opposite (# 2 ⊗ n ⊗ u) ⊗ u) ⊕ n ⊗ (u ⊗ u) ≐ n ⊗ (n ⊗ q ⊖ u ⊗ u)) refl n u (pos (squareSum p s t))
@@ -97,8 +102,12 @@ squares p s t =
 pub variance-low : {p : Frame} {s t : ℕ} → Pixel p s t → pos 0 ≤ℤ (pos (pixelCount p s t * squareSum p s t) -ℤ pos (guideSum p s t * guideSum p s t))
 variance-low {p} {s} {t} k =
     mul-cancel-≤ (pos (pixelCount p s t)) (pos-< (pixelCount-low k))
-    (subst (λ (x : ℤ). x ≤ℤ (pos (pixelCount p s t) *ℤ (pos (pixelCount p s t) *ℤ pos (squareSum p s t) -ℤ pos (guideSum p s t) *ℤ pos (guideSum p s t)))) (sym (*ℤ-zero (pos (pixelCount p s t))))
-    (subst (λ (x : ℤ). pos 0 ≤ℤ x) (squares p s t) (over-nonneg p s t _ (λ x y h. square-nonneg (pos (pixelCount p s t) *ℤ pos (guide p x y) -ℤ pos (guideSum p s t))))))
+    (subst
+    (λ (x : ℤ). x ≤ℤ
+    (pos (pixelCount p s t) *ℤ (pos (pixelCount p s t) *ℤ pos (squareSum p s t) -ℤ pos (guideSum p s t) *ℤ pos (guideSum p s t))))
+    (sym (*ℤ-zero (pos (pixelCount p s t))))
+    (subst (λ (x : ℤ). pos 0 ≤ℤ x) (squares p s t)
+    (over-nonneg p s t _ (λ x y h. square-nonneg (pos (pixelCount p s t) *ℤ pos (guide p x y) -ℤ pos (guideSum p s t))))))
 
 -- V is above 0
 pub variance-pos : {p : Frame} {s t : ℕ} → Pixel p s t → 1 ≤ p .set .smoothing → pos 0 <ℤ variance p s t
@@ -106,11 +115,13 @@ unfolding variance scaledVariance
 variance-pos {p} {s} {t} k e =
     let low = variance-low k in
     let n = pixelCount p s t in
-    let h : pos 0 <ℤ (pos n *ℤ pos n *ℤ pos (p .set .smoothing)) = mul-pos (mul-pos (pos-< (pixelCount-low k)) (pos-< (pixelCount-low k))) (pos-< e) in
+    let h : pos 0 <ℤ (pos n *ℤ pos n *ℤ pos (p .set .smoothing)) =
+    mul-pos (mul-pos (pos-< (pixelCount-low k)) (pos-< (pixelCount-low k))) (pos-< e) in
     omega (arith, ints, add-parts (pos (n * squareSum p s t) -ℤ pos (guideSum p s t * guideSum p s t)) (pos (n * n * p .set .smoothing)))
 
 pub total-guided-pos : {p : Frame} {s t : ℕ} → Pixel p s t → p .set .kind ≡ 2 → 1 ≤ p .set .smoothing → pos 0 <ℤ totalWeight p s t
-total-guided-pos {p} {s} {t} k e h = subst (λ (x : ℤ). pos 0 <ℤ x) (sym (total-guided p s t e)) (mul-pos (pos-< (pixelCount-low k)) (variance-pos k h))
+total-guided-pos {p} {s} {t} k e h =
+    subst (λ (x : ℤ). pos 0 <ℤ x) (sym (total-guided p s t e)) (mul-pos (pos-< (pixelCount-low k)) (variance-pos k h))
 
 pub total-table : (p : Frame) (s t : ℕ) → p .set .kind ≡ 1 → pos 0 ≤ℤ totalWeight p s t
 unfolding totalWeight
@@ -120,7 +131,8 @@ total-table p s t e = over-nonneg p s t _ (λ x y h. subst (λ (z : ℤ). pos 0 
 pub total-low : {p : Frame} {s t : ℕ} → Pixel p s t → pos 0 ≤ℤ totalWeight p s t
 total-low {p} {s} {t} k = go (k .good .sound .kinds)
   where
-    go : ((p .set .kind ≡ 1) × (p .set .smoothing ≡ 0)) ⊎ ((p .set .kind ≡ 2) × (1 ≤ p .set .smoothing) × (p .set .smoothing ≤ 65025)) → pos 0 ≤ℤ totalWeight p s t
+    go : ((p .set .kind ≡ 1) × (p .set .smoothing ≡ 0)) ⊎ ((p .set .kind ≡ 2) × (1 ≤ p .set .smoothing) × (p .set .smoothing ≤ 65025)) →
+        pos 0 ≤ℤ totalWeight p s t
     go (inl h) = total-table p s t (h .0)
     go (inr h) = <-to-≤ (total-guided-pos k (h .0) (h .1))
 
@@ -197,10 +209,13 @@ median-low {p} {s} {t} k = go (decLt (median p s t) (p .set .levels))
         (subst (λ (z : ℤ). pos 0 ≤ℤ z) (sym (balance-last k)) (total-low k))
 
 pub median-at : {p : Frame} {s t : ℕ} → Pixel p s t → pos 0 ≤ℤ balance p s t (median p s t)
-median-at {p} {s} {t} k = le-balance p s t (median p s t) (leZ-le (totalWeight p s t) (pos 2 *ℤ cumulative p s t (median p s t)) (median-first p s t .passes (median-low k)))
+median-at {p} {s} {t} k =
+    le-balance p s t (median p s t)
+    (leZ-le (totalWeight p s t) (pos 2 *ℤ cumulative p s t (median p s t)) (median-first p s t .passes (median-low k)))
 
 -- a level that passes, with none before it that does, is the answer
-pub median-is : (p : Frame) (s t m : ℕ) → m < p .set .levels → pos 0 ≤ℤ balance p s t m → ((i : ℕ) → i < m → balance p s t i <ℤ pos 0) → median p s t ≡ m
+pub median-is : (p : Frame) (s t m : ℕ) → m < p .set .levels → pos 0 ≤ℤ balance p s t m → ((i : ℕ) → i < m → balance p s t i <ℤ pos 0) →
+    median p s t ≡ m
 unfolding median
 median-is p s t m h b before =
     first-unique (λ i. leZ (totalWeight p s t) (pos 2 *ℤ cumulative p s t i)) (p .set .levels) m

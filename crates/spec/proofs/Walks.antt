@@ -43,7 +43,8 @@ move-fine k s t b hs ht = go (eqb b 0) refl (eqb b 1) refl (eqb b 2) refl (eqb b
         else if c₂ then toIf (ltb (t + 1) (k .height)) s (t + 1) else if c₃ then toIf (ltb 0 t) s (t - 1) else Nowhere 65533)
     go true e c₁ e₁ c₂ e₂ c₃ e₃ = within-fine k b (ltb (s + 1) (k .width)) (s + 1) t (λ d. (ltb-true _ _ d, ht)) (omega (arith, eqb-true b 0 e))
     go false e true e₁ c₂ e₂ c₃ e₃ = within-fine k b (ltb 0 s) (s - 1) t (λ d. (omega arith, ht)) (omega (arith, eqb-true b 1 e₁))
-    go false e false e₁ true e₂ c₃ e₃ = within-fine k b (ltb (t + 1) (k .height)) s (t + 1) (λ d. (hs, ltb-true _ _ d)) (omega (arith, eqb-true b 2 e₂))
+    go false e false e₁ true e₂ c₃ e₃ =
+        within-fine k b (ltb (t + 1) (k .height)) s (t + 1) (λ d. (hs, ltb-true _ _ d)) (omega (arith, eqb-true b 2 e₂))
     go false e false e₁ false e₂ true e₃ = within-fine k b (ltb 0 t) s (t - 1) (λ d. (hs, omega arith)) (omega (arith, eqb-true b 3 e₃))
     go false e false e₁ false e₂ false e₃ =
         let n0 : b ≡ 0 → ⊥ = eqb-false b 0 e in
@@ -59,7 +60,15 @@ unfolding arrive
 arrive-weightless p s t c n e = rw e refl
 
 pub arrive-full : (p : Frame) (s t c n : ℕ) → weightless p s t ≡ false
-    → arrive p s t c n ≡ record { column = s; row = t; cut = median p s t; shifts = n + (if monotone p s t then distance (median p s t) c else median p s t); answer = median p s t }
+    →
+    arrive p s t c n ≡ record {
+      column = s;
+      row = t;
+      cut = median p s t;
+      shifts =
+          n + (if monotone p s t then distance (median p s t) c else median p s t);
+      answer = median p s t;
+    }
 unfolding arrive
 arrive-full p s t c n e = rw e refl
 
@@ -161,8 +170,13 @@ pub told : {p : Frame} {x : State} {n : ℕ} → Held p x n → (b : ℕ) → To
 told {p} {x} {n} h b = go (move (p .set) (x .column) (x .row) b) refl (move-fine (p .set) (x .column) (x .row) b (h .in-column) (h .in-row))
   where
     go : (m : Move) → move (p .set) (x .column) (x .row) b ≡ m → Fine (p .set) b m → Told p x b m
-    go (To s t) e f =
-        (step-level p x b s t e, omega (arith, answer-low (record { good = h .good; in-column = f .0; in-row = f .1 }), h .good .sound .levels-high), f .0, f .1, f .2)
+    go (To s t) e f = (
+      step-level p x b s t e,
+      omega (arith, answer-low (record { good = h .good; in-column = f .0; in-row = f .1 }), h .good .sound .levels-high),
+      f .0,
+      f .1,
+      f .2,
+    )
     go (Nowhere m) e (inl f) = inl (step-mark p x b m e ∙ f .0, f .1)
     go (Nowhere m) e (inr f) = inr (step-mark p x b m e ∙ f .0, f .1)
 
@@ -180,7 +194,8 @@ apart-moves {A} {s} {t} {m} e = absurd (subst (λ (q : Move). Is q) e tt)
     Is (Nowhere m) = ⊥
 
 pub marks : {p : Frame} {x : State} {n : ℕ} → Held p x n → (b : ℕ) → Marks p x b
-marks {p} {x} {n} h b = go (move (p .set) (x .column) (x .row) b) refl (told h b) (move-fine (p .set) (x .column) (x .row) b (h .in-column) (h .in-row))
+marks {p} {x} {n} h b =
+    go (move (p .set) (x .column) (x .row) b) refl (told h b) (move-fine (p .set) (x .column) (x .row) b (h .in-column) (h .in-row))
   where
     go : (m : Move) → move (p .set) (x .column) (x .row) b ≡ m → Told p x b m → Fine (p .set) b m → Marks p x b
     go (To s t) e f g =
@@ -208,7 +223,8 @@ unfolding answers
 answers-first p x [] = refl
 answers-first p x (b ∷ bs) = refl
 
-pub after-next : (p : Frame) (x : State) (bs : List ℕ) (j : ℕ) → j < length bs → after p x (take (suc j) bs) ≡ step p (after p x (take j bs)) (getD bs j 0)
+pub after-next : (p : Frame) (x : State) (bs : List ℕ) (j : ℕ) → j < length bs →
+    after p x (take (suc j) bs) ≡ step p (after p x (take j bs)) (getD bs j 0)
 after-next p x bs j h = ap (after p x) (take-suc bs j 0 h) ∙ after-one p x (take j bs) (getD bs j 0)
 
 pub answers-next : (p : Frame) (x : State) (bs : List ℕ) (j : ℕ) → j < length bs
@@ -237,7 +253,8 @@ pub arrive-shifts : (p : Frame) (s t c n : ℕ) → arrive p s t c n .shifts ≡
 unfolding adds
 arrive-shifts p s t c n = go (weightless p s t) refl
   where
-    go : (b : Bool) → weightless p s t ≡ b → arrive p s t c n .shifts ≡ n + (if weightless p s t then 0 else (if monotone p s t then distance (median p s t) c else median p s t))
+    go : (b : Bool) → weightless p s t ≡ b →
+        arrive p s t c n .shifts ≡ n + (if weightless p s t then 0 else (if monotone p s t then distance (median p s t) c else median p s t))
     go true e = let z : n ≡ n + 0 = omega arith in ap (λ (x : State). x .shifts) (arrive-weightless p s t c n e) ∙ rw e z
     go false e = ap (λ (x : State). x .shifts) (arrive-full p s t c n e) ∙ rw e refl
 
@@ -256,11 +273,13 @@ step-shifts p x b = go (move (p .set) (x .column) (x .row) b) refl
     go (To s t) e = ap (λ (y : State). y .shifts) (step-to p x b s t e) ∙ arrive-shifts p s t (x .cut) (x .shifts)
     go (Nowhere m) e = ap (λ (y : State). y .shifts) (step-nowhere p x b m e) ∙ sym (add-zero (x .shifts))
 
-next : (p : Frame) (x : State) (bs : List ℕ) (n : ℕ) → suc n ≤ length bs → after p x (take (suc n) bs) .shifts ≡ after p x (take n bs) .shifts + addedAt p x bs n
+next : (p : Frame) (x : State) (bs : List ℕ) (n : ℕ) → suc n ≤ length bs →
+    after p x (take (suc n) bs) .shifts ≡ after p x (take n bs) .shifts + addedAt p x bs n
 unfolding addedAt
 next p x bs n h = ap (λ (y : State). y .shifts) (after-next p x bs n h) ∙ step-shifts p (after p x (take n bs)) (getD bs n 0)
 
-pub after-shifts : (p : Frame) (x : State) (bs : List ℕ) (n : ℕ) → n ≤ length bs → after p x (take n bs) .shifts ≡ x .shifts + sum (addedAt p x bs) 0 n
+pub after-shifts : (p : Frame) (x : State) (bs : List ℕ) (n : ℕ) → n ≤ length bs →
+    after p x (take n bs) .shifts ≡ x .shifts + sum (addedAt p x bs) 0 n
 unfolding after fold
 after-shifts p x bs zero h = sym (add-zero (x .shifts))
 after-shifts p x bs (suc n) h =

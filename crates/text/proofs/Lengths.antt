@@ -55,7 +55,8 @@ spaced-short (suc k) f low =
     omega (arith, h, d, e)
 
 -- the rows of a frame
-pub rows-short : (p : Frame) (n : ℕ) → 1 ≤ p .set .width → ((s t : ℕ) → s < p .set .width → t < n → answer p s t < 100) → length (rows p n) ≤ 3 * (n * p .set .width)
+pub rows-short : (p : Frame) (n : ℕ) → 1 ≤ p .set .width → ((s t : ℕ) → s < p .set .width → t < n → answer p s t < 100) →
+    length (rows p n) ≤ 3 * (n * p .set .width)
 unfolding rows
 rows-short p zero w low = omega arith
 rows-short p (suc n) w low =

@@ -61,14 +61,16 @@ room-piece {l} {m} {at} {q} f k n h room a =
     let i : length m ≡ length l = as-long a in
     omega arith
 
-pub joined-piece : {l m o : List ℕ} {at q r : ℕ} (f : ℕ → List ℕ) (k : ℕ) → Puts l m at q (pieces f k) → Puts m o q r (f k) → Puts l o at r (pieces f (k + 1))
+pub joined-piece : {l m o : List ℕ} {at q r : ℕ} (f : ℕ → List ℕ) (k : ℕ) → Puts l m at q (pieces f k) → Puts m o q r (f k) →
+    Puts l o at r (pieces f (k + 1))
 joined-piece f k a b = called (sym (ap (pieces f) (add-one k) ∙ pieces-next f k)) (joined a b)
 
 -- ---- a byte, and one more byte of a word
 pub byte : (l : List ℕ) (at b : ℕ) → Puts l (set l at b) at (at + 1) (b ∷ [])
 byte l at b = record { stored = refl; behind = refl }
 
-pub joined-byte : {l m : List ℕ} {at k : ℕ} (w : List ℕ) → k < length w → Puts l m at (at + k) (take k w) → Puts l (set m (at + k) (getD w k 0)) at (at + (k + 1)) (take (k + 1) w)
+pub joined-byte : {l m : List ℕ} {at k : ℕ} (w : List ℕ) → k < length w → Puts l m at (at + k) (take k w) →
+    Puts l (set m (at + k) (getD w k 0)) at (at + (k + 1)) (take (k + 1) w)
 joined-byte {l} {m} {at} {k} w h a =
     let e : take k w ++ (getD w k 0 ∷ []) ≡ take (k + 1) w = sym (ap (λ (j : ℕ). take j w) (add-one k) ∙ take-suc w k 0 h) in
     let p = called e (joined a (byte m (at + k) (getD w k 0))) in

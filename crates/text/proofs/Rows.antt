@@ -48,7 +48,8 @@ pub filtered-long : (p : Frame) → length (filtered p) ≡ pixels (p .set)
 unfolding filtered
 filtered-long p = length-tabulate (pixels (p .set)) (λ q. answer p (q % p .set .width) (q / p .set .width))
 
-answer-at : (p : Frame) (rest : List ℕ) (s t : ℕ) → s < p .set .width → t < p .set .height → getD (filtered p ++ rest) (t * p .set .width + s) 0 ≡ answer p s t
+answer-at : (p : Frame) (rest : List ℕ) (s t : ℕ) → s < p .set .width → t < p .set .height →
+    getD (filtered p ++ rest) (t * p .set .width + s) 0 ≡ answer p s t
 answer-at p rest s t hs ht =
     let q = t * p .set .width + s in
     let low : q < pixels (p .set) = in-plane (p .set) s t hs ht in
@@ -56,7 +57,8 @@ answer-at p rest s t hs ht =
     ∙ filtered-at p q low ∙ ap₂ (answer p) (digits-mod t hs) (digits-div t hs)
 
 -- a plane that begins with the filtered one has the rows of the frame's answers
-pub plane-rows : (p : Frame) (rest : List ℕ) (n : ℕ) → 1 ≤ p .set .width → n ≤ p .set .height → planeText (filtered p ++ rest) (p .set .width) n ≡ rows p n
+pub plane-rows : (p : Frame) (rest : List ℕ) (n : ℕ) → 1 ≤ p .set .width → n ≤ p .set .height →
+    planeText (filtered p ++ rest) (p .set .width) n ≡ rows p n
 unfolding planeText pieces rows rowText
 plane-rows p rest zero w h = refl
 plane-rows p rest (suc n) w h =

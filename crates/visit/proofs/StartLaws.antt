@@ -32,7 +32,9 @@ module _ {b : List ℕ} {z : Plan} (pl : Planned b z) (two : z .kind ≡ 2) {s t
   pub start-answerable : (a : Tally) → Answerable k (z .guides) false 0 0 a counts sums
   start-answerable a =
       let below : Tally = record { count = belowSum (frameOf b) s t (λ x y. 1) 1; sum = belowSum (frameOf b) s t (guide (frameOf b)) 1 } in
-      let h = answerable pl two hs ht w v {m = endsNotNegative k (z .guides)} refl {c = 0} {n = 0} {a = below} (levels-some pl) (omega arith) (λ _. record { count = refl; sum = refl }) in
+      let h =
+      answerable pl two hs ht w v {m = endsNotNegative k (z .guides)} refl {c = 0} {n = 0} {a = below} (levels-some pl) (omega arith)
+      (λ _. record { count = refl; sum = refl }) in
       record {
         search = h .search;
         heaviest = h .heaviest;
@@ -46,4 +48,5 @@ module _ {b : List ℕ} {z : Plan} (pl : Planned b z) (two : z .kind ≡ 2) {s t
 
   pub start-answered : {f : Found} → FoundAt k counts sums f → f .shifts ≡ 0 + f .level .0 → Answered (frameOf b) s t 0 0 f
   start-answered {f} e sh =
-      answered-at pl two hs ht w v {m = endsNotNegative k (z .guides)} refl e (sh ∙ ap (λ (n : ℕ). 0 + n) (from-zero (endsNotNegative k (z .guides)) (f .level .0)))
+      answered-at pl two hs ht w v {m = endsNotNegative k (z .guides)} refl e
+      (sh ∙ ap (λ (n : ℕ). 0 + n) (from-zero (endsNotNegative k (z .guides)) (f .level .0)))

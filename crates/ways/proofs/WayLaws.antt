@@ -48,7 +48,8 @@ settings-same {b} {z} k =
     }
 
 -- room for the plan's settings is room for the file's
-pub room-of : {b : List ℕ} {z : Plan} → Planned b z → (way : Way) (f : Room → ℕ) (n : ℕ) → f (roomOf way (settingsIn z)) ≤ n → f (roomOf way (frameOf b .set)) ≤ n
+pub room-of : {b : List ℕ} {z : Plan} → Planned b z → (way : Way) (f : Room → ℕ) (n : ℕ) → f (roomOf way (settingsIn z)) ≤ n →
+    f (roomOf way (frameOf b .set)) ≤ n
 room-of k way f n h = subst (λ (q : Settings). f (roomOf way q) ≤ n) (settings-same k) h
 
 pub beyond-same : (n : ℕ) (a : List ℕ) → KeptBeyond n a a
@@ -103,7 +104,9 @@ module _ (way : Way) {b : List ℕ} {z : Plan} (k : Planned b z) (cs ws ns : Lis
 
   module _ (hs : List ℕ) (d : List ℤ) (v : Visit) where
     pub joint-at : way ≡ Joint → AtWindow way b (stores cs ws ns) hs d v → Within z v
-        → Held b z (v .column) (v .row) (v .cut .0) cs ws d × joint.Carried (frameOf b) (v .column) (v .row) (v .cut .0) (v .running .sums) (v .running .below) hs
+        →
+        Held b z (v .column) (v .row) (v .cut .0) cs ws d × joint.Carried (frameOf b) (v .column) (v .row) (v .cut .0) (v .running .sums)
+        (v .running .below) hs
     unfolding roomOf countsOf wordsOf boxOf Carried
     joint-at e h w =
         let g : AtWindow Joint b (stores cs ws ns) hs d v = rw e at h in (
@@ -128,7 +131,9 @@ module _ (way : Way) {b : List ℕ} {z : Plan} (k : Planned b z) (cs ws ns : Lis
         let s = v .column in
         let t = v .row in
         let cells = length-tabulate (p .set .levels * p .set .guides) (λ q. count p s t (q / p .set .guides) (q % p .set .guides)) in
-        let words = length-tabulate (p .set .levels * wordsPerLevel (p .set)) (λ q. occupancyWord p s t (q / wordsPerLevel (p .set)) (q % wordsPerLevel (p .set))) in
+        let words =
+        length-tabulate (p .set .levels * wordsPerLevel (p .set))
+        (λ q. occupancyWord p s t (q / wordsPerLevel (p .set)) (q % wordsPerLevel (p .set))) in
         rw e
         (record {
           state = h .state;
@@ -189,11 +194,16 @@ module _ (way : Way) {b : List ℕ} {z : Plan} (k : Planned b z) (cs ws ns : Lis
     unfolding boxOf Carried
     chain-at e h =
         let g : AtWindow Chain b (stores cs ws ns) hs d v = rw e at h in (
-          record { sums = g .carried .0; listed = subst (λ (q : Plan). Listed b q (v .column) (v .row) (v .running .free) ns) (sym (k .plan)) (g .carried .1) },
+          record {
+            sums = g .carried .0;
+            listed =
+                subst (λ (q : Plan). Listed b q (v .column) (v .row) (v .running .free) ns) (sym (k .plan)) (g .carried .1);
+          },
           g .holds .cells,
         )
 
-    pub chain-visited : (x : State) (ns′ : List ℕ) → way ≡ Chain → ChainVisited b z x ns v ns′ → d ≡ zeros → Visited way b x (stores cs ws ns) (stores cs ws ns′) hs d v
+    pub chain-visited : (x : State) (ns′ : List ℕ) → way ≡ Chain → ChainVisited b z x ns v ns′ → d ≡ zeros →
+        Visited way b x (stores cs ws ns) (stores cs ws ns′) hs d v
     unfolding roomOf countsOf wordsOf NumbersOf boxOf Carried
     chain-visited x ns′ e h q =
         rw e
@@ -203,5 +213,6 @@ module _ (way : Way) {b : List ℕ} {z : Plan} (k : Planned b z) (cs ws ns : Lis
             holds = record { counts = refl; words = refl; numbers = h .stored .store; cells = q };
             carried = (h .sums, subst (λ (q : Plan). Listed b q (v .column) (v .row) (v .running .free) ns′) (k .plan) (h .stored .listed));
           };
-          kept = record { counts = beyond-same 0 cs; words = beyond-same 0 ws; numbers = record { long = h .stored .long; beyond = h .stored .rest } };
+          kept =
+              record { counts = beyond-same 0 cs; words = beyond-same 0 ws; numbers = record { long = h .stored .long; beyond = h .stored .rest } };
         })

@@ -44,7 +44,8 @@ module _ {b : List ℕ} {z : Plan} (pl : Planned b z) (two : z .kind ≡ 2) wher
   pub smoothing-high : z .smoothing ≤ 65025
   smoothing-high = let f = facts pl in le-trans (le-of-eq (f .smoothing)) (smoothing-of (f .limits) guided .1)
 
-  pub weighs : {s t g : ℕ} {a : Sums} {k : Coefficients} → SumsAt (frameOf b) s t a → g ≡ guide (frameOf b) s t → CoefficientsOf a (z .smoothing) g k → WeighsAt (frameOf b) s t k
+  pub weighs : {s t g : ℕ} {a : Sums} {k : Coefficients} → SumsAt (frameOf b) s t a → g ≡ guide (frameOf b) s t →
+      CoefficientsOf a (z .smoothing) g k → WeighsAt (frameOf b) s t k
   unfolding slope offset deviation variance scaledVariance
   weighs {s} {t} {g} {a} {k} v eg c =
       let f = facts pl in
@@ -70,6 +71,14 @@ module _ {b : List ℕ} {z : Plan} (pl : Planned b z) (two : z .kind ≡ 2) wher
     ends-monotone =
         let p : Frame = frameOf b in
         let f = facts pl in
-        rw (ne-eqb (frameOf b .set .kind) 1 (λ d. omega (arith, guided)), weight-linear (frameOf b) s t 0 guided, weight-linear (frameOf b) s t (frameOf b .set .guides - 1) guided, w .slope, w .offset, f .guides)
+        rw (
+          ne-eqb (frameOf b .set .kind) 1 (λ d. omega (arith, guided)),
+          weight-linear (frameOf b) s t 0 guided,
+          weight-linear (frameOf b) s t
+              (frameOf b .set .guides - 1) guided,
+          w .slope,
+          w .offset,
+          f .guides,
+        )
         (ap (λ (n : ℤ). nonNeg n && nonNeg (slope (frameOf b) s t *ℤ pos (frameOf b .set .guides - 1) +ℤ offset (frameOf b) s t))
         (solve2 (λ c d. d ≐ c ⊗ # 0 ⊕ d) refl (slope (frameOf b) s t) (offset (frameOf b) s t)))

@@ -10,7 +10,22 @@ use Rattle.spec.specs.declared.Plan.{Plan}
 use Rattle.spec.specs.Window.{span}
 use Rattle.window.specs.declared.line.Line.{Line}
 use Rattle.window.specs.declared.line.Step.{Step}
-use Rattle.window.specs.Line.{PlanLimits, columnLine, rowLine, shift, advance, columnStep, rowStep, reverse, stepOf, Adjacent, right, left, down, up}
+use Rattle.window.specs.Line.{
+  PlanLimits,
+  columnLine,
+  rowLine,
+  shift,
+  advance,
+  columnStep,
+  rowStep,
+  reverse,
+  stepOf,
+  Adjacent,
+  right,
+  left,
+  down,
+  up,
+}
 
 pub product : (a w : ℕ) → a ≤ 1040 → w ≤ 1024 → a * w ≤ 1064960
 product a w h k = mul-le-mul {n₂ = 1040} h k

@@ -19,7 +19,27 @@ use Rattle.spec.proofs.Ranges.{Sums, natSums, lost, gained, over-right, over-do
 use Rattle.spec.proofs.Plans.{facts, place-low}
 use Rattle.window.specs.declared.line.Line.{Line}
 use Rattle.window.specs.declared.line.Step.{Step}
-use Rattle.window.specs.Line.{PlanLimits, columnLine, rowLine, shift, advance, columnStep, rowStep, reverse, stepOf, Adjacent, right, left, down, up, pixelOf, InPlanes, StepInPlanes, lineFoldTo, lineFold}
+use Rattle.window.specs.Line.{
+  PlanLimits,
+  columnLine,
+  rowLine,
+  shift,
+  advance,
+  columnStep,
+  rowStep,
+  reverse,
+  stepOf,
+  Adjacent,
+  right,
+  left,
+  down,
+  up,
+  pixelOf,
+  InPlanes,
+  StepInPlanes,
+  lineFoldTo,
+  lineFold,
+}
 use Rattle.window.proofs.FormLaws.{is-right, is-left, is-down, is-up}
 
 column-place : (w a x k f : ℕ) → f ≡ a * w + x → f + k * w ≡ (a + k) * w + x
@@ -70,14 +90,16 @@ module _ {A : Type 0} (_⊕_ : A → A → A) (e : A) where
   shift-fold b h d by false = refl
 
   -- what is lost and gained, line by line
-  module _ (b : List ℕ) (h : ℕ → ℕ → A) (d : Line) (apart r size : ℕ) (G : ℕ → A) (same : (x : ℕ) → lineFold _⊕_ e b (shift d (x * apart) true) h ≡ G x) where
+  module _ (b : List ℕ) (h : ℕ → ℕ → A) (d : Line) (apart r size : ℕ) (G : ℕ → A) (same : (x : ℕ) →
+      lineFold _⊕_ e b (shift d (x * apart) true) h ≡ G x) where
     lost-line : (c : ℕ) → lineFold _⊕_ e b (advance d apart c r size .leaving) h ≡ lost _⊕_ e G r c
     unfolding advance lost
     lost-line c = shift-fold b h d ((c - r) * apart) (leb r c) ∙ ap (λ (q : A). if leb r c then q else e) (same (c - r))
 
     gained-line : (c : ℕ) → lineFold _⊕_ e b (advance d apart c r size .entering) h ≡ gained _⊕_ e G r c size
     unfolding advance gained
-    gained-line c = shift-fold b h d ((c + r + 1) * apart) (ltb (c + r + 1) size) ∙ ap (λ (q : A). if ltb (c + r + 1) size then q else e) (same (c + r + 1))
+    gained-line c =
+        shift-fold b h d ((c + r + 1) * apart) (ltb (c + r + 1) size) ∙ ap (λ (q : A). if ltb (c + r + 1) size then q else e) (same (c + r + 1))
 
   module _ {b : List ℕ} {z : Plan} (pl : Planned b z) (h : ℕ → ℕ → A) where
     -- h at a pixel of the picture
@@ -93,7 +115,8 @@ module _ {A : Type 0} (_⊕_ : A → A → A) (e : A) where
     unfolding inColumn
     along-column first x t k =
         let f = facts pl in
-        fold-moved _ (at x) (t - z .radius) (span (z .radius) t (z .height)) (λ j. place-at _ x (t - z .radius + j) (column-place (z .width) (t - z .radius) x j first k))
+        fold-moved _ (at x) (t - z .radius) (span (z .radius) t (z .height))
+        (λ j. place-at _ x (t - z .radius + j) (column-place (z .width) (t - z .radius) x j first k))
         ∙ ap₂ (λ (r n : ℕ). fold _⊕_ e (at x) (t - r) (span r t n)) (f .radius) (f .height)
 
     along-row : (first s y : ℕ) → first ≡ y * z .width + (s - z .radius)
@@ -102,7 +125,8 @@ module _ {A : Type 0} (_⊕_ : A → A → A) (e : A) where
     unfolding inRow
     along-row first s y k =
         let f = facts pl in
-        fold-moved _ (λ x. at x y) (s - z .radius) (span (z .radius) s (z .width)) (λ j. place-at _ (s - z .radius + j) y (row-place (z .width) y (s - z .radius) j first k))
+        fold-moved _ (λ x. at x y) (s - z .radius) (span (z .radius) s (z .width))
+        (λ j. place-at _ (s - z .radius + j) y (row-place (z .width) y (s - z .radius) j first k))
         ∙ ap₂ (λ (r n : ℕ). fold _⊕_ e (λ x. at x y) (s - r) (span r s n)) (f .radius) (f .width)
 
     pub column-fold : (x t : ℕ) → lineFold _⊕_ e b (columnLine z x t) h ≡ inColumn _⊕_ e (frameOf b) t at x
@@ -122,11 +146,14 @@ module _ {A : Type 0} (_⊕_ : A → A → A) (e : A) where
     row-shift s y = along-row _ s y (row-first (z .width) (s - z .radius) y)
 
     -- the window by its columns
-    columns-over : (s t : ℕ) → fold _⊕_ e (inColumn _⊕_ e (frameOf b) t at) (s - frameOf b .set .radius) (span (frameOf b .set .radius) s (frameOf b .set .width)) ≡ over _⊕_ e (frameOf b) s t at
+    columns-over : (s t : ℕ) →
+        fold _⊕_ e (inColumn _⊕_ e (frameOf b) t at) (s - frameOf b .set .radius) (span (frameOf b .set .radius) s (frameOf b .set .width)) ≡ over
+        _⊕_ e (frameOf b) s t at
     unfolding over foldRect inColumn
     columns-over s t = refl
 
-    pub columns-law : (s t : ℕ) → over _⊕_ e (frameOf b) s t at ≡ fold _⊕_ e (λ x. lineFold _⊕_ e b (columnLine z x t) h) (s - z .radius) (span (z .radius) s (z .width))
+    pub columns-law : (s t : ℕ) →
+        over _⊕_ e (frameOf b) s t at ≡ fold _⊕_ e (λ x. lineFold _⊕_ e b (columnLine z x t) h) (s - z .radius) (span (z .radius) s (z .width))
     columns-law s t =
         let f = facts pl in
         sym (columns-over s t)
@@ -136,7 +163,9 @@ module _ {A : Type 0} (_⊕_ : A → A → A) (e : A) where
     -- ---- a step
     module _ (laws : Sums _⊕_ e) where
       column-law : (s t : ℕ) → s + 1 < z .width
-          → over _⊕_ e (frameOf b) (s + 1) t at ⊕ lineFold _⊕_ e b (columnStep z s t .leaving) h ≡ over _⊕_ e (frameOf b) s t at ⊕ lineFold _⊕_ e b (columnStep z s t .entering) h
+          →
+          over _⊕_ e (frameOf b) (s + 1) t at ⊕ lineFold _⊕_ e b (columnStep z s t .leaving) h ≡ over _⊕_ e (frameOf b) s t at ⊕ lineFold _⊕_ e b
+          (columnStep z s t .entering) h
       unfolding columnStep
       column-law s t k =
           let f = facts pl in
@@ -145,10 +174,14 @@ module _ {A : Type 0} (_⊕_ : A → A → A) (e : A) where
           (lost-line b h (columnLine z 0 t) 1 (z .radius) (z .width) G (column-shift t) s ∙ ap (λ (r : ℕ). lost _⊕_ e G r s) (f .radius))
           ∙ over-right _⊕_ e laws (frameOf b) s t at (rw (f .width) at k)
           ∙ ap (λ (q : A). over _⊕_ e (frameOf b) s t at ⊕ q)
-          (sym (gained-line b h (columnLine z 0 t) 1 (z .radius) (z .width) G (column-shift t) s ∙ ap₂ (λ (r n : ℕ). gained _⊕_ e G r s n) (f .radius) (f .width)))
+          (sym
+          (gained-line b h (columnLine z 0 t) 1 (z .radius) (z .width) G (column-shift t) s ∙ ap₂ (λ (r n : ℕ). gained _⊕_ e G r s n) (f .radius)
+          (f .width)))
 
       row-law : (s t : ℕ) → t + 1 < z .height
-          → over _⊕_ e (frameOf b) s (t + 1) at ⊕ lineFold _⊕_ e b (rowStep z s t .leaving) h ≡ over _⊕_ e (frameOf b) s t at ⊕ lineFold _⊕_ e b (rowStep z s t .entering) h
+          →
+          over _⊕_ e (frameOf b) s (t + 1) at ⊕ lineFold _⊕_ e b (rowStep z s t .leaving) h ≡ over _⊕_ e (frameOf b) s t at ⊕ lineFold _⊕_ e b
+          (rowStep z s t .entering) h
       unfolding rowStep
       row-law s t k =
           let f = facts pl in
@@ -157,7 +190,9 @@ module _ {A : Type 0} (_⊕_ : A → A → A) (e : A) where
           (lost-line b h (rowLine z s 0) (z .width) (z .radius) (z .height) G (row-shift s) t ∙ ap (λ (r : ℕ). lost _⊕_ e G r t) (f .radius))
           ∙ over-down _⊕_ e laws (frameOf b) s t at (rw (f .height) at k)
           ∙ ap (λ (q : A). over _⊕_ e (frameOf b) s t at ⊕ q)
-          (sym (gained-line b h (rowLine z s 0) (z .width) (z .radius) (z .height) G (row-shift s) t ∙ ap₂ (λ (r n : ℕ). gained _⊕_ e G r t n) (f .radius) (f .height)))
+          (sym
+          (gained-line b h (rowLine z s 0) (z .width) (z .radius) (z .height) G (row-shift s) t ∙ ap₂ (λ (r n : ℕ). gained _⊕_ e G r t n)
+          (f .radius) (f .height)))
 
       pub step-law : {s t s′ t′ : ℕ} → Adjacent z s t s′ t′
           → over _⊕_ e (frameOf b) s′ t′ at ⊕ lineFold _⊕_ e b (stepOf z s t s′ t′ .leaving) h
@@ -179,7 +214,9 @@ module _ {z : Plan} (lim : PlanLimits z) where
       → InPlanes z (record { first = first; stride = z .width; count = span (z .radius) t (z .height) })
   in-column first x t e h =
       record {
-        inside = λ k l. rw (column-place (z .width) (t - z .radius) x k first e) (place-low z x (t - z .radius + k) h (span-in (z .radius) t (z .height) k l));
+        inside =
+            λ k l. rw (column-place (z .width) (t - z .radius) x k first e)
+            (place-low z x (t - z .radius + k) h (span-in (z .radius) t (z .height) k l));
         near = lim .width;
         few = span-high (z .radius) t (z .height) (lim .radius);
       }
@@ -188,7 +225,8 @@ module _ {z : Plan} (lim : PlanLimits z) where
       → InPlanes z (record { first = first; stride = 1; count = span (z .radius) s (z .width) })
   in-row first s y e h =
       record {
-        inside = λ k l. rw (row-place (z .width) y (s - z .radius) k first e) (place-low z (s - z .radius + k) y (span-in (z .radius) s (z .width) k l) h);
+        inside =
+            λ k l. rw (row-place (z .width) y (s - z .radius) k first e) (place-low z (s - z .radius + k) y (span-in (z .radius) s (z .width) k l) h);
         near = omega arith;
         few = span-high (z .radius) s (z .width) (lim .radius);
       }
@@ -206,7 +244,8 @@ module _ {z : Plan} (lim : PlanLimits z) where
   shift-in d by true n h = h refl
   shift-in d by false n h = record { inside = λ k l. absurd (omega arith); near = n; few = omega arith }
 
-  advance-in : (d : Line) (apart c r size : ℕ) → d .stride ≤ 1024 → c < size → ((x : ℕ) → x < size → InPlanes z (shift d (x * apart) true)) → StepInPlanes z (advance d apart c r size)
+  advance-in : (d : Line) (apart c r size : ℕ) → d .stride ≤ 1024 → c < size → ((x : ℕ) → x < size → InPlanes z (shift d (x * apart) true)) →
+      StepInPlanes z (advance d apart c r size)
   unfolding advance
   advance-in d apart c r size n l h =
       record {
@@ -216,11 +255,13 @@ module _ {z : Plan} (lim : PlanLimits z) where
 
   column-step-in : (c t : ℕ) → c < z .width → StepInPlanes z (columnStep z c t)
   unfolding columnStep columnLine shift
-  column-step-in c t h = advance-in (columnLine z 0 t) 1 c (z .radius) (z .width) (lim .width) h (λ x l. in-column _ x t (column-first (z .width) (t - z .radius) x) l)
+  column-step-in c t h =
+      advance-in (columnLine z 0 t) 1 c (z .radius) (z .width) (lim .width) h (λ x l. in-column _ x t (column-first (z .width) (t - z .radius) x) l)
 
   row-step-in : (s c : ℕ) → c < z .height → StepInPlanes z (rowStep z s c)
   unfolding rowStep rowLine shift
-  row-step-in s c h = advance-in (rowLine z s 0) (z .width) c (z .radius) (z .height) (omega arith) h (λ y l. in-row _ s y (row-first (z .width) (s - z .radius) y) l)
+  row-step-in s c h =
+      advance-in (rowLine z s 0) (z .width) c (z .radius) (z .height) (omega arith) h (λ y l. in-row _ s y (row-first (z .width) (s - z .radius) y) l)
 
   reverse-in : (d : Step) → StepInPlanes z d → StepInPlanes z (reverse d)
   unfolding reverse
@@ -230,4 +271,5 @@ module _ {z : Plan} (lim : PlanLimits z) where
   lines-in {s} {t} {s′} {t′} (right es et hs ht) = rw (is-right z s t s′ t′ (omega arith)) (column-step-in s t (omega arith))
   lines-in {s} {t} {s′} {t′} (left es et hs ht) = rw (is-left z s t s′ t′ (omega arith)) (reverse-in _ (column-step-in s′ t (omega arith)))
   lines-in {s} {t} {s′} {t′} (down es et hs ht) = rw (is-down z s t s′ t′ (omega arith) (omega arith) (omega arith)) (row-step-in s t (omega arith))
-  lines-in {s} {t} {s′} {t′} (up es et hs ht) = rw (is-up z s t s′ t′ (omega arith) (omega arith) (omega arith)) (reverse-in _ (row-step-in s t′ (omega arith)))
+  lines-in {s} {t} {s′} {t′} (up es et hs ht) =
+      rw (is-up z s t s′ t′ (omega arith) (omega arith) (omega arith)) (reverse-in _ (row-step-in s t′ (omega arith)))

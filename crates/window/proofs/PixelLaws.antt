@@ -17,7 +17,12 @@ module _ {b : List ℕ} {z : Plan} (pl : Planned b z) where
   plan-limits =
       let f = facts pl in
       let k = f .limits .sound in
-      record { width = omega (arith, f .width, k .width-high); height = omega (arith, f .height, k .height-high); radius = omega (arith, f .radius, k .radius-high) }
+      record {
+        width = omega (arith, f .width, k .width-high);
+        height = omega (arith, f .height, k .height-high);
+        radius =
+            omega (arith, f .radius, k .radius-high);
+      }
 
   module _ {q : ℕ} (h : q < z .width * z .height) where
     pub place-small : q < 262144

@@ -18,7 +18,8 @@ add-result c = need! w64 (env (c .before .before .before)) (search signedCode de
 returns : tie.Need-returns
 returns c =
     let at = c .before .before .before in
-    computes! w64 (env at) (search signedCode depth 12) (search quote depth 12) tt refl ∙ signed-up (at .args .top .0) (at .args .level .0) (at .args .sum) (at .args .weight) (omega (arith, c .if1 .taken))
+    computes! w64 (env at) (search signedCode depth 12) (search quote depth 12) tt refl ∙ signed-up (at .args .top .0) (at .args .level .0)
+    (at .args .sum) (at .args .weight) (omega (arith, c .if1 .taken))
 
 sub-result : tie.Need-sub-result
 sub-result c = need! w64 (env (c .before .before .before)) (search signedCode depth 12) tt
@@ -26,7 +27,8 @@ sub-result c = need! w64 (env (c .before .before .before)) (search signedCode de
 returns-2 : tie.Need-returns-2
 returns-2 c =
     let at = c .before .before .before in
-    computes! w64 (env at) (search signedCode depth 12) (search quote depth 12) tt refl ∙ signed-down (at .args .top .0) (at .args .level .0) (at .args .sum) (at .args .weight) (omega (arith, c .if1 .left))
+    computes! w64 (env at) (search signedCode depth 12) (search quote depth 12) tt refl ∙ signed-down (at .args .top .0) (at .args .level .0)
+    (at .args .sum) (at .args .weight) (omega (arith, c .if1 .left))
 
 pub add-signed-spec : {M : Type 1} → statement M
 add-signed-spec = tie.close (tie.spec add-result returns sub-result returns-2)

@@ -36,17 +36,22 @@ turn-low : (c : tie.In-loop Inv-loop μ-loop) → c .before .loop .k < 31
 turn-low c = omega (arith, c .loop-test .taken, start (c .before) .pre .few)
 
 -- its guide's weight is in the row
-inside : (g : tie.After-struct-known Inv-loop μ-loop) → let at = start (turn g .before) in at .args .formula .row + guideIn (at .args .p .now) (turn g .before .loop .k) < length (at .args .weights .now)
+inside : (g : tie.After-struct-known Inv-loop μ-loop) → let at =
+    start (turn g .before) in at .args .formula .row + guideIn (at .args .p .now) (turn g .before .loop .k) < length (at .args .weights .now)
 inside g = start (turn g .before) .pre .inside (turn g .before .loop .k) (turn g .loop-test .taken)
 
 -- both of its numbers have 16 bits
-numbers : (g : tie.After-struct-known Inv-loop μ-loop) → let p = start (turn g .before) .args .p .now in (levelIn p (turn g .before .loop .k) < 65536) × (guideIn p (turn g .before .loop .k) < 65536)
-numbers g = let k = turn g .before .loop .k in (omega (arith, g .before .shared-slice-known4 .given (2 * k)), omega (arith, g .before .shared-slice-known4 .given (2 * k + 1)))
+numbers : (g : tie.After-struct-known Inv-loop μ-loop) → let p =
+    start (turn g .before) .args .p .now in (levelIn p (turn g .before .loop .k) < 65536) × (guideIn p (turn g .before .loop .k) < 65536)
+numbers g = let k =
+    turn g .before .loop .k in
+    (omega (arith, g .before .shared-slice-known4 .given (2 * k)), omega (arith, g .before .shared-slice-known4 .given (2 * k + 1)))
 
 -- the weight has 16 bits too
 number-low : (c : tie.After-shared-slice-known5 Inv-loop μ-loop) → let t = turn (c .before) in let at = start (t .before) in
     getD (at .args .weights .now) (at .args .formula .row + guideIn (at .args .p .now) (t .before .loop .k)) 0 ≤ 65535
-number-low c = let t = turn (c .before) in let at = start (t .before) in omega (arith, c .shared-slice-known5 .given (at .args .formula .row + guideIn (at .args .p .now) (t .before .loop .k)))
+number-low c = let t = turn (c .before) in let at =
+    start (t .before) in omega (arith, c .shared-slice-known5 .given (at .args .formula .row + guideIn (at .args .p .now) (t .before .loop .k)))
 
 loop-holds : tie.Need-loop-holds Inv-loop μ-loop
 loop-holds c = (omega arith, sym (pixels-none _+ℤ_ (pos 0) _ _))
@@ -67,7 +72,8 @@ mul-x-2 : tie.Need-mul-x-2 Inv-loop μ-loop
 mul-x-2 c = omega (arith, turn-low (c .before))
 
 shared-slice-read-x-2 : tie.Need-shared-slice-read-x-2 Inv-loop μ-loop
-shared-slice-read-x-2 c = let t = c .before .before in omega (arith, places-in (start (t .before) .args .p .now) (t .before .loop .k) (t .loop-test .taken) .1)
+shared-slice-read-x-2 c = let t =
+    c .before .before in omega (arith, places-in (start (t .before) .args .p .now) (t .before .loop .k) (t .loop-test .taken) .1)
 
 cast-x : tie.Need-cast-x Inv-loop μ-loop
 cast-x c = omega (arith, inside c, start (turn c .before) .good .1 .0, numbers c)
@@ -92,7 +98,8 @@ combine-requires c κs =
     weight-asks (at .pre) (at .args .top .0) (t .loop-test .taken) (number-low r)
 
 -- what the call gave is the guide's weight
-weighed : (e : tie.After-combine Inv-loop μ-loop) → let t = turn (read e .before) in let at = start (t .before) in e .combine .result ≡ weightBy (at .args .weights .now) (at .args .formula) (guideIn (at .args .p .now) (t .before .loop .k))
+weighed : (e : tie.After-combine Inv-loop μ-loop) → let t = turn (read e .before) in let at =
+    start (t .before) in e .combine .result ≡ weightBy (at .args .weights .now) (at .args .formula) (guideIn (at .args .p .now) (t .before .loop .k))
 weighed e =
     let t = turn (read e .before) in
     let at = start (t .before) in
@@ -118,7 +125,8 @@ loop-again c =
     let h = t .before in
     let at = start h in (
       omega (arith, t .loop-test .taken),
-      sum-again (at .pre) (at .args .top .0) (t .loop-test .taken) (toZ w64 (h .loop .sum)) (e .combine .result) (h .loop .inv .1) (weighed e) (c .add-signed .result) (c .add-signed .ok) (c .add-signed .ensures),
+      sum-again (at .pre) (at .args .top .0) (t .loop-test .taken) (toZ w64 (h .loop .sum)) (e .combine .result) (h .loop .inv .1) (weighed e)
+          (c .add-signed .result) (c .add-signed .ok) (c .add-signed .ensures),
     )
 
 returns : tie.Need-returns Inv-loop μ-loop

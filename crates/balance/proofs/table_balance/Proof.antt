@@ -26,7 +26,8 @@ window-balance-requires : tie.Need-window-balance-requires
 window-balance-requires c κs =
     let r = c .before in
     let at = r .before .before .before .before in
-    row-formula (at .pre .0) (at .pre .1) (at .pre .2) (at .pre .3) (centre-is (at .pre .0) (at .pre .2) (at .pre .3) (r .before .guide-at .ensures)) (r .table-row .ensures)
+    row-formula (at .pre .0) (at .pre .1) (at .pre .2) (at .pre .3) (centre-is (at .pre .0) (at .pre .2) (at .pre .3) (r .before .guide-at .ensures))
+    (r .table-row .ensures)
 
 returns : tie.Need-returns
 returns c = search needs

@@ -35,13 +35,16 @@ weight-at-requires c κs =
     (t .before .before .constants .ensures, h .0, h .1, t .loop-test .taken)
 
 mul-out : tie.Need-mul-out Inv-loop μ-loop
-mul-out c = let t = c .before .before in let at = start (t .before) in omega (arith, t .loop-test .taken, guides-high (at .pre .0), t .before .loop .inv .1 .long)
+mul-out c = let t = c .before .before in let at =
+    start (t .before) in omega (arith, t .loop-test .taken, guides-high (at .pre .0), t .before .loop .inv .1 .long)
 
 array-write-out : tie.Need-array-write-out Inv-loop μ-loop
-array-write-out c = let t = c .before .before in let at = start (t .before) in omega (arith, t .loop-test .taken, guides-high (at .pre .0), t .before .loop .inv .1 .long)
+array-write-out c = let t = c .before .before in let at =
+    start (t .before) in omega (arith, t .loop-test .taken, guides-high (at .pre .0), t .before .loop .inv .1 .long)
 
 add-k : tie.Need-add-k Inv-loop μ-loop
-add-k c = let t = c .before .before in let at = start (t .before) in omega (arith, t .loop-test .taken, guides-high (at .pre .0), t .before .loop .inv .1 .long)
+add-k c = let t = c .before .before in let at =
+    start (t .before) in omega (arith, t .loop-test .taken, guides-high (at .pre .0), t .before .loop .inv .1 .long)
 
 loop-less : tie.Need-loop-less Inv-loop μ-loop
 loop-less c = omega (arith, c .before .before .loop-test .taken)
@@ -49,8 +52,11 @@ loop-less c = omega (arith, c .before .before .loop-test .taken)
 loop-again : tie.Need-loop-again Inv-loop μ-loop
 loop-again c =
     let t = c .before .before in
-    let at = start (t .before) in
-    (omega (arith, t .loop-test .taken), row-next (omega (arith, t .loop-test .taken, guides-high (at .pre .0))) (t .before .loop .inv .1) (c .weight-at .ensures))
+    let at = start (t .before) in (
+      omega (arith, t .loop-test .taken),
+      row-next (omega (arith, t .loop-test .taken, guides-high (at .pre .0))) (t .before .loop .inv .1)
+          (c .weight-at .ensures),
+    )
 
 returns : tie.Need-returns Inv-loop μ-loop
 returns c =

@@ -20,7 +20,8 @@ use Rattle.balance.proofs.window_balance.Tie as tie
 
 abbrev Inv-loop : tie.InvT-loop
 Inv-loop file plan weights w s t top x n sum₀ k₀ sum k =
-    (k ≤ n) × (toZ w64 sum ≡ columnsFold _+ℤ_ (pos 0) file plan x t (signedWeight (frameOf file) s t (top .0)) k) × (natAbs (toZ w64 sum) ≤ k * 5584831631325)
+    (k ≤ n) × (toZ w64 sum ≡ columnsFold _+ℤ_ (pos 0) file plan x t (signedWeight (frameOf file) s t (top .0)) k) ×
+    (natAbs (toZ w64 sum) ≤ k * 5584831631325)
 
 abbrev μ-loop : tie.MeasureT-loop
 μ-loop file plan weights w s t top x n sum₀ k₀ sum k = n - k
@@ -33,13 +34,24 @@ wide : (c : tie.In-loop Inv-loop μ-loop) → c .before .before .before .low .re
 wide c =
     let h = c .before in
     let at = start h in
-    omega (arith, h .before .before .low .ensures, span-in (at .args .plan .radius) (at .args .s) (at .args .plan .width) (h .loop .k) (subst (λ (n : ℕ). h .loop .k < n) (h .before .span-of .ensures) (c .loop-test .taken)))
+    omega (
+      arith,
+      h .before .before .low .ensures,
+      span-in (at .args .plan .radius) (at .args .s) (at .args .plan .width) (h .loop .k)
+          (subst (λ (n : ℕ). h .loop .k < n) (h .before .span-of .ensures) (c .loop-test .taken)),
+    )
 
 few : (c : tie.In-loop Inv-loop μ-loop) → c .before .loop .k < 31
 few c =
     let h = c .before in
     let at = start h in
-    omega (arith, c .loop-test .taken, span-high (at .args .plan .radius) (at .args .s) (at .args .plan .width) (plan-limits (at .pre .planned) .radius), h .before .span-of .ensures)
+    omega (
+      arith,
+      c .loop-test .taken,
+      span-high (at .args .plan .radius) (at .args .s) (at .args .plan .width)
+          (plan-limits (at .pre .planned) .radius),
+      h .before .span-of .ensures,
+    )
 
 -- the places passed: the turn, its column, and the list that the column was read into
 abbrev line : tie.After-read Inv-loop μ-loop → tie.After-column-line Inv-loop μ-loop
@@ -51,7 +63,8 @@ turn r = r .before .before .before
 abbrev list : tie.After-line-balance Inv-loop μ-loop → tie.After-read Inv-loop μ-loop
 list e = e .before .before .before .before
 
-listed : (r : tie.After-read Inv-loop μ-loop) → let at = start (turn r .before) in LinePixels (at .args .file .now) (at .args .plan) (line r .column-line .result)
+listed : (r : tie.After-read Inv-loop μ-loop) → let at =
+    start (turn r .before) in LinePixels (at .args .file .now) (at .args .plan) (line r .column-line .result)
     (take (r .read .result - 0) (drop 0 (r .read .last .1 .1 .1 .0)))
 listed r = line-part (r .read .result) (r .read .last .1 .1 .1 .0) (r .read .ensures .1)
 
@@ -59,18 +72,25 @@ low-requires : tie.Need-low-requires Inv-loop μ-loop
 low-requires c κs = tt
 
 span-of-requires : tie.Need-span-of-requires Inv-loop μ-loop
-span-of-requires c κs = let at = c .before .before .before in (at .pre .column, plan-limits (at .pre .planned) .width, plan-limits (at .pre .planned) .radius)
+span-of-requires c κs = let at =
+    c .before .before .before in (at .pre .column, plan-limits (at .pre .planned) .width, plan-limits (at .pre .planned) .radius)
 
 loop-holds : tie.Need-loop-holds Inv-loop μ-loop
 loop-holds c =
-    let at = c .before .before .before .before in
-    (omega arith, sym (columns-none _+ℤ_ (pos 0) (at .args .file .now) (at .args .plan) (c .before .low .result) (at .args .t) (signedWeight (frameOf (at .args .file .now)) (at .args .s) (at .args .t) (at .args .top .0))), omega arith)
+    let at = c .before .before .before .before in (
+      omega arith,
+      sym
+          (columns-none _+ℤ_ (pos 0) (at .args .file .now) (at .args .plan) (c .before .low .result) (at .args .t)
+          (signedWeight (frameOf (at .args .file .now)) (at .args .s) (at .args .t) (at .args .top .0))),
+      omega arith,
+    )
 
 add-column-line : tie.Need-add-column-line Inv-loop μ-loop
 add-column-line c = let at = start (c .before) in omega (arith, wide c, plan-limits (at .pre .planned) .width)
 
 column-line-requires : tie.Need-column-line-requires Inv-loop μ-loop
-column-line-requires c κs = let at = start (c .before) in let l = plan-limits (at .pre .planned) in (l, (omega (arith, wide c, l .width), at .pre .row))
+column-line-requires c κs = let at = start (c .before) in let l =
+    plan-limits (at .pre .planned) in (l, (omega (arith, wide c, l .width), at .pre .row))
 
 slice-aggregate-read : tie.Need-slice-aggregate-read Inv-loop μ-loop
 slice-aggregate-read c = search needs
@@ -98,7 +118,8 @@ add-requires c κs =
     let r = list c in
     let h = turn r .before in
     let at = start h in
-    column-asks (at .pre) (listed r) (at .args .top .0) (c .line-balance .ensures) (h .loop .k) (toZ w64 (h .loop .sum)) (h .loop .inv .2) (few (turn r))
+    column-asks (at .pre) (listed r) (at .args .top .0) (c .line-balance .ensures) (h .loop .k) (toZ w64 (h .loop .sum)) (h .loop .inv .2)
+    (few (turn r))
 
 add-k : tie.Need-add-k Inv-loop μ-loop
 add-k c = omega (arith, few (turn (list (c .before))))
@@ -112,7 +133,9 @@ loop-again c =
     let r = list e in
     let h = turn r .before in
     let at = start h in
-    let q = column-again (at .pre) (listed r) (at .args .top .0) (e .line-balance .ensures) (h .loop .k) (toZ w64 (h .loop .sum)) (h .loop .inv .2) (h .before .before .low .result) (line r .column-line .ensures) (h .loop .inv .1)
+    let q =
+    column-again (at .pre) (listed r) (at .args .top .0) (e .line-balance .ensures) (h .loop .k) (toZ w64 (h .loop .sum)) (h .loop .inv .2)
+    (h .before .before .low .result) (line r .column-line .ensures) (h .loop .inv .1)
     (c .add .ok) (c .add .ensures) in
     (omega (arith, turn r .loop-test .taken), q .0, q .1)
 

@@ -24,7 +24,8 @@ returns c = search needs
 
 returns-2 : tie.Need-returns-2
 returns-2 c =
-    offset-written (c .before .before .before .before .verdict .given .1) (c .before .before .number-of .ensures) (omega arith) (c .offset-of .ensures) (omega arith) (omega arith)
+    offset-written (c .before .before .before .before .verdict .given .1) (c .before .before .number-of .ensures) (omega arith)
+    (c .offset-of .ensures) (omega arith) (omega arith)
 
 returns-3 : tie.Need-returns-3
 returns-3 c = offset-kept (c .before .before .before .verdict .given .1) (c .before .number-of .ensures) (omega arith) (λ e. omega arith)

@@ -55,7 +55,8 @@ returns c =
     let t = at .pre .1 .0 .1 in
     let two = at .pre .0 .1 in
     rw (c .answered .ensures) (
-      answers pl s t two _ _ _ _ (m .monotone .result) (at .args .running) (climbed pl s t two _ (k .of-window .ensures .0) _ _ (at .pre .1 .1 .1) _ (r .climb .ensures))
+      answers pl s t two _ _ _ _ (m .monotone .result) (at .args .running)
+          (climbed pl s t two _ (k .of-window .ensures .0) _ _ (at .pre .1 .1 .1) _ (r .climb .ensures))
           (m .monotone .ensures ∙ ends-monotone pl two (k .of-window .ensures .0)) (d .added .ensures .0),
       refl,
     )

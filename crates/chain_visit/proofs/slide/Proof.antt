@@ -43,7 +43,8 @@ leaves : (r : tie.After-read2) → let d = step (first r) in LinePixels (begin d
 leaves r = line-part (r .read2 .result) (r .read2 .last .1 .1 .1 .0) (r .read2 .ensures .1)
 
 -- the sums and the list are the neighbour's
-summed : (a : tie.After-moved) → let at = begin (step (first (both a))) in SumsAt (frameOf (at .args .file .now)) (at .args .column) (at .args .row) (a .moved .result)
+summed : (a : tie.After-moved) → let at =
+    begin (step (first (both a))) in SumsAt (frameOf (at .args .file .now)) (at .args .column) (at .args .row) (a .moved .result)
 summed a =
     let r = both a in
     let d = step (first r) in
@@ -51,12 +52,14 @@ summed a =
     sums-moved (at .pre .0 .0) (at .pre .1 .0 .1) (d .step-to .ensures) (enters r) (leaves r) (at .pre .1 .1 .sums) (a .moved .ensures)
 
 stored : (n : tie.After-slide) → let at = begin (step (first (both (carried n)))) in
-    Stored (at .args .file .now) (at .args .plan) (at .args .column) (at .args .row) (at .args .numbers .now) (n .slide .result) (n .slide .last .1 .1 .1 .0)
+    Stored (at .args .file .now) (at .args .plan) (at .args .column) (at .args .row) (at .args .numbers .now) (n .slide .result)
+    (n .slide .last .1 .1 .1 .0)
 stored n =
     let r = both (carried n) in
     let d = step (first r) in
     let at = begin d in
-    slid-stored (at .pre .0 .0) (at .pre .1 .0 .1) (d .step-to .ensures) (enters r) (leaves r) (at .pre .1 .1 .listed) (n .slide .kept .1 .1 .1 .0) (n .slide .ensures)
+    slid-stored (at .pre .0 .0) (at .pre .1 .0 .1) (d .step-to .ensures) (enters r) (leaves r) (at .pre .1 .1 .listed) (n .slide .kept .1 .1 .1 .0)
+    (n .slide .ensures)
 
 step-to-requires : tie.Need-step-to-requires
 step-to-requires c κs = let at = c .before .before in (plan-limits (at .pre .0 .0), at .pre .1 .0 .1)
@@ -65,7 +68,8 @@ slice-aggregate-read : tie.Need-slice-aggregate-read
 slice-aggregate-read c = search needs
 
 read-requires : tie.Need-read-requires
-read-requires c κs = let d = c .before in let at = begin d in (at .pre .0 .0, step-in (at .pre .0 .0) (at .pre .1 .0 .1) (d .step-to .ensures) .entering, omega arith)
+read-requires c κs = let d = c .before in let at =
+    begin d in (at .pre .0 .0, step-in (at .pre .0 .0) (at .pre .1 .0 .1) (d .step-to .ensures) .entering, omega arith)
 
 slice-aggregate-read-2 : tie.Need-slice-aggregate-read-2
 slice-aggregate-read-2 c = search needs
@@ -99,8 +103,11 @@ moved-requires c κs =
     let r = c .before .before .before .before .before .before .before .before .before in
     let d = step (first r) in
     let at = begin d in
-    let pl = at .pre .0 .0 in
-    ((below-most pl (enters r .below), below-most pl (leaves r .below)), movable pl (at .pre .1 .0 .1) (d .step-to .ensures) (enters r) (leaves r) (at .pre .1 .1 .sums))
+    let pl = at .pre .0 .0 in (
+      (below-most pl (enters r .below), below-most pl (leaves r .below)),
+      movable pl (at .pre .1 .0 .1) (d .step-to .ensures) (enters r) (leaves r)
+          (at .pre .1 .1 .sums),
+    )
 
 sub-slide : tie.Need-sub-slide
 sub-slide c = search needs

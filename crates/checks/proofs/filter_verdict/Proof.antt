@@ -24,11 +24,21 @@ short-requires c κs = search needs
 
 returns-2 : tie.Need-returns-2
 unfolding filterChecks
-returns-2 c = simp (known (c .before .before .before .before .bad-way .ensures) (c .before .before .before .if1 .left), known (c .before .short .ensures) (c .if2 .taken))
+returns-2 c =
+    simp (
+      known (c .before .before .before .before .bad-way .ensures) (c .before .before .before .if1 .left),
+      known (c .before .short .ensures)
+          (c .if2 .taken),
+    )
 
 returns-3 : tie.Need-returns-3
 unfolding filterChecks
-returns-3 c = simp (known (c .before .before .before .before .bad-way .ensures) (c .before .before .before .if1 .left), known (c .before .short .ensures) (c .if2 .left))
+returns-3 c =
+    simp (
+      known (c .before .before .before .before .bad-way .ensures) (c .before .before .before .if1 .left),
+      known (c .before .short .ensures)
+          (c .if2 .left),
+    )
 
 pub filter-verdict-spec : {M : Type 1} → statement M
 filter-verdict-spec =

@@ -20,11 +20,17 @@ lacking-requires c κs = search needs
 
 returns : tie.Need-returns
 unfolding short
-returns c = simp (short-is _ _ _ _ _ (c .before .before .before .way-of .ensures) (c .before .before .needed .ensures) (c .before .lacking .ensures) (c .if1 .taken))
+returns c =
+    simp
+    (short-is _ _ _ _ _ (c .before .before .before .way-of .ensures) (c .before .before .needed .ensures) (c .before .lacking .ensures)
+    (c .if1 .taken))
 
 returns-2 : tie.Need-returns-2
 unfolding short
-returns-2 c = simp (short-is _ _ _ _ _ (c .before .before .before .way-of .ensures) (c .before .before .needed .ensures) (c .before .lacking .ensures) (c .if1 .left))
+returns-2 c =
+    simp
+    (short-is _ _ _ _ _ (c .before .before .before .way-of .ensures) (c .before .before .needed .ensures) (c .before .lacking .ensures)
+    (c .if1 .left))
 
 pub short-spec : {M : Type 1} → statement M
 short-spec =

@@ -22,11 +22,18 @@ bad-pixel-requires c κs = search needs
 
 returns-2 : tie.Need-returns-2
 unfolding walkChecks
-returns-2 c = simp (known (c .before .before .before .bad-way .ensures) (c .before .before .if1 .left), known (c .before .bad-pixel .ensures) (c .if2 .taken))
+returns-2 c =
+    simp (known (c .before .before .before .bad-way .ensures) (c .before .before .if1 .left), known (c .before .bad-pixel .ensures) (c .if2 .taken))
 
 returns-3 : tie.Need-returns-3
 unfolding walkChecks
-returns-3 c = simp (known (c .before .before .before .before .bad-way .ensures) (c .before .before .before .if1 .left), known (c .before .before .bad-pixel .ensures) (c .before .if2 .left), lt-ltb _ _ (c .if3 .taken))
+returns-3 c =
+    simp (
+      known (c .before .before .before .before .bad-way .ensures) (c .before .before .before .if1 .left),
+      known
+          (c .before .before .bad-pixel .ensures) (c .before .if2 .left),
+      lt-ltb _ _ (c .if3 .taken),
+    )
 
 add-short : tie.Need-add-short
 add-short c = search needs
@@ -36,11 +43,27 @@ short-requires c κs = search needs
 
 returns-4 : tie.Need-returns-4
 unfolding walkChecks
-returns-4 c = simp (known (c .before .before .before .before .before .before .bad-way .ensures) (c .before .before .before .before .before .if1 .left), known (c .before .before .before .before .bad-pixel .ensures) (c .before .before .before .if2 .left), le-ltb _ _ (c .before .before .if3 .left), known (c .before .short .ensures) (c .if4 .taken))
+returns-4 c =
+    simp (
+      known (c .before .before .before .before .before .before .bad-way .ensures) (c .before .before .before .before .before .if1 .left),
+      known
+          (c .before .before .before .before .bad-pixel .ensures) (c .before .before .before .if2 .left),
+      le-ltb _ _ (c .before .before .if3 .left),
+      known
+          (c .before .short .ensures) (c .if4 .taken),
+    )
 
 returns-5 : tie.Need-returns-5
 unfolding walkChecks
-returns-5 c = simp (known (c .before .before .before .before .before .before .bad-way .ensures) (c .before .before .before .before .before .if1 .left), known (c .before .before .before .before .bad-pixel .ensures) (c .before .before .before .if2 .left), le-ltb _ _ (c .before .before .if3 .left), known (c .before .short .ensures) (c .if4 .left))
+returns-5 c =
+    simp (
+      known (c .before .before .before .before .before .before .bad-way .ensures) (c .before .before .before .before .before .if1 .left),
+      known
+          (c .before .before .before .before .bad-pixel .ensures) (c .before .before .before .if2 .left),
+      le-ltb _ _ (c .before .before .if3 .left),
+      known
+          (c .before .short .ensures) (c .if4 .left),
+    )
 
 pub walk-verdict-spec : {M : Type 1} → statement M
 walk-verdict-spec =

@@ -33,7 +33,8 @@ part-answer-start : tie.Need-part-answer-start
 part-answer-start c = search needs
 
 part-answer-end : tie.Need-part-answer-end
-part-answer-end c = let st = c .before .before in omega (arith, places-in (st .args .plan .width) (st .args .plan .levels) (st .pre .0 .0) (st .pre .0 .1) _ (st .pre .0 .2))
+part-answer-end c = let st =
+    c .before .before in omega (arith, places-in (st .args .plan .width) (st .args .plan .levels) (st .pre .0 .0) (st .pre .0 .1) _ (st .pre .0 .2))
 
 mul-answer-2 : tie.Need-mul-answer-2
 mul-answer-2 c = omega (arith, small (c .before .before .before), c .before .before .before .pre .0 .1)
@@ -52,14 +53,19 @@ part-answer-end-2 c =
 answer-requires : tie.Need-answer-requires
 answer-requires c κs =
     let x = c .before .before .before .before .args in
-    lent-blocks (x .plan) (x .numbers .now) (Answerable (x .k) (x .plan .guides) (x .monotone) (x .cut .0) (x .shifts) (x .below)) (c .before .before .before .before .pre .1)
+    lent-blocks (x .plan) (x .numbers .now) (Answerable (x .coefficients) (x .plan .guides) (x .monotone) (x .cut .0) (x .shifts) (x .below))
+    (c .before .before .before .before .pre .1)
 
 returns : tie.Need-returns
 returns c =
     let st = c .before .before .before .before .before in
     let z = st .args .plan in
     let h = c .answer .ensures in
-    rw (part-is (2 * z .width * z .levels) (z .levels) (st .args .numbers .now), part-is (2 * z .width * z .levels + z .levels) (z .levels) (st .args .numbers .now)) at h
+    rw (
+      part-is (2 * z .width * z .levels) (z .levels) (st .args .numbers .now),
+      part-is (2 * z .width * z .levels + z .levels) (z .levels)
+          (st .args .numbers .now),
+    ) at h
 
 pub answer-from-spec : {M : Type 1} → statement M
 answer-from-spec =

@@ -25,11 +25,13 @@ first r = r .before .before .before
 
 -- the lists are the step's lines
 enters : (r : tie.After-read2) → let d = step (first r) in
-    LinePixels (begin d .args .file .now) (begin d .args .plan) (d .step-to .result .entering) (take (first r .read .result - 0) (drop 0 (first r .read .last .1 .1 .1 .0)))
+    LinePixels (begin d .args .file .now) (begin d .args .plan) (d .step-to .result .entering)
+    (take (first r .read .result - 0) (drop 0 (first r .read .last .1 .1 .1 .0)))
 enters r = line-part (first r .read .result) (first r .read .last .1 .1 .1 .0) (first r .read .ensures .1)
 
 leaves : (r : tie.After-read2) → let d = step (first r) in
-    LinePixels (begin d .args .file .now) (begin d .args .plan) (d .step-to .result .leaving) (take (r .read2 .result - 0) (drop 0 (r .read2 .last .1 .1 .1 .0)))
+    LinePixels (begin d .args .file .now) (begin d .args .plan) (d .step-to .result .leaving)
+    (take (r .read2 .result - 0) (drop 0 (r .read2 .last .1 .1 .1 .0)))
 leaves r = line-part (r .read2 .result) (r .read2 .last .1 .1 .1 .0) (r .read2 .ensures .1)
 
 step-to-requires : tie.Need-step-to-requires
@@ -82,8 +84,11 @@ carried-requires c κs =
     let r = c .before .before .before .before .before .before in
     let d = step (first r) in
     let at = begin d in
-    let pl = at .pre .0 in
-    ((below-most pl (enters r .below), below-most pl (leaves r .below)), carriable pl (at .pre .1) (d .step-to .ensures) (enters r) (leaves r) (at .pre .2))
+    let pl = at .pre .0 in (
+      (below-most pl (enters r .below), below-most pl (leaves r .below)),
+      carriable pl (at .pre .1) (d .step-to .ensures) (enters r) (leaves r)
+          (at .pre .2),
+    )
 
 returns : tie.Need-returns
 returns c =

@@ -14,10 +14,12 @@ abbrev begin : tie.After-start → tie.Start
 begin m = m .before .before .before .before
 
 cells : (m : tie.After-start) → let st = begin m in
-    Profiled (frameOf (st .args .file .now)) (st .args .column) (st .args .row) (windowCounts (st .args .plan) (m .start .last .1 .1 .0)) (windowGuides (st .args .plan) (m .start .last .1 .1 .0))
+    Profiled (frameOf (st .args .file .now)) (st .args .column) (st .args .row) (windowCounts (st .args .plan) (m .start .last .1 .1 .0))
+    (windowGuides (st .args .plan) (m .start .last .1 .1 .0))
 cells m =
     let st = begin m in
-    window-cells (st .pre .0 .0) (st .args .column) (st .args .row) _ (made-self (frameOf (st .args .file .now)) (st .args .column) (st .args .row) _ _ (m .start .ensures))
+    window-cells (st .pre .0 .0) (st .args .column) (st .args .row) _
+    (made-self (frameOf (st .args .file .now)) (st .args .column) (st .args .row) _ _ (m .start .ensures))
 
 start-requires : tie.Need-start-requires
 start-requires c κs =
@@ -55,7 +57,8 @@ returns c =
     let st = begin m in
     let e = f .answer-from .ensures in
     visited (frameOf (st .args .file .now)) (st .args .column) (st .args .row) 0 0 _ _ _ _ _ (c .answered .ensures) (a .start2 .ensures)
-    (start-answered (st .pre .0 .0) (st .pre .0 .1) (st .pre .1 .0 .0) (st .pre .1 .0 .1) (k .of-window .ensures) (cells m) (e .0) (e .1)) (m .start .ensures)
+    (start-answered (st .pre .0 .0) (st .pre .0 .1) (st .pre .1 .0 .0) (st .pre .1 .0 .1) (k .of-window .ensures) (cells m) (e .0) (e .1))
+    (m .start .ensures)
 
 pub enter-spec : {M : Type 1} → statement M
 enter-spec =

@@ -30,12 +30,15 @@ opened n = begin (step (summing n))
 
 -- the store and the sums are the neighbour's
 cells : (n : tie.After-slide) → let at = opened n in
-    Profiled (frameOf (at .args .file .now)) (at .args .column) (at .args .row) (windowCounts (at .args .plan) (n .slide .last .1 .1 .0)) (windowGuides (at .args .plan) (n .slide .last .1 .1 .0))
+    Profiled (frameOf (at .args .file .now)) (at .args .column) (at .args .row) (windowCounts (at .args .plan) (n .slide .last .1 .1 .0))
+    (windowGuides (at .args .plan) (n .slide .last .1 .1 .0))
 cells n =
     let at = opened n in
-    window-cells (at .pre .0 .0) (at .args .column) (at .args .row) _ (made-self (frameOf (at .args .file .now)) (at .args .column) (at .args .row) _ _ (n .slide .ensures))
+    window-cells (at .pre .0 .0) (at .args .column) (at .args .row) _
+    (made-self (frameOf (at .args .file .now)) (at .args .column) (at .args .row) _ _ (n .slide .ensures))
 
-summed : (a : tie.After-moved) → let at = begin (step a) in SumsAt (frameOf (at .args .file .now)) (at .args .column) (at .args .row) (a .moved .result)
+summed : (a : tie.After-moved) → let at =
+    begin (step a) in SumsAt (frameOf (at .args .file .now)) (at .args .column) (at .args .row) (a .moved .result)
 summed a =
     let d = step a in
     let at = begin d in
@@ -54,8 +57,10 @@ moved-requires c κs =
 
 slide-requires : tie.Need-slide-requires
 slide-requires c κs =
-    let at = begin (step (c .before)) in
-    (at .pre .0 .0, (at .pre .1 .0 .1, as-made (frameOf (at .args .file .now)) (at .args .from .column) (at .args .from .row) _ _ (at .pre .1 .1 .store)))
+    let at = begin (step (c .before)) in (
+      at .pre .0 .0,
+      (at .pre .1 .0 .1, as-made (frameOf (at .args .file .now)) (at .args .from .column) (at .args .from .row) _ _ (at .pre .1 .1 .store)),
+    )
 
 of-window-requires : tie.Need-of-window-requires
 of-window-requires c κs =
@@ -83,8 +88,10 @@ answer-from-requires c κs =
     let pl = at .pre .0 .0 in
     let i = both-in (at .pre .1 .0 .1) in
     let v = at .pre .1 .0 .0 in (
-      store-places pl (at .args .column) (at .args .row) _ (made-self (frameOf (at .args .file .now)) (at .args .column) (at .args .row) _ _ (n .slide .ensures)),
-      answerable pl (at .pre .0 .1) (i .2) (i .3) (k .of-window .ensures) (cells n) (m .monotone .ensures) (v .cut) (omega (arith, v .shifts)) (w .carried .ensures),
+      store-places pl (at .args .column) (at .args .row) _
+          (made-self (frameOf (at .args .file .now)) (at .args .column) (at .args .row) _ _ (n .slide .ensures)),
+      answerable pl (at .pre .0 .1) (i .2) (i .3) (k .of-window .ensures) (cells n) (m .monotone .ensures) (v .cut) (omega (arith, v .shifts))
+          (w .carried .ensures),
     )
 
 answered-requires : tie.Need-answered-requires
@@ -104,9 +111,11 @@ returns c =
     let i = both-in (at .pre .1 .0 .1) in
     let e = f .answer-from .ensures in
     visited (frameOf (at .args .file .now)) (at .args .column) (at .args .row) _ _ _ _ _ _ _ (c .answered .ensures) (summed (summing n))
-    (answered-at (at .pre .0 .0) (at .pre .0 .1) (i .2) (i .3) (k .of-window .ensures) (cells n) (m .monotone .ensures) (e .0) (e .1)) (n .slide .ensures)
+    (answered-at (at .pre .0 .0) (at .pre .0 .1) (i .2) (i .3) (k .of-window .ensures) (cells n) (m .monotone .ensures) (e .0) (e .1))
+    (n .slide .ensures)
 
 pub slide-spec : {M : Type 1} → statement M
 slide-spec =
     tie.close
-    (tie.spec step-to-requires moved-requires slide-requires of-window-requires monotone-requires carried-requires answer-from-requires answered-requires same-length returns)
+    (tie.spec step-to-requires moved-requires slide-requires of-window-requires monotone-requires carried-requires answer-from-requires
+    answered-requires same-length returns)

@@ -47,8 +47,11 @@ loop-less c = omega arith
 
 loop-again : tie.Need-loop-again Inv-loop μ-loop
 loop-again c =
-    let d = c .before .before .before .before .before .before in
-    (omega arith, all-again _ _ _ _ (c .before .before .before .before .before .loop-test .taken) (d .loop .inv .1) (c .before .before .put16 .ensures))
+    let d = c .before .before .before .before .before .before in (
+      omega arith,
+      all-again _ _ _ _ (c .before .before .before .before .before .loop-test .taken) (d .loop .inv .1)
+          (c .before .before .put16 .ensures),
+    )
 
 same-length : tie.Need-same-length Inv-loop μ-loop
 same-length c = ap length (c .before .loop .inv .1) ∙ simp length-sets
@@ -57,7 +60,8 @@ returns : tie.Need-returns Inv-loop μ-loop
 returns c =
     let a = c .before .before .before .before .args in
     let e : c .before .loop .k ≡ length (a .list .now) = omega arith in
-    c .before .loop .inv .1 ∙ ap (λ (j : ℕ). sets (a .out .now) (a .at) (all16 (take j (a .list .now)))) e ∙ ap (λ (l : List ℕ). sets (a .out .now) (a .at) (all16 l)) (take-length (a .list .now))
+    c .before .loop .inv .1 ∙ ap (λ (j : ℕ). sets (a .out .now) (a .at) (all16 (take j (a .list .now)))) e ∙ ap
+    (λ (l : List ℕ). sets (a .out .now) (a .at) (all16 l)) (take-length (a .list .now))
 
 pub put-all-spec : {M : Type 1} → statement M
 put-all-spec =

@@ -55,7 +55,8 @@ returns c =
     let c3 = d .before .before .before .before in
     let c2 = c3 .before .before .before .before in
     let c1 = c2 .before .before .before .before in
-    fields-stored _ _ _ (c1 .put16 .ensures) (c2 .put162 .ensures) (c3 .put163 .ensures) (d .put164 .ensures) (e .put8 .ensures) (f .put82 .ensures) (g .put165 .ensures)
+    fields-stored _ _ _ (c1 .put16 .ensures) (c2 .put162 .ensures) (c3 .put163 .ensures) (d .put164 .ensures) (e .put8 .ensures) (f .put82 .ensures)
+    (g .put165 .ensures)
 
 pub put-fields-spec : {M : Type 1} → statement M
 put-fields-spec =

@@ -41,7 +41,9 @@ returns-2 c =
     let a = c .before .before .before .before .before .before .before .before .args in
     let b = a .file .now in
     let z = a .plan in
-    past (valueScan b z) (guideScan b z ▷ tableScan b z) (quiet (c .before .before .before .before .before .scan .ensures) (c .before .before .before .before .stops .ensures) (c .before .before .before .if1 .left))
+    past (valueScan b z) (guideScan b z ▷ tableScan b z)
+    (quiet (c .before .before .before .before .before .scan .ensures) (c .before .before .before .before .stops .ensures)
+    (c .before .before .before .if1 .left))
     (stopped (guideScan b z) (tableScan b z) (c .before .before .scan2 .ensures) (c .before .stops2 .ensures) (c .if2 .taken))
 
 scan-requires-3 : tie.Need-scan-requires-3
@@ -53,8 +55,11 @@ returns-3 c =
     let a = c .before .before .before .before .before .before .before .before .before .args in
     let b = a .file .now in
     let z = a .plan in
-    past (valueScan b z) (guideScan b z ▷ tableScan b z) (quiet (c .before .before .before .before .before .before .scan .ensures) (c .before .before .before .before .before .stops .ensures) (c .before .before .before .before .if1 .left))
-    (past (guideScan b z) (tableScan b z) (quiet (c .before .before .before .scan2 .ensures) (c .before .before .stops2 .ensures) (c .before .if2 .left)) (c .scan3 .ensures))
+    past (valueScan b z) (guideScan b z ▷ tableScan b z)
+    (quiet (c .before .before .before .before .before .before .scan .ensures) (c .before .before .before .before .before .stops .ensures)
+    (c .before .before .before .before .if1 .left))
+    (past (guideScan b z) (tableScan b z)
+    (quiet (c .before .before .before .scan2 .ensures) (c .before .before .stops2 .ensures) (c .before .if2 .left)) (c .scan3 .ensures))
 
 pub contents-spec : {M : Type 1} → statement M
 contents-spec =

@@ -38,7 +38,8 @@ returns : tie.Need-returns Inv-loop μ-loop
 unfolding scanFile
 returns c =
     c .too-large .ensures
-    ∙ scan-found _ _ _ _ (c .before .before .before .before .loop .k) (c .before .before .before .loop-test .taken) (omega (arith, c .before .before .be16 .ensures, c .before .if1 .taken)) (c .before .before .before .before .loop .inv .1)
+    ∙ scan-found _ _ _ _ (c .before .before .before .before .loop .k) (c .before .before .before .loop-test .taken)
+    (omega (arith, c .before .before .be16 .ensures, c .before .if1 .taken)) (c .before .before .before .before .loop .inv .1)
 
 add-k : tie.Need-add-k Inv-loop μ-loop
 add-k c = omega arith

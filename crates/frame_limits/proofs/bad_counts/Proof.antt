@@ -23,7 +23,9 @@ outside-requires-2 c κs = search needs
 
 returns-2 : tie.Need-returns-2
 unfolding badCounts
-returns-2 c = let k = c .before .before .before .before .before .args .settings in or-else (outside 2 1024 (k .levels)) (outside 2 256 (k .guides)) (same (c .before .before .before .outside .ensures) (c .before .before .if1 .left)) (c .outside2 .ensures)
+returns-2 c = let k =
+    c .before .before .before .before .before .args .settings in or-else (outside 2 1024 (k .levels)) (outside 2 256 (k .guides))
+    (same (c .before .before .before .outside .ensures) (c .before .before .if1 .left)) (c .outside2 .ensures)
 
 pub bad-counts-spec : {M : Type 1} → statement M
 bad-counts-spec =

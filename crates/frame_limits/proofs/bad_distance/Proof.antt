@@ -21,11 +21,26 @@ outside-requires-2 c κs = search needs
 
 returns-2 : tie.Need-returns-2
 unfolding badDistance
-returns-2 c = simp (same (rw (c .before .before .before .before .plane-bytes .ensures .0) at (c .before .before .before .outside .ensures)) (c .before .before .if1 .left), same (rw (c .before .before .before .before .plane-bytes .ensures .0) at (c .before .outside2 .ensures)) (c .if2 .taken))
+returns-2 c =
+    simp (
+      same (rw (c .before .before .before .before .plane-bytes .ensures .0) at (c .before .before .before .outside .ensures))
+          (c .before .before .if1 .left),
+      same (rw (c .before .before .before .before .plane-bytes .ensures .0) at (c .before .outside2 .ensures))
+          (c .if2 .taken),
+    )
 
 returns-3 : tie.Need-returns-3
 unfolding badDistance
-returns-3 c = simp (same (rw (c .before .before .before .before .before .before .plane-bytes .ensures .0) at (c .before .before .before .before .before .outside .ensures)) (c .before .before .before .before .if1 .left), same (rw (c .before .before .before .before .before .before .plane-bytes .ensures .0) at (c .before .before .before .outside2 .ensures)) (c .before .before .if2 .left), eq-eqb _ _ (c .if3 .taken))
+returns-3 c =
+    simp (
+      same
+          (rw (c .before .before .before .before .before .before .plane-bytes .ensures .0) at
+          (c .before .before .before .before .before .outside .ensures)) (c .before .before .before .before .if1 .left),
+      same
+          (rw (c .before .before .before .before .before .before .plane-bytes .ensures .0) at (c .before .before .before .outside2 .ensures))
+          (c .before .before .if2 .left),
+      eq-eqb _ _ (c .if3 .taken),
+    )
 
 table-bytes-requires : tie.Need-table-bytes-requires
 table-bytes-requires c κs = search needs
@@ -37,8 +52,13 @@ returns-4 : tie.Need-returns-4
 unfolding badDistance
 returns-4 c =
     simp (
-      same (rw (c .before .before .before .before .before .before .before .before .before .plane-bytes .ensures .0) at (c .before .before .before .before .before .before .before .before .outside .ensures)) (c .before .before .before .before .before .before .before .if1 .left),
-      same (rw (c .before .before .before .before .before .before .before .before .before .plane-bytes .ensures .0) at (c .before .before .before .before .before .before .outside2 .ensures)) (c .before .before .before .before .before .if2 .left),
+      same
+          (rw (c .before .before .before .before .before .before .before .before .before .plane-bytes .ensures .0) at
+          (c .before .before .before .before .before .before .before .before .outside .ensures))
+          (c .before .before .before .before .before .before .before .if1 .left),
+      same
+          (rw (c .before .before .before .before .before .before .before .before .before .plane-bytes .ensures .0) at
+          (c .before .before .before .before .before .before .outside2 .ensures)) (c .before .before .before .before .before .if2 .left),
       ne-eqb _ _ (c .before .before .before .if3 .left),
       same (rw (c .before .before .table-bytes .ensures .0) at (c .before .outside3 .ensures)) (c .if4 .taken),
     )
@@ -47,8 +67,14 @@ returns-5 : tie.Need-returns-5
 unfolding badDistance
 returns-5 c =
     simp (
-      same (rw (c .before .before .before .before .before .before .before .before .before .before .plane-bytes .ensures .0) at (c .before .before .before .before .before .before .before .before .before .outside .ensures)) (c .before .before .before .before .before .before .before .before .if1 .left),
-      same (rw (c .before .before .before .before .before .before .before .before .before .before .plane-bytes .ensures .0) at (c .before .before .before .before .before .before .before .outside2 .ensures)) (c .before .before .before .before .before .before .if2 .left),
+      same
+          (rw (c .before .before .before .before .before .before .before .before .before .before .plane-bytes .ensures .0) at
+          (c .before .before .before .before .before .before .before .before .before .outside .ensures))
+          (c .before .before .before .before .before .before .before .before .if1 .left),
+      same
+          (rw (c .before .before .before .before .before .before .before .before .before .before .plane-bytes .ensures .0) at
+          (c .before .before .before .before .before .before .before .outside2 .ensures))
+          (c .before .before .before .before .before .before .if2 .left),
       ne-eqb _ _ (c .before .before .before .before .if3 .left),
       same (rw (c .before .before .before .table-bytes .ensures .0) at (c .before .before .outside3 .ensures)) (c .before .if4 .left),
     )

@@ -23,14 +23,25 @@ outside-requires-2 c κs = search needs
 
 returns-2 : tie.Need-returns-2
 unfolding badSize
-returns-2 c = simp (same (c .before .before .before .before .outside .ensures) (c .before .before .before .if1 .left), same (c .before .outside2 .ensures) (c .if2 .taken))
+returns-2 c =
+    simp (
+      same (c .before .before .before .before .outside .ensures) (c .before .before .before .if1 .left),
+      same (c .before .outside2 .ensures)
+          (c .if2 .taken),
+    )
 
 product-requires : tie.Need-product-requires
 product-requires c κs = search needs
 
 returns-3 : tie.Need-returns-3
 unfolding badSize
-returns-3 c = simp (same (c .before .before .before .before .before .outside .ensures) (c .before .before .before .before .if1 .left), same (c .before .before .outside2 .ensures) (c .before .if2 .left), c .product .ensures .0)
+returns-3 c =
+    simp (
+      same (c .before .before .before .before .before .outside .ensures) (c .before .before .before .before .if1 .left),
+      same
+          (c .before .before .outside2 .ensures) (c .before .if2 .left),
+      c .product .ensures .0,
+    )
 
 pub bad-size-spec : {M : Type 1} → statement M
 bad-size-spec =

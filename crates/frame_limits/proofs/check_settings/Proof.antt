@@ -19,7 +19,8 @@ bad-counts-requires c κs = search needs
 
 returns-2 : tie.Need-returns-2
 unfolding settingsOutcome
-returns-2 c = simp (same (c .before .before .before .bad-size .ensures) (c .before .before .if1 .left), same (c .before .bad-counts .ensures) (c .if2 .taken))
+returns-2 c =
+    simp (same (c .before .before .before .bad-size .ensures) (c .before .before .if1 .left), same (c .before .bad-counts .ensures) (c .if2 .taken))
 
 bad-kind-requires : tie.Need-bad-kind-requires
 bad-kind-requires c κs = search needs
@@ -28,21 +29,35 @@ returns-3 : tie.Need-returns-3
 unfolding settingsOutcome
 returns-3 c =
     let d = c .before .before in
-    simp (same (d .before .before .before .bad-size .ensures) (d .before .before .if1 .left), same (d .before .bad-counts .ensures) (d .if2 .left), same (c .before .bad-kind .ensures) (c .if3 .taken))
+    simp (
+      same (d .before .before .before .bad-size .ensures) (d .before .before .if1 .left),
+      same (d .before .bad-counts .ensures) (d .if2 .left),
+      same (c .before .bad-kind .ensures) (c .if3 .taken),
+    )
 
 returns-4 : tie.Need-returns-4
 unfolding settingsOutcome badRadius
 returns-4 c =
     let e = c .before .before in
     let d = e .before .before in
-    simp (same (d .before .before .before .bad-size .ensures) (d .before .before .if1 .left), same (d .before .bad-counts .ensures) (d .if2 .left), same (e .before .bad-kind .ensures) (e .if3 .left), lt-ltb 15 (d .before .before .before .before .args .settings .radius) (omega arith))
+    simp (
+      same (d .before .before .before .bad-size .ensures) (d .before .before .if1 .left),
+      same (d .before .bad-counts .ensures) (d .if2 .left),
+      same (e .before .bad-kind .ensures) (e .if3 .left),
+      lt-ltb 15 (d .before .before .before .before .args .settings .radius) (omega arith),
+    )
 
 returns-5 : tie.Need-returns-5
 unfolding settingsOutcome badRadius
 returns-5 c =
     let e = c .before .before in
     let d = e .before .before in
-    simp (same (d .before .before .before .bad-size .ensures) (d .before .before .if1 .left), same (d .before .bad-counts .ensures) (d .if2 .left), same (e .before .bad-kind .ensures) (e .if3 .left), le-ltb 15 (d .before .before .before .before .args .settings .radius) (omega arith))
+    simp (
+      same (d .before .before .before .bad-size .ensures) (d .before .before .if1 .left),
+      same (d .before .bad-counts .ensures) (d .if2 .left),
+      same (e .before .bad-kind .ensures) (e .if3 .left),
+      le-ltb 15 (d .before .before .before .before .args .settings .radius) (omega arith),
+    )
 
 pub check-settings-spec : {M : Type 1} → statement M
 check-settings-spec =

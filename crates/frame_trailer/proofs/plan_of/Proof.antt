@@ -46,7 +46,11 @@ own-weights-requires c κs = search needs
 
 returns : tie.Need-returns
 unfolding trailerAt
-returns c = plan-made _ (c .before .before .before .before .before .before .before .before .before .before .before .before .trailer-of .result) (c .before .before .before .before .before .before .before .before .before .before .before .before .trailer-of .ensures) (c .before .before .before .back-from .ensures) (c .before .before .back-from2 .ensures) (c .before .back-from3 .ensures) (c .own-weights .ensures .0)
+returns c =
+    plan-made _ (c .before .before .before .before .before .before .before .before .before .before .before .before .trailer-of .result)
+    (c .before .before .before .before .before .before .before .before .before .before .before .before .trailer-of .ensures)
+    (c .before .before .before .back-from .ensures) (c .before .before .back-from2 .ensures) (c .before .back-from3 .ensures)
+    (c .own-weights .ensures .0)
 
 pub plan-of-spec : {M : Type 1} → statement M
 plan-of-spec =

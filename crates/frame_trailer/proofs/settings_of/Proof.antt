@@ -50,7 +50,8 @@ returns : tie.Need-returns
 unfolding settingsOf trailerAt
 returns c =
     let d = c .before .before .before in
-    simp (d .before .before .before .be16 .ensures, d .before .before .be162 .ensures, d .before .be163 .ensures, d .be164 .ensures, c .be165 .ensures)
+    simp
+    (d .before .before .before .be16 .ensures, d .before .before .be162 .ensures, d .before .be163 .ensures, d .be164 .ensures, c .be165 .ensures)
 
 pub settings-of-spec : {M : Type 1} → statement M
 settings-of-spec =

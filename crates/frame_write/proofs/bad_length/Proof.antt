@@ -21,14 +21,16 @@ returns-3 : tie.Need-returns-3
 unfolding badLength
 returns-3 c =
     let p = c .before .before .before in
-    rw (sym (p .product .ensures .0)) (simp (eq-eqb _ _ (c .before .before .if1 .left), eq-eqb _ _ (c .before .if2 .left), eq-eqb _ _ (c .if3 .taken)))
+    rw (sym (p .product .ensures .0))
+    (simp (eq-eqb _ _ (c .before .before .if1 .left), eq-eqb _ _ (c .before .if2 .left), eq-eqb _ _ (c .if3 .taken)))
 
 returns-4 : tie.Need-returns-4
 unfolding badLength
 returns-4 c =
     let d = c .before .before in
     let p = d .before .before .before in
-    rw (sym (p .product .ensures .0)) (simp (eq-eqb _ _ (d .before .before .if1 .left), eq-eqb _ _ (d .before .if2 .left), ne-eqb _ _ (d .if3 .left), ne-eqb _ _ (c .if4 .taken)))
+    rw (sym (p .product .ensures .0))
+    (simp (eq-eqb _ _ (d .before .before .if1 .left), eq-eqb _ _ (d .before .if2 .left), ne-eqb _ _ (d .if3 .left), ne-eqb _ _ (c .if4 .taken)))
 
 product-requires-2 : tie.Need-product-requires-2
 product-requires-2 c κs = search needs
@@ -39,7 +41,8 @@ returns-5 c =
     let f = c .before in
     let d = f .before .before in
     let p = d .before .before .before in
-    rw (c .product2 .ensures .0, sym (p .product .ensures .0)) (simp (eq-eqb _ _ (d .before .before .if1 .left), eq-eqb _ _ (d .before .if2 .left), ne-eqb _ _ (d .if3 .left), eq-eqb _ _ (f .if4 .left)))
+    rw (c .product2 .ensures .0, sym (p .product .ensures .0))
+    (simp (eq-eqb _ _ (d .before .before .if1 .left), eq-eqb _ _ (d .before .if2 .left), ne-eqb _ _ (d .if3 .left), eq-eqb _ _ (f .if4 .left)))
 
 pub bad-length-spec : {M : Type 1} → statement M
 bad-length-spec =

@@ -31,17 +31,26 @@ s5 d = s4 (d .before .before .before)
 q1 : (d : tie.Else1) → settingsOutcome (s1 d .args .settings) ≡ accepted
 q1 d = quiet (d .before .before .check-settings .ensures) (d .before .stops .ensures) (d .if1 .left)
 
-q2 : (d : tie.Else2) → of-length (s2 d .args .settings) (s2 d .args .values .now) (s2 d .args .guides .now) (s2 d .args .table .now) (s2 d .args .room) ≡ accepted
+q2 : (d : tie.Else2) →
+    of-length (s2 d .args .settings) (s2 d .args .values .now) (s2 d .args .guides .now) (s2 d .args .table .now) (s2 d .args .room) ≡ accepted
 q2 d = unmet 6 (d .before .bad-length .ensures) (d .if2 .left)
 
-q3 : (d : tie.Else3) → of-values (s3 d .args .settings) (s3 d .args .values .now) (s3 d .args .guides .now) (s3 d .args .table .now) (s3 d .args .room) ≡ accepted
+q3 : (d : tie.Else3) →
+    of-values (s3 d .args .settings) (s3 d .args .values .now) (s3 d .args .guides .now) (s3 d .args .table .now) (s3 d .args .room) ≡ accepted
 q3 d = quiet (d .before .before .scan-list .ensures) (d .before .stops2 .ensures) (d .if3 .left)
 
-q4 : (d : tie.Else4) → of-guides (s4 d .args .settings) (s4 d .args .values .now) (s4 d .args .guides .now) (s4 d .args .table .now) (s4 d .args .room) ≡ accepted
-q4 d = quiet (rw (d .before .before .before .before .before .before .product .ensures .0) at (d .before .before .scan-list2 .ensures)) (d .before .stops3 .ensures) (d .if4 .left)
+q4 : (d : tie.Else4) →
+    of-guides (s4 d .args .settings) (s4 d .args .values .now) (s4 d .args .guides .now) (s4 d .args .table .now) (s4 d .args .room) ≡ accepted
+q4 d =
+    quiet (rw (d .before .before .before .before .before .before .product .ensures .0) at (d .before .before .scan-list2 .ensures))
+    (d .before .stops3 .ensures) (d .if4 .left)
 
-q5 : (d : tie.Else5) → of-table (s5 d .args .settings) (s5 d .args .values .now) (s5 d .args .guides .now) (s5 d .args .table .now) (s5 d .args .room) ≡ accepted
-q5 d = quiet (rw (d .before .before .before .before .before .before .before .before .before .product .ensures .0) at (d .before .before .scan-list3 .ensures)) (d .before .stops4 .ensures) (d .if5 .left)
+q5 : (d : tie.Else5) →
+    of-table (s5 d .args .settings) (s5 d .args .values .now) (s5 d .args .guides .now) (s5 d .args .table .now) (s5 d .args .room) ≡ accepted
+q5 d =
+    quiet
+    (rw (d .before .before .before .before .before .before .before .before .before .product .ensures .0) at (d .before .before .scan-list3 .ensures))
+    (d .before .stops4 .ensures) (d .if5 .left)
 
 check-settings-requires : tie.Need-check-settings-requires
 check-settings-requires c κs = search needs
@@ -53,7 +62,11 @@ returns : tie.Need-returns
 unfolding writerOutcome
 returns c =
     let a = c .before .before .before .before .before .before .args in
-    stopped (settingsOutcome (a .settings)) (of-length (a .settings) (a .values .now) (a .guides .now) (a .table .now) (a .room) ▷ of-values (a .settings) (a .values .now) (a .guides .now) (a .table .now) (a .room) ▷ of-guides (a .settings) (a .values .now) (a .guides .now) (a .table .now) (a .room) ▷ of-table (a .settings) (a .values .now) (a .guides .now) (a .table .now) (a .room) ▷ of-room (a .settings) (a .values .now) (a .guides .now) (a .table .now) (a .room))
+    stopped (settingsOutcome (a .settings))
+    (of-length (a .settings) (a .values .now) (a .guides .now) (a .table .now) (a .room) ▷ of-values (a .settings) (a .values .now)
+    (a .guides .now) (a .table .now) (a .room) ▷ of-guides (a .settings) (a .values .now) (a .guides .now) (a .table .now) (a .room) ▷ of-table
+    (a .settings) (a .values .now) (a .guides .now) (a .table .now) (a .room) ▷ of-room (a .settings) (a .values .now) (a .guides .now)
+    (a .table .now) (a .room))
     (c .before .before .check-settings .ensures) (c .before .stops .ensures) (c .if1 .taken)
 
 bad-length-requires : tie.Need-bad-length-requires
@@ -78,7 +91,10 @@ returns-3 c =
     let d = c .before .before .before .before in
     let a = s2 d .args in
     past2 _ _ _ _ _ (q1 (d .before .before)) (q2 d)
-    (stopped (of-values (a .settings) (a .values .now) (a .guides .now) (a .table .now) (a .room)) (of-guides (a .settings) (a .values .now) (a .guides .now) (a .table .now) (a .room) ▷ of-table (a .settings) (a .values .now) (a .guides .now) (a .table .now) (a .room) ▷ of-room (a .settings) (a .values .now) (a .guides .now) (a .table .now) (a .room)) (c .before .before .scan-list .ensures) (c .before .stops2 .ensures) (c .if3 .taken))
+    (stopped (of-values (a .settings) (a .values .now) (a .guides .now) (a .table .now) (a .room))
+    (of-guides (a .settings) (a .values .now) (a .guides .now) (a .table .now) (a .room) ▷ of-table (a .settings) (a .values .now)
+    (a .guides .now) (a .table .now) (a .room) ▷ of-room (a .settings) (a .values .now) (a .guides .now) (a .table .now) (a .room))
+    (c .before .before .scan-list .ensures) (c .before .stops2 .ensures) (c .if3 .taken))
 
 mul-scan-list : tie.Need-mul-scan-list
 mul-scan-list c = search needs
@@ -95,7 +111,10 @@ returns-4 c =
     let e = d .before .before .before .before in
     let a = s3 d .args in
     past3 _ _ _ _ _ (q1 (e .before .before)) (q2 e) (q3 d)
-    (stopped (of-guides (a .settings) (a .values .now) (a .guides .now) (a .table .now) (a .room)) (of-table (a .settings) (a .values .now) (a .guides .now) (a .table .now) (a .room) ▷ of-room (a .settings) (a .values .now) (a .guides .now) (a .table .now) (a .room)) (rw (d .before .before .before .product .ensures .0) at (c .before .before .scan-list2 .ensures)) (c .before .stops3 .ensures) (c .if4 .taken))
+    (stopped (of-guides (a .settings) (a .values .now) (a .guides .now) (a .table .now) (a .room))
+    (of-table (a .settings) (a .values .now) (a .guides .now) (a .table .now) (a .room) ▷ of-room (a .settings) (a .values .now) (a .guides .now)
+    (a .table .now) (a .room)) (rw (d .before .before .before .product .ensures .0) at (c .before .before .scan-list2 .ensures))
+    (c .before .stops3 .ensures) (c .if4 .taken))
 
 add-scan-list : tie.Need-add-scan-list
 add-scan-list c = search needs
@@ -116,7 +135,10 @@ returns-5 c =
     let e = d .before .before .before .before in
     let a = s4 f .args in
     past4 _ _ _ _ _ (q1 (e .before .before)) (q2 e) (q3 d) (q4 f)
-    (stopped (of-table (a .settings) (a .values .now) (a .guides .now) (a .table .now) (a .room)) (of-room (a .settings) (a .values .now) (a .guides .now) (a .table .now) (a .room)) (rw (d .before .before .before .product .ensures .0) at (c .before .before .scan-list3 .ensures)) (c .before .stops4 .ensures) (c .if5 .taken))
+    (stopped (of-table (a .settings) (a .values .now) (a .guides .now) (a .table .now) (a .room))
+    (of-room (a .settings) (a .values .now) (a .guides .now) (a .table .now) (a .room))
+    (rw (d .before .before .before .product .ensures .0) at (c .before .before .scan-list3 .ensures)) (c .before .stops4 .ensures)
+    (c .if5 .taken))
 
 mul-if6 : tie.Need-mul-if6
 mul-if6 c = search needs

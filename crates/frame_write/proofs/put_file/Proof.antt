@@ -42,7 +42,8 @@ add-at c = search needs
 put-fields-requires : tie.Need-put-fields-requires
 unfolding writtenSize
 put-fields-requires c κs =
-    let s = c .before .before .before .before .before .before .before .before .before .before .before .before .before .before .before .before .before in
+    let s =
+    c .before .before .before .before .before .before .before .before .before .before .before .before .before .before .before .before .before in
     omega (arith, s .pre .space, s .pre .values, s .pre .guides, s .pre .table, s .pre .few)
 
 add-put-distances : tie.Need-add-put-distances
@@ -51,8 +52,14 @@ add-put-distances c = search needs
 put-distances-requires : tie.Need-put-distances-requires
 unfolding writtenSize
 put-distances-requires c κs =
-    let s = c .before .before .before .before .before .before .before .before .before .before .before .before .before .before .before .before .before .before .before .before .before in
-    (omega (arith, s .pre .space, s .pre .values, s .pre .guides, s .pre .table, s .pre .few), s .pre .table, omega (arith, s .pre .values, s .pre .few))
+    let s =
+    c .before .before .before .before .before .before .before .before .before .before .before .before .before .before .before .before .before
+    .before .before .before .before in (
+      omega (arith, s .pre .space, s .pre .values, s .pre .guides, s .pre .table, s .pre .few),
+      s .pre .table,
+      omega
+          (arith, s .pre .values, s .pre .few),
+    )
 
 same-length : tie.Need-same-length
 same-length c = search needs
@@ -65,7 +72,8 @@ returns c =
     let g = f .before .before .before .before in
     let h = g .before .before .before .before in
     let s = h .before .before .before .before .before .before in
-    file-stored _ _ _ _ _ (s .pre .values) (s .pre .guides) (h .put-all .ensures) (g .put-all2 .ensures) (f .put-all3 .ensures) (d .put-fields .ensures) (e .put-distances .ensures)
+    file-stored _ _ _ _ _ (s .pre .values) (s .pre .guides) (h .put-all .ensures) (g .put-all2 .ensures) (f .put-all3 .ensures)
+    (d .put-fields .ensures) (e .put-distances .ensures)
 
 pub put-file-spec : {M : Type 1} → statement M
 put-file-spec =

@@ -36,7 +36,9 @@ too-large-requires c κs = search needs
 
 returns : tie.Need-returns Inv-loop μ-loop
 unfolding scanList
-returns c = c .too-large .ensures ∙ scan-found _ _ _ _ (c .before .before .before .before .loop .k) (c .before .before .before .loop-test .taken) (c .before .if1 .taken) (c .before .before .before .before .loop .inv .1)
+returns c =
+    c .too-large .ensures ∙ scan-found _ _ _ _ (c .before .before .before .before .loop .k) (c .before .before .before .loop-test .taken)
+    (c .before .if1 .taken) (c .before .before .before .before .loop .inv .1)
 
 add-k : tie.Need-add-k Inv-loop μ-loop
 add-k c = omega arith

@@ -18,7 +18,9 @@ abbrev start : tie.Else1 → tie.Start
 start e = e .before .before .before .before .before .before .before
 
 accepts : (e : tie.Else1)
-    → writerOutcome (start e .args .settings) (start e .args .values .now) (start e .args .guides .now) (start e .args .table .now) (length (start e .args .output .now)) ≡ accepted
+    →
+    writerOutcome (start e .args .settings) (start e .args .values .now) (start e .args .guides .now) (start e .args .table .now)
+    (length (start e .args .output .now)) ≡ accepted
 accepts e = quiet (e .before .before .check-writing .ensures) (e .before .stops .ensures) (e .if1 .left)
 
 check-writing-requires : tie.Need-check-writing-requires
@@ -35,11 +37,13 @@ returns c =
     let t = c .before in
     let j = t .before .before in
     let s = c .before .before .before .before .before .before .before .before in
-    let o : Outcome = writerOutcome (s .args .settings) (s .args .values .now) (s .args .guides .now) (s .args .table .now) (length (s .args .output .now)) in
+    let o : Outcome =
+    writerOutcome (s .args .settings) (s .args .values .now) (s .args .guides .now) (s .args .table .now) (length (s .args .output .now)) in
     let fires-o : fires o ≡ true = sym (ap fires (j .check-writing .ensures)) ∙ same (t .before .stops .ensures) (t .if1 .taken) in
     record {
       answer = c .answer .ensures ∙ ap (λ (x : Outcome). reportOf x 0) (j .check-writing .ensures) ∙ declines o 0 _ fires-o;
-      output = keeps o (written (s .args .settings) (s .args .values .now) (s .args .guides .now) (s .args .table .now)) (s .args .output .now) fires-o;
+      output =
+          keeps o (written (s .args .settings) (s .args .values .now) (s .args .guides .now) (s .args .table .now)) (s .args .output .now) fires-o;
     }
 
 put-file-requires : tie.Need-put-file-requires
@@ -86,11 +90,18 @@ returns-2 c =
     let j = e .before .before in
     let s = c .before .before .before .before .before .before .before .before .before .before .before .before in
     let f = fit (s .args .settings) (s .args .values .now) (s .args .guides .now) (s .args .table .now) (length (s .args .output .now)) (accepts e) in
-    let o : Outcome = writerOutcome (s .args .settings) (s .args .values .now) (s .args .guides .now) (s .args .table .now) (length (s .args .output .now)) in
-    let n : 4 * length (s .args .values .now) + 2 * length (s .args .table .now) + 28 ≡ writtenSize (s .args .settings) (length (s .args .table .now)) = omega (arith, f .values) in
+    let o : Outcome =
+    writerOutcome (s .args .settings) (s .args .values .now) (s .args .guides .now) (s .args .table .now) (length (s .args .output .now)) in
+    let n : 4 * length (s .args .values .now) + 2 * length (s .args .table .now) + 28 ≡ writtenSize (s .args .settings)
+    (length (s .args .table .now)) = omega (arith, f .values) in
     record {
-      answer = c .answer2 .ensures ∙ ap (λ (m : ℕ). reportOf (numbered (j .check-writing .result)) m) n ∙ ap (λ (x : Outcome). reportOf x (writtenSize (s .args .settings) (length (s .args .table .now)))) (j .check-writing .ensures);
-      output = file-placed (s .args .settings) (s .args .values .now) (s .args .guides .now) (s .args .table .now) (s .args .output .now) f (c .before .before .before .put-file .ensures) ∙ saves o (written (s .args .settings) (s .args .values .now) (s .args .guides .now) (s .args .table .now)) (s .args .output .now) (accepts e);
+      answer =
+          c .answer2 .ensures ∙ ap (λ (m : ℕ). reportOf (numbered (j .check-writing .result)) m) n ∙ ap
+          (λ (x : Outcome). reportOf x (writtenSize (s .args .settings) (length (s .args .table .now)))) (j .check-writing .ensures);
+      output =
+          file-placed (s .args .settings) (s .args .values .now) (s .args .guides .now) (s .args .table .now) (s .args .output .now) f
+          (c .before .before .before .put-file .ensures) ∙ saves o
+          (written (s .args .settings) (s .args .values .now) (s .args .guides .now) (s .args .table .now)) (s .args .output .now) (accepts e);
     }
 
 pub write-spec : {M : Type 1} → statement M

@@ -24,7 +24,9 @@ change-requires-2 : tie.Need-change-requires-2
 change-requires-2 c κs =
     let k = c .before .before .before in
     let at = begin (k .before .before) in
-    rw (k .change .ensures) (sum-asks (at .args .enters) (at .args .l) (at .args .level .0) (at .args .guide .0) (at .args .numbers .now) (at .pre .0 .0) (at .pre .0 .2) (at .pre .1 .1))
+    rw (k .change .ensures)
+    (sum-asks (at .args .enters) (at .args .l) (at .args .level .0) (at .args .guide .0) (at .args .numbers .now) (at .pre .0 .0) (at .pre .0 .2)
+    (at .pre .1 .1))
 
 same-length : tie.Need-same-length
 same-length c = search needs
@@ -34,7 +36,9 @@ returns c =
     let o = c .before .before in
     let k = o .before .before .before .before in
     let at = begin (k .before .before) in
-    rw (o .change2 .ensures, k .change .ensures) (pixel-changed (at .args .enters) (at .args .l) (at .args .level .0) (at .args .guide .0) (at .args .numbers .now) (at .pre .0 .0) (at .pre .0 .2))
+    rw (o .change2 .ensures, k .change .ensures)
+    (pixel-changed (at .args .enters) (at .args .l) (at .args .level .0) (at .args .guide .0) (at .args .numbers .now) (at .pre .0 .0)
+    (at .pre .0 .2))
 
 pub change-pixel-spec : {M : Type 1} → statement M
 change-pixel-spec =

@@ -13,7 +13,8 @@ use Rattle.histogram.proofs.change_pixels.Statement.{statement}
 use Rattle.histogram.proofs.change_pixels.Tie as tie
 
 abbrev Inv-loop : tie.InvT-loop
-Inv-loop p l enters numbers₀ n k₀ numbers k = (k ≤ n) × PassedTo _+_ 0 (shareAt l) changed enters p k (numberAt l numbers₀) (numberAt l numbers) × (length numbers ≡ length numbers₀)
+Inv-loop p l enters numbers₀ n k₀ numbers k =
+    (k ≤ n) × PassedTo _+_ 0 (shareAt l) changed enters p k (numberAt l numbers₀) (numberAt l numbers) × (length numbers ≡ length numbers₀)
 
 abbrev μ-loop : tie.MeasureT-loop
 μ-loop p l enters numbers₀ n k₀ numbers k = n - k
@@ -44,7 +45,8 @@ mul-t18 : tie.Need-mul-t18 Inv-loop μ-loop
 mul-t18 c = omega (arith, turn-low (c .before .before))
 
 shared-slice-read-t20 : tie.Need-shared-slice-read-t20 Inv-loop μ-loop
-shared-slice-read-t20 c = let t = c .before .before .before in places-in (start (t .before) .args .p .now) (t .before .loop .k) (t .loop-test .taken) .1
+shared-slice-read-t20 c = let t =
+    c .before .before .before in places-in (start (t .before) .args .p .now) (t .before .loop .k) (t .loop-test .taken) .1
 
 change-pixel-requires : tie.Need-change-pixel-requires Inv-loop μ-loop
 change-pixel-requires c κs =

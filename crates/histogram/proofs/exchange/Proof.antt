@@ -12,8 +12,13 @@ change-pixels-requires c κs = search needs
 change-pixels-requires-2 : tie.Need-change-pixels-requires-2
 change-pixels-requires-2 c κs =
     let g = c .before .before .before in
-    let at = g .before .before .before .before .before in
-    ((at .pre .0 .0, omega (arith, at .pre .0 .1, g .change-pixels .kept .1 .1 .1 .0), at .pre .0 .3), record { fits = leave-fits (shareAt (at .args .l)) (at .pre .1) (g .change-pixels .ensures) })
+    let at = g .before .before .before .before .before in (
+      (at .pre .0 .0, omega (arith, at .pre .0 .1, g .change-pixels .kept .1 .1 .1 .0), at .pre .0 .3),
+      record {
+        fits =
+            leave-fits (shareAt (at .args .l)) (at .pre .1) (g .change-pixels .ensures);
+      },
+    )
 
 same-length : tie.Need-same-length
 same-length c = search needs

@@ -27,13 +27,23 @@ wide : (c : tie.In-loop Inv-loop μ-loop) → c .before .before .before .low .re
 wide c =
     let h = c .before in
     let at = begin h in
-    omega (arith, h .before .before .low .ensures, span-in (at .args .plan .radius) (at .args .s) (at .args .plan .width) (h .loop .k) (subst (λ (n : ℕ). h .loop .k < n) (h .before .span-of .ensures) (c .loop-test .taken)))
+    omega (
+      arith,
+      h .before .before .low .ensures,
+      span-in (at .args .plan .radius) (at .args .s) (at .args .plan .width) (h .loop .k)
+          (subst (λ (n : ℕ). h .loop .k < n) (h .before .span-of .ensures) (c .loop-test .taken)),
+    )
 
 few : (c : tie.In-loop Inv-loop μ-loop) → c .before .loop .k < 31
 few c =
     let h = c .before in
     let at = begin h in
-    omega (arith, c .loop-test .taken, span-high (at .args .plan .radius) (at .args .s) (at .args .plan .width) (plan-limits (at .pre .0 .0) .radius), h .before .span-of .ensures)
+    omega (
+      arith,
+      c .loop-test .taken,
+      span-high (at .args .plan .radius) (at .args .s) (at .args .plan .width) (plan-limits (at .pre .0 .0) .radius),
+      h .before .span-of .ensures,
+    )
 
 -- the places passed: the turn, its column, and the list that the column was read into
 abbrev line : tie.After-read Inv-loop μ-loop → tie.After-column-line Inv-loop μ-loop
@@ -42,7 +52,8 @@ line r = r .before .before
 abbrev turn : tie.After-read Inv-loop μ-loop → tie.In-loop Inv-loop μ-loop
 turn r = r .before .before .before
 
-listed : (r : tie.After-read Inv-loop μ-loop) → let at = begin (turn r .before) in LinePixels (at .args .file .now) (at .args .plan) (line r .column-line .result)
+listed : (r : tie.After-read Inv-loop μ-loop) → let at =
+    begin (turn r .before) in LinePixels (at .args .file .now) (at .args .plan) (line r .column-line .result)
     (take (r .read .result - 0) (drop 0 (r .read .last .1 .1 .1 .0)))
 listed r = line-part (r .read .result) (r .read .last .1 .1 .1 .0) (r .read .ensures .1)
 
@@ -97,7 +108,8 @@ loop-again c =
     let r = g .before .before .before .before .before in
     let h = turn r .before in (
       omega (arith, turn r .loop-test .taken),
-      filled-next (begin h .pre .0 .0) (h .loop .inv .1) (line r .column-line .ensures) (listed r) (g .change-pixels .kept .1 .1 .1 .0) (g .change-pixels .ensures),
+      filled-next (begin h .pre .0 .0) (h .loop .inv .1) (line r .column-line .ensures) (listed r) (g .change-pixels .kept .1 .1 .1 .0)
+          (g .change-pixels .ensures),
       g .change-pixels .kept .1 .1 .1 .0 ∙ h .loop .inv .2,
     )
 

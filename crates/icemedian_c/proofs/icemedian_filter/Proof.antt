@@ -23,7 +23,9 @@ same-length-4 : tie.Need-same-length-4
 same-length-4 c = search needs
 
 returns : tie.Need-returns
-returns c = filter-passed (c .before .before .before .before .before .before .before .before .before .before .before .filter .ensures) (c .before .report .ensures) (omega arith) (omega arith)
+returns c =
+    filter-passed (c .before .before .before .before .before .before .before .before .before .before .before .filter .ensures)
+    (c .before .report .ensures) (omega arith) (omega arith)
 
 same-length-5 : tie.Need-same-length-5
 same-length-5 c = search needs
@@ -38,7 +40,9 @@ same-length-8 : tie.Need-same-length-8
 same-length-8 c = search needs
 
 returns-2 : tie.Need-returns-2
-returns-2 c = filter-stopped (c .before .before .before .before .before .before .before .before .before .before .before .filter .ensures) (c .before .report .ensures) (omega arith)
+returns-2 c =
+    filter-stopped (c .before .before .before .before .before .before .before .before .before .before .before .filter .ensures)
+    (c .before .report .ensures) (omega arith)
 
 pub icemedian-filter-spec : {M : Type 1} → statement M
 icemedian-filter-spec =

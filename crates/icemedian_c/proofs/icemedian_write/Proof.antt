@@ -24,14 +24,18 @@ same-length c = search needs
 
 returns : tie.Need-returns
 returns c =
-    write-passed (writes-narrowed (c .before .before .before .before .before .before .before .settings-from .ensures) (c .before .before .before .before .before .write .ensures)) (c .before .w .given .1) (omega arith)
+    write-passed
+    (writes-narrowed (c .before .before .before .before .before .before .before .settings-from .ensures)
+    (c .before .before .before .before .before .write .ensures)) (c .before .w .given .1) (omega arith)
 
 same-length-2 : tie.Need-same-length-2
 same-length-2 c = search needs
 
 returns-2 : tie.Need-returns-2
 returns-2 c =
-    write-stopped (writes-narrowed (c .before .before .before .before .before .before .before .before .before .settings-from .ensures) (c .before .before .before .before .before .before .before .write .ensures)) (c .before .before .before .w2 .given .1) (c .report .ensures)
+    write-stopped
+    (writes-narrowed (c .before .before .before .before .before .before .before .before .before .settings-from .ensures)
+    (c .before .before .before .before .before .before .before .write .ensures)) (c .before .before .before .w2 .given .1) (c .report .ensures)
 
 pub icemedian-write-spec : {M : Type 1} → statement M
 icemedian-write-spec =

@@ -14,7 +14,8 @@ small : (st : tie.Start) → st .args .x ≤ 4294967295
 small st = omega (arith, st .fits .x)
 
 abbrev env : tie.After-unsigned-to-signed → List Cell
-env c = resultCell w64 (c .unsigned-to-signed .result) (pos (c .before .args .x)) 4294967295 (c .unsigned-to-signed .ensures) (small (c .before)) tt ∷ []
+env c =
+    resultCell w64 (c .unsigned-to-signed .result) (pos (c .before .args .x)) 4294967295 (c .unsigned-to-signed .ensures) (small (c .before)) tt ∷ []
 
 unsigned-to-signed-requires : tie.Need-unsigned-to-signed-requires
 unsigned-to-signed-requires c κs = search needs

@@ -30,7 +30,8 @@ int-to-float-result-2 : tie.Need-int-to-float-result-2
 int-to-float-result-2 c = float-need binary64 w64 (c .before .before .before .before .args .x) 255 (c .before .before .before .before .pre .2) tt
 
 int-to-float-result-3 : tie.Need-int-to-float-result-3
-int-to-float-result-3 c = float-need binary64 w64 (c .before .before .before .before .before .args .y) 255 (c .before .before .before .before .before .pre .3) tt
+int-to-float-result-3 c =
+    float-need binary64 w64 (c .before .before .before .before .before .args .y) 255 (c .before .before .before .before .before .pre .3) tt
 
 returns : tie.Need-returns
 returns c = rep! (env (c .before .before .before .before .before)) (search floatCode depth 12) (search quote depth 12) tt refl

@@ -17,7 +17,8 @@ int-to-float-y c = float-need binary64 w64 (c .before .before .args .b) 10000000
 returns : tie.Need-returns
 returns c =
     let st = c .before .before in
-    rep-lt (rep-at (read w64 (st .fits .a)) (rep-ofInt binary64 _)) (rep-at (read w64 (st .fits .b)) (rep-ofInt binary64 _)) (le-trans (st .pre .0) (lit≤ tt)) (le-trans (st .pre .1) (lit≤ tt))
+    rep-lt (rep-at (read w64 (st .fits .a)) (rep-ofInt binary64 _)) (rep-at (read w64 (st .fits .b)) (rep-ofInt binary64 _))
+    (le-trans (st .pre .0) (lit≤ tt)) (le-trans (st .pre .1) (lit≤ tt))
 
 pub float-less-spec : {M : Type 1} → statement M
 float-less-spec = tie.close (tie.spec int-to-float-x int-to-float-y returns)

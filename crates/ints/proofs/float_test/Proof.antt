@@ -26,10 +26,12 @@ int-to-float-b : tie.Need-int-to-float-b
 int-to-float-b c = float-need binary64 w64 (c .before .before .args .t) 1000000000000 (c .before .before .pre .1) tt
 
 returns : tie.Need-returns
-returns c = (λ h. refl, λ h. clashℤ (lt-true refl refl (sym (lt-computed binary64 (env (c .before .before .before)) t (two ⊗ u) tt) ∙ c .if1 .taken)) h)
+returns c =
+    (λ h. refl, λ h. clashℤ (lt-true refl refl (sym (lt-computed binary64 (env (c .before .before .before)) t (two ⊗ u) tt) ∙ c .if1 .taken)) h)
 
 returns-2 : tie.Need-returns-2
-returns-2 c = (λ h. clashℤ h (lt-false refl refl (sym (lt-computed binary64 (env (c .before .before .before)) t (two ⊗ u) tt) ∙ c .if1 .left)), λ h. refl)
+returns-2 c =
+    (λ h. clashℤ h (lt-false refl refl (sym (lt-computed binary64 (env (c .before .before .before)) t (two ⊗ u) tt) ∙ c .if1 .left)), λ h. refl)
 
 pub float-test-spec : {M : Type 1} → statement M
 float-test-spec = tie.close (tie.spec int-to-float-a int-to-float-b returns returns-2)

@@ -11,9 +11,12 @@ use Rattle.ints.specs.Float.{float-need, float-back}
 use Rattle.ints.proofs.float_to_signed.Statement.{statement}
 use Rattle.ints.proofs.float_to_signed.Tie as tie
 
-comes-back : (st : tie.Start) → T (inSigned binary64 (hbits w64) (ofInt binary64 (stored w64 (st .args .a)))) × (toSigned (hbits w64) (ofInt binary64 (stored w64 (st .args .a))) ≡ st .args .a)
+comes-back : (st : tie.Start) →
+    T (inSigned binary64 (hbits w64) (ofInt binary64 (stored w64 (st .args .a)))) ×
+    (toSigned (hbits w64) (ofInt binary64 (stored w64 (st .args .a))) ≡ st .args .a)
 comes-back st =
-    subst (λ (z : ℤ). T (inSigned binary64 (hbits w64) (ofInt binary64 z)) × (toSigned (hbits w64) (ofInt binary64 z) ≡ st .args .a)) (sym (read w64 (st .fits .a)))
+    subst (λ (z : ℤ). T (inSigned binary64 (hbits w64) (ofInt binary64 z)) × (toSigned (hbits w64) (ofInt binary64 z) ≡ st .args .a))
+    (sym (read w64 (st .fits .a)))
     (float-back binary64 (hbits w64) (st .args .a) (le-trans (st .pre) (lit≤ tt)) (st .fits .a .sfits))
 
 int-to-float-x : tie.Need-int-to-float-x

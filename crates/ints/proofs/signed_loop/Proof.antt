@@ -55,7 +55,12 @@ acc-small : (c : Body) → natAbs (total (start c) (i c)) ≤ 961 * 490110
 acc-small c =
     let st = start c in
     let a = st .args .a .now in
-    omega (arith, Σ-abs (i c) (term a (st .args .n) (st .args .s)) 490110 (λ k h. eval-within (st .args .n ∷ pos (getD a k 0) ∷ st .args .s ∷ []) (961 ∷ 255 ∷ 245055 ∷ []) (n ⊗ x ⊖ s) (st .pre .1, (byte c k, (st .pre .2, tt)))))
+    omega (
+      arith,
+      Σ-abs (i c) (term a (st .args .n) (st .args .s)) 490110
+          (λ k h. eval-within (st .args .n ∷ pos (getD a k 0) ∷ st .args .s ∷ []) (961 ∷ 255 ∷ 245055 ∷ []) (n ⊗ x ⊖ s)
+          (st .pre .1, (byte c k, (st .pre .2, tt)))),
+    )
 
 abbrev env : Body → List Cell
 env c =
@@ -92,7 +97,8 @@ loop-less c = omega arith
 loop-again : tie.Need-loop-again Inv-loop μ-loop
 loop-again c = (
   omega arith,
-  computes w64 (env c) (acc ⊕ (n ⊗ x ⊖ s)) tt ∙ sym (Σ-more (i c) (term (start c .args .a .now) (start c .args .n) (start c .args .s))) ∙ sym (given (start c) (i c + 1)),
+  computes w64 (env c) (acc ⊕ (n ⊗ x ⊖ s)) tt ∙ sym (Σ-more (i c) (term (start c .args .a .now) (start c .args .n) (start c .args .s))) ∙ sym
+      (given (start c) (i c + 1)),
 )
 
 returns : tie.Need-returns Inv-loop μ-loop

@@ -25,12 +25,18 @@ add-result : tie.Need-add-result
 add-result c = need w64 (env (c .before)) (u ⊕ w) tt
 
 returns : tie.Need-returns
-returns c =
-    (λ h. computes w64 (env (c .before)) (u ⊖ w) tt, λ h. clashℤ h (le-true (computes w64 (env (c .before)) t tt) (computes w64 (env (c .before)) (# 2 ⊗ u) tt) (c .if1 .taken)))
+returns c = (
+  λ h. computes w64 (env (c .before)) (u ⊖ w) tt,
+  λ h. clashℤ h
+      (le-true (computes w64 (env (c .before)) t tt) (computes w64 (env (c .before)) (# 2 ⊗ u) tt) (c .if1 .taken)),
+)
 
 returns-2 : tie.Need-returns-2
-returns-2 c =
-    (λ h. clashℤ (le-false (computes w64 (env (c .before)) t tt) (computes w64 (env (c .before)) (# 2 ⊗ u) tt) (c .if1 .left)) h, λ h. computes w64 (env (c .before)) (u ⊕ w) tt)
+returns-2 c = (
+  λ h. clashℤ (le-false (computes w64 (env (c .before)) t tt) (computes w64 (env (c .before)) (# 2 ⊗ u) tt) (c .if1 .left)) h,
+  λ h. computes w64
+      (env (c .before)) (u ⊕ w) tt,
+)
 
 pub signed-test-spec : {M : Type 1} → statement M
 signed-test-spec = tie.close (tie.spec mul-if1 sub-result add-result returns returns-2)

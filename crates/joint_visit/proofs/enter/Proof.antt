@@ -39,15 +39,18 @@ returns c =
     let r = c .before .before in
     let k = (built (r .before .before .before .before .before .before)) .build .ensures in
     let v = r .enter .ensures .same in
-    joint-visited _ _ _ _ _ _ _ _ _ _ _ _ (v .state) (record { counts = k .counts; words = k .words; box = v .box }) (record { guided = λ _. r .enter .ensures .guided })
+    joint-visited _ _ _ _ _ _ _ _ _ _ _ _ (v .state) (record { counts = k .counts; words = k .words; box = v .box })
+    (record { guided = λ _. r .enter .ensures .guided })
 
 table-visit-requires : tie.Need-table-visit-requires
 table-visit-requires c κs =
     let i = c .before .before .before in
     let k = built (i .before) in
     let at = begin k in
-    let f = at .pre .0 .0 in
-    ((counted-of (f .planned) (f .column) (f .row) (k .build .ensures), at .pre .1, kind-table (f .planned) (i .if1 .left)), (levels-some (f .planned), omega arith, k .build .ensures .box))
+    let f = at .pre .0 .0 in (
+      (counted-of (f .planned) (f .column) (f .row) (k .build .ensures), at .pre .1, kind-table (f .planned) (i .if1 .left)),
+      (levels-some (f .planned), omega arith, k .build .ensures .box),
+    )
 
 same-length-4 : tie.Need-same-length-4
 same-length-4 c = search needs
@@ -62,7 +65,8 @@ returns-2 c =
     let f = (begin b) .pre .0 .0 .planned in
     let k = b .build .ensures in
     let v = c .table-visit .ensures in
-    joint-visited _ _ _ _ _ _ _ _ _ _ _ _ (v .state) (record { counts = k .counts; words = k .words; box = v .box }) (carried-none f (kind-table f (i .if1 .left)))
+    joint-visited _ _ _ _ _ _ _ _ _ _ _ _ (v .state) (record { counts = k .counts; words = k .words; box = v .box })
+    (carried-none f (kind-table f (i .if1 .left)))
 
 pub enter-spec : {M : Type 1} → statement M
 enter-spec =

@@ -49,7 +49,8 @@ moved x =
     let r = both x in
     let d = step (first r) in
     let at = begin d in
-    joint.exchanged-joint (at .pre .0 .0) (at .pre .0 .1) (d .step-to .ensures) (enters r) (leaves r) (x .exchange .ensures .0) (x .exchange .ensures .1)
+    joint.exchanged-joint (at .pre .0 .0) (at .pre .0 .1) (d .step-to .ensures) (enters r) (leaves r) (x .exchange .ensures .0)
+    (x .exchange .ensures .1)
 
 step-to-requires : tie.Need-step-to-requires
 step-to-requires c κs = let at = c .before .before .before .before .before in (plan-limits (at .pre .0 .0 .planned), at .pre .0 .1)
@@ -121,8 +122,11 @@ moved-requires c κs =
     let d = step (first r) in
     let at = begin d in
     let pl = at .pre .0 .0 .planned in
-    let was = at .pre .0 .2 .guided (kind-is pl (c .before .before .before .before .before .before .before .if1 .taken)) in
-    ((below-most pl (enters r .below), below-most pl (leaves r .below)), movable pl (at .pre .0 .1) (d .step-to .ensures) (enters r) (leaves r) (was .sums))
+    let was = at .pre .0 .2 .guided (kind-is pl (c .before .before .before .before .before .before .before .if1 .taken)) in (
+      (below-most pl (enters r .below), below-most pl (leaves r .below)),
+      movable pl (at .pre .0 .1) (d .step-to .ensures) (enters r) (leaves r)
+          (was .sums),
+    )
 
 sub-exchange-3 : tie.Need-sub-exchange-3
 sub-exchange-3 c = search needs
@@ -131,7 +135,9 @@ part-exchange-start-3 : tie.Need-part-exchange-start-3
 part-exchange-start-3 c = search needs
 
 part-exchange-end-3 : tie.Need-part-exchange-end-3
-part-exchange-end-3 c = let r = first (both (c .before .before .before .before .before .before .before .before .before .before .before .before .before .before .before)) in omega (arith, r .read .ensures .0, r .read .kept .1 .1 .1 .0)
+part-exchange-end-3 c = let r =
+    first (both (c .before .before .before .before .before .before .before .before .before .before .before .before .before .before .before)) in omega
+    (arith, r .read .ensures .0, r .read .kept .1 .1 .1 .0)
 
 sub-exchange-4 : tie.Need-sub-exchange-4
 sub-exchange-4 c = search needs
@@ -140,16 +146,22 @@ part-exchange-start-4 : tie.Need-part-exchange-start-4
 part-exchange-start-4 c = search needs
 
 part-exchange-end-4 : tie.Need-part-exchange-end-4
-part-exchange-end-4 c = let r = both (c .before .before .before .before .before .before .before .before .before .before .before .before .before .before .before .before .before) in omega (arith, r .read2 .ensures .0, r .read2 .kept .1 .1 .1 .0)
+part-exchange-end-4 c = let r =
+    both (c .before .before .before .before .before .before .before .before .before .before .before .before .before .before .before .before .before)
+    in omega (arith, r .read2 .ensures .0, r .read2 .kept .1 .1 .1 .0)
 
 exchange-requires-2 : tie.Need-exchange-requires-2
 exchange-requires-2 c κs =
-    let x = c .before .before .before .before .before .before .before .before .before .before .before .before .before .before .before .before .before .before .before in
+    let x =
+    c .before .before .before .before .before .before .before .before .before .before .before .before .before .before .before .before .before
+    .before .before in
     let r = both x in
     let d = step (first r) in
     let at = begin d in
     let pl = at .pre .0 .0 .planned in
-    let was = at .pre .0 .2 .guided (kind-is pl (c .before .before .before .before .before .before .before .before .before .before .before .before .before .if1 .taken)) in
+    let was =
+    at .pre .0 .2 .guided
+    (kind-is pl (c .before .before .before .before .before .before .before .before .before .before .before .before .before .if1 .taken)) in
     histogram.exchange-asks pl (at .pre .0 .1) (d .step-to .ensures) (enters r) (leaves r) (was .histogram)
 
 sub-arrive : tie.Need-sub-arrive
@@ -159,7 +171,11 @@ part-arrive-start : tie.Need-part-arrive-start
 part-arrive-start c = search needs
 
 part-arrive-end : tie.Need-part-arrive-end
-part-arrive-end c = let r = first (both (c .before .before .before .before .before .before .before .before .before .before .before .before .before .before .before .before .before .before .before .before .before .before .before)) in omega (arith, r .read .ensures .0, r .read .kept .1 .1 .1 .0)
+part-arrive-end c = let r =
+    first
+    (both
+    (c .before .before .before .before .before .before .before .before .before .before .before .before .before .before .before .before .before
+    .before .before .before .before .before .before)) in omega (arith, r .read .ensures .0, r .read .kept .1 .1 .1 .0)
 
 sub-arrive-2 : tie.Need-sub-arrive-2
 sub-arrive-2 c = search needs
@@ -168,7 +184,10 @@ part-arrive-start-2 : tie.Need-part-arrive-start-2
 part-arrive-start-2 c = search needs
 
 part-arrive-end-2 : tie.Need-part-arrive-end-2
-part-arrive-end-2 c = let r = both (c .before .before .before .before .before .before .before .before .before .before .before .before .before .before .before .before .before .before .before .before .before .before .before .before .before) in omega (arith, r .read2 .ensures .0, r .read2 .kept .1 .1 .1 .0)
+part-arrive-end-2 c = let r =
+    both
+    (c .before .before .before .before .before .before .before .before .before .before .before .before .before .before .before .before .before
+    .before .before .before .before .before .before .before .before) in omega (arith, r .read2 .ensures .0, r .read2 .kept .1 .1 .1 .0)
 
 arrive-requires : tie.Need-arrive-requires
 arrive-requires c κs =
@@ -189,31 +208,44 @@ arrive-requires c κs =
         i .if1 .taken,
         histogram.exchanged-histogram pl adj ed (enters r) (leaves r) (was .histogram) (h .exchange2 .kept .1 .1 .1 .0) (h .exchange2 .ensures),
       ),
-      ((sums-moved pl adj ed (enters r) (leaves r) (was .sums) (m .moved .ensures), carries-step pl adj ed (enters r) (leaves r) (was .below)), (at .pre .1 .1 .cut, omega (arith, at .pre .1 .1 .shifts), moved x .box)),
+      (
+        (sums-moved pl adj ed (enters r) (leaves r) (was .sums) (m .moved .ensures), carries-step pl adj ed (enters r) (leaves r) (was .below)),
+        (at .pre .1 .1 .cut, omega (arith, at .pre .1 .1 .shifts), moved x .box),
+      ),
     )
 
 same-length : tie.Need-same-length
-same-length c = c .before .before .before .before .before .before .before .before .before .before .before .before .before .before .before .before .before .before .before .before .before .before .before .before .before .before .before .before .before .before .before .exchange .kept .1 .1 .1 .1 .1 .0
+same-length c =
+    c .before .before .before .before .before .before .before .before .before .before .before .before .before .before .before .before .before .before
+    .before .before .before .before .before .before .before .before .before .before .before .before .before .exchange .kept .1 .1 .1 .1 .1 .0
 
 same-length-2 : tie.Need-same-length-2
-same-length-2 c = c .before .before .before .before .before .before .before .before .before .before .before .before .before .before .before .before .before .before .before .before .before .before .before .before .before .before .before .before .before .before .before .exchange .kept .1 .1 .1 .1 .1 .1 .0
+same-length-2 c =
+    c .before .before .before .before .before .before .before .before .before .before .before .before .before .before .before .before .before .before
+    .before .before .before .before .before .before .before .before .before .before .before .before .before .exchange .kept .1 .1 .1 .1 .1 .1 .0
 
 same-length-3 : tie.Need-same-length-3
 same-length-3 c = search needs
 
 returns : tie.Need-returns
 returns c =
-    let k = moved (c .before .before .before .before .before .before .before .before .before .before .before .before .before .before .before .before .before .before .before .before .before .before .before .before .before .before .before .before .before .before .before) in
+    let k =
+    moved
+    (c .before .before .before .before .before .before .before .before .before .before .before .before .before .before .before .before .before
+    .before .before .before .before .before .before .before .before .before .before .before .before .before .before) in
     let v = c .arrive .ensures .same in
-    joint-visited _ _ _ _ _ _ _ _ _ _ _ _ (v .state) (record { counts = k .counts; words = k .words; box = v .box }) (record { guided = λ _. c .arrive .ensures .guided })
+    joint-visited _ _ _ _ _ _ _ _ _ _ _ _ (v .state) (record { counts = k .counts; words = k .words; box = v .box })
+    (record { guided = λ _. c .arrive .ensures .guided })
 
 table-visit-requires : tie.Need-table-visit-requires
 table-visit-requires c κs =
     let x = c .before .before .before .before .before .before .before .before .before in
     let at = begin (step (first (both x))) in
     let pl = at .pre .0 .0 .planned in
-    let q = both-in (at .pre .0 .1) in
-    ((counted-of pl (q .2) (q .3) (moved x), at .pre .1 .0, kind-table pl (c .before .before .before .if1 .left)), (at .pre .1 .1 .cut, omega (arith, at .pre .1 .1 .shifts), moved x .box))
+    let q = both-in (at .pre .0 .1) in (
+      (counted-of pl (q .2) (q .3) (moved x), at .pre .1 .0, kind-table pl (c .before .before .before .if1 .left)),
+      (at .pre .1 .1 .cut, omega (arith, at .pre .1 .1 .shifts), moved x .box),
+    )
 
 same-length-4 : tie.Need-same-length-4
 same-length-4 c = search needs

@@ -17,9 +17,15 @@ returns c =
     let v = r .arrive-table .ensures in
     record {
       state =
-          state-is (frameOf (at .args .file .now)) (at .args .column) (at .args .row) (at .args .cut .0) (at .args .shifts) (r .arrive-table .result .cut) (r .arrive-table .result .shifts)
+          state-is (frameOf (at .args .file .now)) (at .args .column) (at .args .row) (at .args .cut .0) (at .args .shifts)
+          (r .arrive-table .result .cut) (r .arrive-table .result .shifts)
           (r .arrive-table .result .answer)
-          (record { sums = record { count = 0; sum = 0; squares = 0 }; below = record { count = 0; sum = 0 }; free = record { head = 0; count = 0 } }) (v .cut) (v .shifts) (v .answer);
+          (record {
+            sums = record { count = 0; sum = 0; squares = 0 };
+            below = record { count = 0; sum = 0 };
+            free =
+                record { head = 0; count = 0 };
+          }) (v .cut) (v .shifts) (v .answer);
       box = v .box;
     }
 

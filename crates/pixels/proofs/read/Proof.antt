@@ -31,7 +31,8 @@ level-at-requires : tie.Need-level-at-requires Inv-loop μ-loop
 level-at-requires c κs = let at = start (c .before) in (at .pre .0, at .pre .1 .inside (c .before .loop .k) (c .loop-test .taken))
 
 guide-at-requires : tie.Need-guide-at-requires Inv-loop μ-loop
-guide-at-requires c κs = let t = c .before in let at = start (t .before) in (at .pre .0, at .pre .1 .inside (t .before .loop .k) (t .loop-test .taken))
+guide-at-requires c κs = let t = c .before in let at =
+    start (t .before) in (at .pre .0, at .pre .1 .inside (t .before .loop .k) (t .loop-test .taken))
 
 -- a turn's places are two of the 62
 turn-low : (c : tie.After-guide-at Inv-loop μ-loop) → c .before .before .before .loop .k < 31
@@ -55,7 +56,8 @@ mul-places-2 c = omega (arith, turn-low c)
 slice-write-places-2 : tie.Need-slice-write-places-2 Inv-loop μ-loop
 slice-write-places-2 c =
     let t = c .before .before in
-    rw (length-set (t .before .loop .places) (2 * t .before .loop .k) (c .before .level-at .result .0)) (omega (arith, turn-low c, t .before .loop .inv .1 .long))
+    rw (length-set (t .before .loop .places) (2 * t .before .loop .k) (c .before .level-at .result .0))
+    (omega (arith, turn-low c, t .before .loop .inv .1 .long))
 
 add-k : tie.Need-add-k Inv-loop μ-loop
 add-k c = omega (arith, turn-low c)
@@ -65,8 +67,11 @@ loop-less c = omega (arith, c .before .before .loop-test .taken)
 
 loop-again : tie.Need-loop-again Inv-loop μ-loop
 loop-again c =
-    let t = c .before .before in
-    (omega (arith, t .loop-test .taken), held-next (turn-low c) (t .before .loop .inv .1) (c .before .level-at .ensures) (c .guide-at .ensures), put-long (t .before .loop .places) (t .before .loop .k) (c .before .level-at .result .0) (c .guide-at .result .0) ∙ t .before .loop .inv .2)
+    let t = c .before .before in (
+      omega (arith, t .loop-test .taken),
+      held-next (turn-low c) (t .before .loop .inv .1) (c .before .level-at .ensures) (c .guide-at .ensures),
+      put-long (t .before .loop .places) (t .before .loop .k) (c .before .level-at .result .0) (c .guide-at .result .0) ∙ t .before .loop .inv .2,
+    )
 
 mul-result : tie.Need-mul-result Inv-loop μ-loop
 mul-result c = omega (arith, start (c .before) .pre .1 .few)

@@ -22,7 +22,9 @@ same-length : tie.Need-same-length
 same-length c = search needs
 
 returns : tie.Need-returns
-returns c = called (ap₂ refusalText (c .before .before .before .before .number-of .ensures) (c .before .before .before .offset-of .ensures)) (c .before .before .put-refusal .ensures)
+returns c =
+    called (ap₂ refusalText (c .before .before .before .before .number-of .ensures) (c .before .before .before .offset-of .ensures))
+    (c .before .before .put-refusal .ensures)
 
 pub put-refused-spec : {M : Type 1} → statement M
 put-refused-spec =

@@ -28,7 +28,8 @@ same-length c = search needs
 
 returns-2 : tie.Need-returns-2
 returns-2 c =
-    λ b. called (refused-text b _ _ ∙ sym (ap (λ (v : Verdict). outputText b (numbered v)) (c .before .before .before .before .before .v .given .1))) (c .before .before .put-refused .ensures)
+    λ b. called (refused-text b _ _ ∙ sym (ap (λ (v : Verdict). outputText b (numbered v)) (c .before .before .before .before .before .v .given .1)))
+    (c .before .before .put-refused .ensures)
 
 pub put-verdict-spec : {M : Type 1} → statement M
 put-verdict-spec =

@@ -21,7 +21,8 @@ use Rattle.program.proofs.respond.Tie as tie
 outcome : (d : tie.Else1) → programOutcome (d .before .before .before .before .args .input .now) ≡ accepted
 outcome d = quiet (d .before .before .judge .ensures) (d .before .stops .ensures) (d .if1 .left)
 
-admits : (d : tie.Else1) → Admitted (d .before .before .before .before .args .input .now) (planOf (d .before .before .before .before .args .input .now))
+admits : (d : tie.Else1) →
+    Admitted (d .before .before .before .before .args .input .now) (planOf (d .before .before .before .before .args .input .now))
 admits d = admitted (d .before .before .before .before .args .input .now) refl (outcome d)
 
 judge-requires : tie.Need-judge-requires

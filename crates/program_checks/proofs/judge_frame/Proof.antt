@@ -44,7 +44,8 @@ returns-2 : tie.Need-returns-2
 returns-2 c = let e = c .before .before in past (verdict (bytes e)) (of-picture (bytes e)) (accepts e) (met 12 (picture (c .before)) (c .if2 .taken))
 
 returns-3 : tie.Need-returns-3
-returns-3 c = let e = c .before .before in past (verdict (bytes e)) (of-picture (bytes e)) (accepts e) (sym (unmet 12 (picture (c .before)) (c .if2 .left)))
+returns-3 c = let e =
+    c .before .before in past (verdict (bytes e)) (of-picture (bytes e)) (accepts e) (sym (unmet 12 (picture (c .before)) (c .if2 .left)))
 
 pub judge-frame-spec : {M : Type 1} → statement M
 judge-frame-spec =

@@ -1,4 +1,5 @@
--- The proof of the cycle of calls {put_decimal}. The measure is the number, of which a tenth is left at the call. The digits of the tenth, and the last one behind them, are the number's.
+-- The proof of the cycle of calls {put_decimal}. The measure is the number, of which a tenth is left at the call. The digits of the tenth, and the
+-- last one behind them, are the number's.
 -- Assumes nothing.
 use mathlib.Core.Path.{_≡_, sym, ap}
 use mathlib.Core.List.{[], _∷_}
@@ -69,7 +70,9 @@ put-decimal-returns : (t : ℕ) → put-decimal-lts.Need-returns (
   put-decimal-below t,
   put-decimal.Post,
 ) (put-decimal-at t) put-decimal.Post
-put-decimal-returns t c = called (sym (decimal-low (c .before .before .before .before .before .before .args .n) (c .before .before .before .before .if1 .taken))) (c .before .before .put-byte .ensures)
+put-decimal-returns t c =
+    called (sym (decimal-low (c .before .before .before .before .before .before .args .n) (c .before .before .before .before .if1 .taken)))
+    (c .before .before .put-byte .ensures)
 
 put-decimal-put-decimal-requires : (t : ℕ) → put-decimal-lts.Need-put-decimal-requires (
   put-byte-reads.Asked,
@@ -79,8 +82,11 @@ put-decimal-put-decimal-requires : (t : ℕ) → put-decimal-lts.Need-put-decima
 ) (put-decimal-at t) put-decimal.Post
 put-decimal-put-decimal-requires t c κs =
     let s = c .before .before .before in
-    let e = decimal-high (s .args .n) (c .before .if1 .left) (s .fits .n .fits) in
-    (omega (arith, s .pre .0, c .before .if1 .left), room-first (s .args .out .now) (s .args .at) (decimal (s .args .n / 10)) ((48 + s .args .n % 10) ∷ []) (rw e at (s .pre .1)))
+    let e = decimal-high (s .args .n) (c .before .if1 .left) (s .fits .n .fits) in (
+      omega (arith, s .pre .0, c .before .if1 .left),
+      room-first (s .args .out .now) (s .args .at) (decimal (s .args .n / 10))
+          ((48 + s .args .n % 10) ∷ []) (rw e at (s .pre .1)),
+    )
 
 put-decimal-put-byte-requires-2 : (t : ℕ) → put-decimal-lts.Need-put-byte-requires-2 (
   put-byte-reads.Asked,
@@ -99,7 +105,8 @@ put-decimal-same-length-2 : (t : ℕ) → put-decimal-lts.Need-same-length-2 (
   put-decimal-below t,
   put-decimal.Post,
 ) (put-decimal-at t) put-decimal.Post
-put-decimal-same-length-2 t c = as-long (joined (c .before .before .before .before .before .before .put-decimal .ensures) (c .before .before .put-byte2 .ensures))
+put-decimal-same-length-2 t c =
+    as-long (joined (c .before .before .before .before .before .before .put-decimal .ensures) (c .before .before .put-byte2 .ensures))
 
 put-decimal-returns-2 : (t : ℕ) → put-decimal-lts.Need-returns-2 (
   put-byte-reads.Asked,
@@ -109,7 +116,8 @@ put-decimal-returns-2 : (t : ℕ) → put-decimal-lts.Need-returns-2 (
 ) (put-decimal-at t) put-decimal.Post
 put-decimal-returns-2 t c =
     let s = c .before .before .before .before .before .before .before .before .before .before in
-    called (sym (decimal-high (s .args .n) (c .before .before .before .before .before .before .before .before .if1 .left) (s .fits .n .fits))) (joined (c .before .before .before .before .before .before .put-decimal .ensures) (c .before .before .put-byte2 .ensures))
+    called (sym (decimal-high (s .args .n) (c .before .before .before .before .before .before .before .before .if1 .left) (s .fits .n .fits)))
+    (joined (c .before .before .before .before .before .before .put-decimal .ensures) (c .before .before .put-byte2 .ensures))
 
 pub +put-decimal-spec : {M : Type 1} → statement M
 +put-decimal-spec = close μ-put-decimal λ t. put-decimal-lts.spec (

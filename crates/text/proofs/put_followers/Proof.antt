@@ -31,12 +31,15 @@ shared-slice-read-put-spaced : tie.Need-shared-slice-read-put-spaced Inv-loop μ
 shared-slice-read-put-spaced c = omega (arith, c .before .before .before .before .before .before .pre .0)
 
 cast-put-spaced : tie.Need-cast-put-spaced Inv-loop μ-loop
-cast-put-spaced c = omega (arith, c .shared-slice-known2 .given (c .before .before .before .before .before .before .args .first + (c .before .before .before .loop .k + 1)))
+cast-put-spaced c =
+    omega
+    (arith, c .shared-slice-known2 .given (c .before .before .before .before .before .before .args .first + (c .before .before .before .loop .k + 1)))
 
 put-spaced-requires : tie.Need-put-spaced-requires Inv-loop μ-loop
 put-spaced-requires c κs =
     let s = c .before .before .before .before .before .before in
-    room-piece (follower (s .args .plane .now) (s .args .first)) (c .before .before .before .loop .k) (s .args .n) (c .before .before .loop-test .taken) (s .pre .1) (c .before .before .before .loop .inv .1)
+    room-piece (follower (s .args .plane .now) (s .args .first)) (c .before .before .before .loop .k) (s .args .n)
+    (c .before .before .loop-test .taken) (s .pre .1) (c .before .before .before .loop .inv .1)
 
 add-k : tie.Need-add-k Inv-loop μ-loop
 add-k c = omega arith
@@ -46,8 +49,11 @@ loop-less c = omega arith
 
 loop-again : tie.Need-loop-again Inv-loop μ-loop
 loop-again c =
-    let s = c .before .before .before .before .before .before .before .before .before in
-    (omega arith, joined-piece (follower (s .args .plane .now) (s .args .first)) (c .before .before .before .before .before .before .loop .k) (c .before .before .before .before .before .before .loop .inv .1) (c .before .before .put-spaced .ensures))
+    let s = c .before .before .before .before .before .before .before .before .before in (
+      omega arith,
+      joined-piece (follower (s .args .plane .now) (s .args .first)) (c .before .before .before .before .before .before .loop .k)
+          (c .before .before .before .before .before .before .loop .inv .1) (c .before .before .put-spaced .ensures),
+    )
 
 same-length : tie.Need-same-length Inv-loop μ-loop
 same-length c = as-long (c .before .loop .inv .1)

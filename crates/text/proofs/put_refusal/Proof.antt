@@ -17,7 +17,9 @@ use Rattle.text.proofs.put_refusal.Tie as tie
 -- room for the word and the number, whatever the number
 head : (s : tie.Start) → Room (s .args .out .now) (s .args .at) (refusedWord ++ decimal (s .args .number))
 unfolding refusalText
-head s = room-line (s .args .out .now) (s .args .at) (refusedWord ++ decimal (s .args .number)) (beside (if eqb (s .args .number) 7 then s .args .offset ∷ [] else [])) (s .pre)
+head s =
+    room-line (s .args .out .now) (s .args .at) (refusedWord ++ decimal (s .args .number))
+    (beside (if eqb (s .args .number) 7 then s .args .offset ∷ [] else [])) (s .pre)
 
 -- and for the end of the line behind them
 ended : (s : tie.Start) → Room (s .args .out .now) (s .args .at) (refusedWord ++ decimal (s .args .number) ++ (10 ∷ []))
@@ -40,7 +42,8 @@ put-decimal-requires c κs =
 put-byte-requires : tie.Need-put-byte-requires
 put-byte-requires c κs =
     let s = c .before .before .before .before .before .before .before .before .before .before .before .before in
-    room-end (ended s) (c .before .before .before .before .before .before .before .before .put-word .ensures) (c .before .before .before .before .put-decimal .ensures)
+    room-end (ended s) (c .before .before .before .before .before .before .before .before .put-word .ensures)
+    (c .before .before .before .before .put-decimal .ensures)
 
 same-length : tie.Need-same-length
 same-length c = search needs
@@ -49,26 +52,39 @@ returns : tie.Need-returns
 returns c =
     let s = c .before .before .before .before .before .before .before .before .before .before .before .before .before .before .before in
     called (sym (refusal-plain (s .args .number) (s .args .offset) (c .before .before .before .before .if1 .taken)))
-    (joined (joined (c .before .before .before .before .before .before .before .before .before .before .before .put-word .ensures) (c .before .before .before .before .before .before .before .put-decimal .ensures)) (c .before .before .put-byte .ensures))
+    (joined
+    (joined (c .before .before .before .before .before .before .before .before .before .before .before .put-word .ensures)
+    (c .before .before .before .before .before .before .before .put-decimal .ensures)) (c .before .before .put-byte .ensures))
 
 put-spaced-requires : tie.Need-put-spaced-requires
 put-spaced-requires c κs =
     let s = c .before .before .before .before .before .before .before .before .before .before .before .before in
-    room-second (spacedOne (s .args .offset)) (rw (refusal-seven (s .args .number) (s .args .offset) (c .before .if1 .left)) at (s .pre)) (joined (c .before .before .before .before .before .before .before .before .put-word .ensures) (c .before .before .before .before .put-decimal .ensures))
+    room-second (spacedOne (s .args .offset)) (rw (refusal-seven (s .args .number) (s .args .offset) (c .before .if1 .left)) at (s .pre))
+    (joined (c .before .before .before .before .before .before .before .before .put-word .ensures)
+    (c .before .before .before .before .put-decimal .ensures))
 
 put-byte-requires-2 : tie.Need-put-byte-requires-2
 put-byte-requires-2 c κs =
     let s = c .before .before .before .before .before .before .before .before .before .before .before .before .before .before .before .before in
-    room-end (rw (refusal-seven (s .args .number) (s .args .offset) (c .before .before .before .before .before .if1 .left)) at (s .pre)) (joined (c .before .before .before .before .before .before .before .before .before .before .before .before .put-word .ensures) (c .before .before .before .before .before .before .before .before .put-decimal .ensures)) (c .before .before .before .put-spaced .ensures)
+    room-end (rw (refusal-seven (s .args .number) (s .args .offset) (c .before .before .before .before .before .if1 .left)) at (s .pre))
+    (joined (c .before .before .before .before .before .before .before .before .before .before .before .before .put-word .ensures)
+    (c .before .before .before .before .before .before .before .before .put-decimal .ensures)) (c .before .before .before .put-spaced .ensures)
 
 same-length-2 : tie.Need-same-length-2
 same-length-2 c = search needs
 
 returns-2 : tie.Need-returns-2
 returns-2 c =
-    let s = c .before .before .before .before .before .before .before .before .before .before .before .before .before .before .before .before .before .before .before in
+    let s =
+    c .before .before .before .before .before .before .before .before .before .before .before .before .before .before .before .before .before
+    .before .before in
     called (sym (refusal-seven (s .args .number) (s .args .offset) (c .before .before .before .before .before .before .before .before .if1 .left)))
-    (joined (joined (joined (c .before .before .before .before .before .before .before .before .before .before .before .before .before .before .before .put-word .ensures) (c .before .before .before .before .before .before .before .before .before .before .before .put-decimal .ensures)) (c .before .before .before .before .before .before .put-spaced .ensures)) (c .before .before .put-byte2 .ensures))
+    (joined
+    (joined
+    (joined
+    (c .before .before .before .before .before .before .before .before .before .before .before .before .before .before .before .put-word
+    .ensures) (c .before .before .before .before .before .before .before .before .before .before .before .put-decimal .ensures))
+    (c .before .before .before .before .before .before .put-spaced .ensures)) (c .before .before .put-byte2 .ensures))
 
 pub put-refusal-spec : {M : Type 1} → statement M
 put-refusal-spec =

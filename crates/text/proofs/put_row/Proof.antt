@@ -24,24 +24,39 @@ cast-put-decimal c = omega (arith, c .shared-slice-known2 .given (c .before .bef
 put-decimal-requires : tie.Need-put-decimal-requires
 put-decimal-requires c κs =
     let s = c .before .before .before .before in
-    room-line (s .args .out .now) (s .args .at) (decimal (getD (s .args .plane .now) (s .args .first) 0)) (pieces (follower (s .args .plane .now) (s .args .first)) (s .args .width - 1)) (rw row-pieces at (s .pre .1))
+    room-line (s .args .out .now) (s .args .at) (decimal (getD (s .args .plane .now) (s .args .first) 0))
+    (pieces (follower (s .args .plane .now) (s .args .first)) (s .args .width - 1)) (rw row-pieces at (s .pre .1))
 
 sub-put-followers : tie.Need-sub-put-followers
 sub-put-followers c = search needs
 
 put-followers-requires : tie.Need-put-followers-requires
 put-followers-requires c κs =
-    let s = c .before .before .before .before .before .before .before .before in
-    (omega (arith, s .pre .0), room-second (pieces (follower (s .args .plane .now) (s .args .first)) (s .args .width - 1)) (rw row-pieces at (s .pre .1)) (c .before .before .before .put-decimal .ensures))
+    let s = c .before .before .before .before .before .before .before .before in (
+      omega (arith, s .pre .0),
+      room-second (pieces (follower (s .args .plane .now) (s .args .first)) (s .args .width - 1))
+          (rw row-pieces at (s .pre .1)) (c .before .before .before .put-decimal .ensures),
+    )
 
 put-byte-requires : tie.Need-put-byte-requires
-put-byte-requires c κs = room-end (rw row-pieces at (c .before .before .before .before .before .before .before .before .before .before .before .before .pre .1)) (c .before .before .before .before .before .before .before .put-decimal .ensures) (c .before .before .before .put-followers .ensures)
+put-byte-requires c κs =
+    room-end (rw row-pieces at (c .before .before .before .before .before .before .before .before .before .before .before .before .pre .1))
+    (c .before .before .before .before .before .before .before .put-decimal .ensures) (c .before .before .before .put-followers .ensures)
 
 same-length : tie.Need-same-length
 same-length c = search needs
 
 returns : tie.Need-returns
-returns c = called (sym (row-pieces (c .before .before .before .before .before .before .before .before .before .before .before .before .before .before .before .args .plane .now) (c .before .before .before .before .before .before .before .before .before .before .before .before .before .before .before .args .first) (c .before .before .before .before .before .before .before .before .before .before .before .before .before .before .before .args .width))) (joined (joined (c .before .before .before .before .before .before .before .before .before .before .put-decimal .ensures) (c .before .before .before .before .before .before .put-followers .ensures)) (c .before .before .put-byte .ensures))
+returns c =
+    called
+    (sym
+    (row-pieces
+    (c .before .before .before .before .before .before .before .before .before .before .before .before .before .before .before .args .plane .now)
+    (c .before .before .before .before .before .before .before .before .before .before .before .before .before .before .before .args .first)
+    (c .before .before .before .before .before .before .before .before .before .before .before .before .before .before .before .args .width)))
+    (joined
+    (joined (c .before .before .before .before .before .before .before .before .before .before .put-decimal .ensures)
+    (c .before .before .before .before .before .before .put-followers .ensures)) (c .before .before .put-byte .ensures))
 
 pub put-row-spec : {M : Type 1} → statement M
 put-row-spec =

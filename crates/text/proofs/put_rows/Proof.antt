@@ -46,8 +46,11 @@ unfolding planeText
 loop-again c =
     let s = c .before .before .before .before .before .before .before .before in
     let m = s .args .plane .now in
-    let w = s .args .width in
-    (omega arith, joined-piece (λ j. rowText m (j * w) w) (c .before .before .before .before .before .loop .t) (c .before .before .before .before .before .loop .inv .1) (c .before .before .put-row .ensures))
+    let w = s .args .width in (
+      omega arith,
+      joined-piece (λ j. rowText m (j * w) w) (c .before .before .before .before .before .loop .t)
+          (c .before .before .before .before .before .loop .inv .1) (c .before .before .put-row .ensures),
+    )
 
 same-length : tie.Need-same-length Inv-loop μ-loop
 same-length c = as-long (c .before .loop .inv .1)

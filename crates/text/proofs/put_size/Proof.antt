@@ -27,14 +27,18 @@ put-byte-requires : tie.Need-put-byte-requires
 put-byte-requires c κs =
     let e = c .before .before .before .before .before .before .before .put-decimal .ensures in
     let f = c .before .before .before .put-spaced .ensures in
-    omega (arith, room (c .before .before .before .before .before .before .before .before .before .before), e .behind, as-long e, f .behind, as-long f)
+    omega
+    (arith, room (c .before .before .before .before .before .before .before .before .before .before), e .behind, as-long e, f .behind, as-long f)
 
 same-length : tie.Need-same-length
 same-length c = search needs
 
 returns : tie.Need-returns
 unfolding sizeText
-returns c = joined (joined (c .before .before .before .before .before .before .before .before .before .before .put-decimal .ensures) (c .before .before .before .before .before .before .put-spaced .ensures)) (c .before .before .put-byte .ensures)
+returns c =
+    joined
+    (joined (c .before .before .before .before .before .before .before .before .before .before .put-decimal .ensures)
+    (c .before .before .before .before .before .before .put-spaced .ensures)) (c .before .before .put-byte .ensures)
 
 pub put-size-spec : {M : Type 1} → statement M
 put-size-spec =

@@ -13,7 +13,16 @@ use Rattle.pixels.specs.Pixels.{LinePixels}
 use Rattle.pixels.proofs.Laws.{line-part}
 use Rattle.chain_list.specs.Chain.{Beyond}
 use Rattle.chain.specs.Lines.{nodesOf}
-use Rattle.chain.proofs.MoveLaws.{ColumnsListed, store-size, columns-empty, columns-insertable, columns-beyond, columns-inserted, columns-listed, listed-stored}
+use Rattle.chain.proofs.MoveLaws.{
+  ColumnsListed,
+  store-size,
+  columns-empty,
+  columns-insertable,
+  columns-beyond,
+  columns-inserted,
+  columns-listed,
+  listed-stored,
+}
 use Rattle.chain.proofs.moves.start.Statement.{statement}
 use Rattle.chain.proofs.moves.start.Tie as tie
 
@@ -38,11 +47,14 @@ abbrev start : tie.At-loop Inv-loop μ-loop → tie.Start Inv-loop μ-loop
 start h = sized h .before .before .before
 
 -- the column of a turn
-within : (c : tie.In-loop Inv-loop μ-loop) → c .before .loop .k < span (start (c .before) .args .plan .radius) (start (c .before) .args .s) (start (c .before) .args .plan .width)
+within : (c : tie.In-loop Inv-loop μ-loop) →
+    c .before .loop .k < span (start (c .before) .args .plan .radius) (start (c .before) .args .s) (start (c .before) .args .plan .width)
 within c = subst (λ (n : ℕ). c .before .loop .k < n) (spanned (c .before) .span-of .ensures) (c .loop-test .taken)
 
 wide : (c : tie.In-loop Inv-loop μ-loop) → spanned (c .before) .before .low .result + c .before .loop .k < start (c .before) .args .plan .width
-wide c = subst (λ (n : ℕ). n + c .before .loop .k < start (c .before) .args .plan .width) (sym (spanned (c .before) .before .low .ensures)) (span-in _ _ _ _ (within c))
+wide c =
+    subst (λ (n : ℕ). n + c .before .loop .k < start (c .before) .args .plan .width) (sym (spanned (c .before) .before .low .ensures))
+    (span-in _ _ _ _ (within c))
 
 node-count-requires : tie.Need-node-count-requires Inv-loop μ-loop
 node-count-requires c κs = let at = c .before .before in plan-limits (at .pre .0) .radius
@@ -64,8 +76,12 @@ loop-holds : tie.Need-loop-holds Inv-loop μ-loop
 loop-holds c =
     let k = c .before .before in
     let z = k .before .before .before .before in
-    let at = z .before .before .before in
-    (columns-empty (at .pre .0) _ _ (at .pre .1 .0 .0) (at .pre .1 .0 .1) _ (rw (z .node-count .ensures .0) at (k .clear .ensures)), omega arith, refl, λ j h. refl)
+    let at = z .before .before .before in (
+      columns-empty (at .pre .0) _ _ (at .pre .1 .0 .0) (at .pre .1 .0 .1) _ (rw (z .node-count .ensures .0) at (k .clear .ensures)),
+      omega arith,
+      refl,
+      λ j h. refl,
+    )
 
 add-column-line : tie.Need-add-column-line Inv-loop μ-loop
 add-column-line c = omega (arith, wide c, plan-limits (start (c .before) .pre .0) .width)
@@ -84,9 +100,11 @@ line-is : (r : tie.After-read Inv-loop μ-loop) → let at = start (turn r .befo
     line r .column-line .result ≡ columnLine (at .args .plan) (at .args .s - at .args .plan .radius + turn r .before .loop .k) (at .args .t)
 line-is r =
     let h = turn r .before in
-    line r .column-line .ensures ∙ ap (λ (x : ℕ). columnLine (start h .args .plan) (x + h .loop .k) (start h .args .t)) (spanned h .before .low .ensures)
+    line r .column-line .ensures ∙ ap (λ (x : ℕ). columnLine (start h .args .plan) (x + h .loop .k) (start h .args .t))
+    (spanned h .before .low .ensures)
 
-listed : (r : tie.After-read Inv-loop μ-loop) → let at = start (turn r .before) in LinePixels (at .args .file .now) (at .args .plan) (line r .column-line .result)
+listed : (r : tie.After-read Inv-loop μ-loop) → let at =
+    start (turn r .before) in LinePixels (at .args .file .now) (at .args .plan) (line r .column-line .result)
     (take (r .read .result - 0) (drop 0 (r .read .last .1 .1 .1 .0)))
 listed r = line-part (r .read .result) (r .read .last .1 .1 .1 .0) (r .read .ensures .1)
 
@@ -135,10 +153,12 @@ loop-again c =
     let h = turn r .before in
     let at = start h in
     let v = h .loop .inv in (
-      columns-inserted (at .pre .0) _ _ (at .pre .1 .0 .0) (at .pre .1 .0 .1) (within (turn r)) (line-is r) (listed r) (v .0) (n .merge-line .ensures),
+      columns-inserted (at .pre .0) _ _ (at .pre .1 .0 .0) (at .pre .1 .0 .1) (within (turn r)) (line-is r) (listed r) (v .0)
+          (n .merge-line .ensures),
       omega (arith, turn r .loop-test .taken),
       n .merge-line .kept .1 .1 .1 .0 ∙ v .2,
-      λ j b. columns-beyond (at .pre .0) _ _ (at .pre .1 .0 .0) (at .pre .1 .0 .1) (within (turn r)) (line-is r) (listed r) (v .0) (n .merge-line .ensures) j b ∙ v .3 j b,
+      λ j b. columns-beyond (at .pre .0) _ _ (at .pre .1 .0 .0) (at .pre .1 .0 .1) (within (turn r)) (line-is r) (listed r) (v .0)
+          (n .merge-line .ensures) j b ∙ v .3 j b,
     )
 
 same-length : tie.Need-same-length Inv-loop μ-loop
@@ -149,7 +169,8 @@ returns c =
     let h = c .before in
     let at = start h in
     let v = h .loop .inv in
-    let e : h .loop .k ≡ span (at .args .plan .radius) (at .args .s) (at .args .plan .width) = omega (arith, v .1, c .loop-test .left, spanned h .span-of .ensures) in
+    let e : h .loop .k ≡ span (at .args .plan .radius) (at .args .s) (at .args .plan .width) =
+    omega (arith, v .1, c .loop-test .left, spanned h .span-of .ensures) in
     listed-stored (at .pre .0) _ _ _ (v .2 ∙ cleared h .clear .kept .0)
     (λ j b. v .3 j b ∙ cleared h .clear .ensures .beyond j (rw (sized h .node-count .ensures .0) b))
     (columns-listed (at .pre .0) _ _ (at .pre .1 .0 .0) (at .pre .1 .0 .1) (rw e at (v .0)))

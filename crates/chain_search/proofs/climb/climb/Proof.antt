@@ -4,7 +4,22 @@ use mathlib.Core.Path.{sym}
 use native.Mathlib.Omega.{arith}
 use borrow.Author.Needs.{needs}
 use Rattle.chain_search.specs.Climb.{Climbs}
-use Rattle.chain_search.proofs.ClimbLaws.{ahead, AtNode, node-start, first-in, node-from, node-in, node-count, node-sum, node-level, node-last, node-here, next-in, node-next, node-less}
+use Rattle.chain_search.proofs.ClimbLaws.{
+  ahead,
+  AtNode,
+  node-start,
+  first-in,
+  node-from,
+  node-in,
+  node-count,
+  node-sum,
+  node-level,
+  node-last,
+  node-here,
+  next-in,
+  node-next,
+  node-less,
+}
 use Rattle.chain_search.proofs.climb.climb.Statement.{statement}
 use Rattle.chain_search.proofs.climb.climb.Tie as tie
 
@@ -19,7 +34,9 @@ abbrev start : tie.At-loop Inv-loop μ-loop → tie.Start Inv-loop μ-loop
 start h = h .before .before .before .before .before
 
 -- the state there, at the list of the `requires`
-state : (h : tie.At-loop Inv-loop μ-loop) → AtNode (start h .args .levels) (start h .args .numbers .now) (start h .args .coefficients) (start h .pre .0) (h .loop .count) (h .loop .sum) (h .loop .at) (h .loop .next)
+state : (h : tie.At-loop Inv-loop μ-loop) →
+    AtNode (start h .args .levels) (start h .args .numbers .now) (start h .args .coefficients) (start h .pre .0) (h .loop .count) (h .loop .sum)
+    (h .loop .at) (h .loop .next)
 state h = h .loop .inv (start h .pre .0)
 
 shared-slice-read-place : tie.Need-shared-slice-read-place Inv-loop μ-loop
@@ -32,7 +49,8 @@ mul-next : tie.Need-mul-next Inv-loop μ-loop
 mul-next c = let st = c .before .before .before in omega (arith, c .place .ensures, first-in (st .pre .0) (st .pre .1 .1 .1), st .good)
 
 shared-slice-read-next : tie.Need-shared-slice-read-next Inv-loop μ-loop
-shared-slice-read-next c = let st = c .before .before .before .before in omega (arith, c .before .place .ensures, first-in (st .pre .0) (st .pre .1 .1 .1))
+shared-slice-read-next c = let st =
+    c .before .before .before .before in omega (arith, c .before .place .ensures, first-in (st .pre .0) (st .pre .1 .1 .1))
 
 loop-holds : tie.Need-loop-holds Inv-loop μ-loop
 loop-holds c = let st = c .before .before .before .before in λ a. node-start (st .pre .1 .1 .1) (c .before .place .ensures)

@@ -28,7 +28,11 @@ loop-less : tie.Need-loop-less Inv-loop μ-loop
 loop-less c = omega (arith, c .loop-test .taken)
 
 loop-again : tie.Need-loop-again Inv-loop μ-loop
-loop-again c = (omega (arith, c .loop-test .taken), clear-more _ (c .before .loop .inv .1) (omega (arith, c .loop-test .taken, c .before .loop .inv .1 .len, c .before .before .pre)))
+loop-again c = (
+  omega (arith, c .loop-test .taken),
+  clear-more _ (c .before .loop .inv .1)
+      (omega (arith, c .loop-test .taken, c .before .loop .inv .1 .len, c .before .before .pre)),
+)
 
 same-length : tie.Need-same-length Inv-loop μ-loop
 same-length c = c .before .loop .inv .1 .len

@@ -12,7 +12,14 @@ update-block-requires : tie.Need-update-block-requires
 update-block-requires c κs =
     let st = c .before .before in
     let i = st .pre .0 .3 in (
-      (st .pre .0 .1, omega (arith, st .pre .0 .0), omega (arith, i .entering-small), omega (arith, i .leaving-small), blocks-in (st .args .w) (st .args .l) _ (st .pre .0 .2) .0),
+      (
+        st .pre .0 .1,
+        omega (arith, st .pre .0 .0),
+        omega (arith, i .entering-small),
+        omega (arith, i .leaving-small),
+        blocks-in (st .args .w)
+            (st .args .l) _ (st .pre .0 .2) .0,
+      ),
       (((λ o. omega (arith, i .entering o)), λ o. omega (arith, i .leaving o)), st .pre .1 .counts),
     )
 

@@ -13,13 +13,16 @@ use Rattle.columns.proofs.store.slide.Statement.{statement}
 use Rattle.columns.proofs.store.slide.Tie as tie
 
 vertical-requires : tie.Need-vertical-requires
-vertical-requires c κs = let st = c .before .before .before .before in let k = along-is (st .pre .1 .0) (c .before .if1 .taken) in (st .pre .0, (k, st .pre .1 .1))
+vertical-requires c κs = let st = c .before .before .before .before in let k =
+    along-is (st .pre .1 .0) (c .before .if1 .taken) in (st .pre .0, (k, st .pre .1 .1))
 
 same-length : tie.Need-same-length
 same-length c = search needs
 
 returns : tie.Need-returns
-returns c = let st = c .before .before .before .before .before .before .before in let p = frameOf (st .args .file .now) in c .before .before .vertical .ensures ∙ ap (λ (q : ℕ). columnStore p q (st .args .t2) ++ drop (storeSize p) (st .args .numbers .now)) (c .before .before .before .before .if1 .taken)
+returns c = let st = c .before .before .before .before .before .before .before in let p =
+    frameOf (st .args .file .now) in c .before .before .vertical .ensures ∙ ap
+    (λ (q : ℕ). columnStore p q (st .args .t2) ++ drop (storeSize p) (st .args .numbers .now)) (c .before .before .before .before .if1 .taken)
 
 exchange-of-requires : tie.Need-exchange-of-requires
 exchange-of-requires c κs =
@@ -52,7 +55,8 @@ returns-2 c =
     let st = x .before .before .before .before in
     let k = across-is (st .pre .1 .0) (x .before .if1 .left) in
     let p = frameOf (st .args .file .now) in
-    sideways-done (st .pre .0) (st .args .s) (st .args .t) (st .args .numbers .now) (st .pre .1 .1) (k .0) (x .exchange-of .ensures) _ (c .before .before .sideways .ensures)
+    sideways-done (st .pre .0) (st .args .s) (st .args .t) (st .args .numbers .now) (st .pre .1 .1) (k .0) (x .exchange-of .ensures) _
+    (c .before .before .sideways .ensures)
     ∙ ap (λ (q : ℕ). columnStore p (st .args .s2) q ++ drop (storeSize p) (st .args .numbers .now)) (sym (k .1))
 
 pub slide-spec : {M : Type 1} → statement M

@@ -20,8 +20,15 @@ Inv-loop file z numbers₀ s t n top rows k₀ numbers k = Piled true (z .levels
 abbrev μ-loop : tie.MeasureT-loop
 μ-loop file z numbers₀ s t n top rows k₀ numbers k = rows - k
 
-in-rows : (c : tie.In-loop Inv-loop μ-loop) → c .before .before .before .low .result + c .before .loop .k < c .before .before .before .before .before .before .before .before .before .before .before .before .args .plan .height
-in-rows c = rw (c .before .before .before .low .ensures) (span-in (c .before .before .before .before .before .before .before .before .before .before .before .before .args .plan .radius) (c .before .before .before .before .before .before .before .before .before .before .before .before .args .t) (c .before .before .before .before .before .before .before .before .before .before .before .before .args .plan .height) (c .before .loop .k) (subst (λ (n : ℕ). c .before .loop .k < n) (c .before .before .span-of .ensures) (c .loop-test .taken)))
+in-rows : (c : tie.In-loop Inv-loop μ-loop) →
+    c .before .before .before .low .result + c .before .loop .k < c .before .before .before .before .before .before .before .before .before .before
+    .before .before .args .plan .height
+in-rows c =
+    rw (c .before .before .before .low .ensures)
+    (span-in (c .before .before .before .before .before .before .before .before .before .before .before .before .args .plan .radius)
+    (c .before .before .before .before .before .before .before .before .before .before .before .before .args .t)
+    (c .before .before .before .before .before .before .before .before .before .before .before .before .args .plan .height) (c .before .loop .k)
+    (subst (λ (n : ℕ). c .before .loop .k < n) (c .before .before .span-of .ensures) (c .loop-test .taken)))
 
 mul-n : tie.Need-mul-n Inv-loop μ-loop
 mul-n c = omega (arith, size-small (c .before .before .before .pre .0))
@@ -42,31 +49,64 @@ low-requires : tie.Need-low-requires Inv-loop μ-loop
 low-requires c κs = tt
 
 span-of-requires : tie.Need-span-of-requires Inv-loop μ-loop
-span-of-requires c κs = let st = c .before .before .before .before .before .before .before .before .before in (st .pre .1 .1, plan-limits (st .pre .0) .height, plan-limits (st .pre .0) .radius)
+span-of-requires c κs = let st =
+    c .before .before .before .before .before .before .before .before .before in
+    (st .pre .1 .1, plan-limits (st .pre .0) .height, plan-limits (st .pre .0) .radius)
 
 loop-holds : tie.Need-loop-holds Inv-loop μ-loop
 loop-holds c = pile-start _ _ _ _ _ _
 
 add-count-row : tie.Need-add-count-row Inv-loop μ-loop
-add-count-row c = omega (arith, in-rows (c .before), plan-limits (c .before .before .before .before .before .before .before .before .before .before .before .before .before .pre .0) .height)
+add-count-row c =
+    omega (
+      arith,
+      in-rows (c .before),
+      plan-limits
+          (c .before .before .before .before .before .before .before .before .before .before .before .before .before .pre .0) .height,
+    )
 
 count-row-requires : tie.Need-count-row-requires Inv-loop μ-loop
-count-row-requires c κs = let st = c .before .before .before .before .before .before .before .before .before .before .before .before .before in let cl = c .before .before .before .before .before .before .before .clear .ensures in let v = c .before .before .loop .inv in (st .pre .0, ((st .pre .1 .0, in-rows (c .before), le-trans (size-in (st .pre .0) (st .pre .1 .2)) (le-of-eq (sym (v .put .len ∙ cl .len)))), pile-able v (c .before .loop-test .taken) (start-able (st .pre .0) (st .args .s) (st .args .t) (c .before .before .before .before .low .ensures) (c .before .before .before .span-of .ensures) (st .args .numbers .now) _ cl (λ j. omega (arith, c .before .before .before .before .before .before .before .before .before .before .before .slice-known .given j)))))
+count-row-requires c κs = let st =
+    c .before .before .before .before .before .before .before .before .before .before .before .before .before in let cl =
+    c .before .before .before .before .before .before .before .clear .ensures in let v =
+    c .before .before .loop .inv in (
+      st .pre .0,
+      (
+        (st .pre .1 .0, in-rows (c .before), le-trans (size-in (st .pre .0) (st .pre .1 .2)) (le-of-eq (sym (v .put .len ∙ cl .len)))),
+        pile-able v
+            (c .before .loop-test .taken)
+            (start-able (st .pre .0) (st .args .s) (st .args .t) (c .before .before .before .before .low .ensures)
+            (c .before .before .before .span-of .ensures) (st .args .numbers .now) _ cl
+            (λ j. omega (arith, c .before .before .before .before .before .before .before .before .before .before .before .slice-known .given j))),
+      ),
+    )
 
 add-k : tie.Need-add-k Inv-loop μ-loop
-add-k c = omega (arith, in-rows (c .before .before .before .before), plan-limits (c .before .before .before .before .before .before .before .before .before .before .before .before .before .before .before .before .pre .0) .height)
+add-k c =
+    omega (
+      arith,
+      in-rows (c .before .before .before .before),
+      plan-limits
+          (c .before .before .before .before .before .before .before .before .before .before .before .before .before .before .before .before .pre .0)
+          .height,
+    )
 
 loop-less : tie.Need-loop-less Inv-loop μ-loop
 loop-less c = omega (arith, c .before .before .before .before .loop-test .taken)
 
 loop-again : tie.Need-loop-again Inv-loop μ-loop
-loop-again c = pile-next (c .before .before .before .before .before .loop .inv) (c .before .before .before .before .loop-test .taken) (c .before .before .count-row .ensures)
+loop-again c =
+    pile-next (c .before .before .before .before .before .loop .inv) (c .before .before .before .before .loop-test .taken)
+    (c .before .before .count-row .ensures)
 
 same-length : tie.Need-same-length Inv-loop μ-loop
 same-length c = c .before .loop .inv .put .len ∙ c .before .before .before .before .before .before .clear .ensures .len
 
 returns : tie.Need-returns Inv-loop μ-loop
-returns c = let st = c .before .before .before .before .before .before .before .before .before .before .before .before in start-done (st .pre .0) (st .args .s) (st .args .t) (c .before .before .before .low .ensures) (c .before .before .span-of .ensures) (st .args .numbers .now) _ (c .before .before .before .before .before .before .clear .ensures) _ (st .pre .1 .2) (pile-end (c .before .loop .inv) (c .loop-test .left))
+returns c = let st =
+    c .before .before .before .before .before .before .before .before .before .before .before .before in start-done (st .pre .0) (st .args .s)
+    (st .args .t) (c .before .before .before .low .ensures) (c .before .before .span-of .ensures) (st .args .numbers .now) _
+    (c .before .before .before .before .before .before .clear .ensures) _ (st .pre .1 .2) (pile-end (c .before .loop .inv) (c .loop-test .left))
 
 pub start-spec : {M : Type 1} → statement M
 start-spec =

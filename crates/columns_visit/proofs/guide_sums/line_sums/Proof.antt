@@ -23,12 +23,15 @@ abbrev μ-loop : tie.MeasureT-loop
 μ-loop file z first stride count sum₀ squares₀ k₀ sum squares k = count - k
 
 -- the guide that a turn reads, and that it is small
-low : (c : tie.After-struct-known Inv-loop μ-loop) → (c .before .guide-at .result .0 ≤ 255) × (c .before .guide-at .result .0 * c .before .guide-at .result .0 ≤ 65025)
+low : (c : tie.After-struct-known Inv-loop μ-loop) →
+    (c .before .guide-at .result .0 ≤ 255) × (c .before .guide-at .result .0 * c .before .guide-at .result .0 ≤ 65025)
 low c =
     let st = c .before .before .before .before .before in
-    guide-small (st .pre .0) (st .args .line) (st .pre .1) (c .before .before .before .loop .k) _ (c .before .before .loop-test .taken) (c .before .guide-at .ensures)
+    guide-small (st .pre .0) (st .args .line) (st .pre .1) (c .before .before .before .loop .k) _ (c .before .before .loop-test .taken)
+    (c .before .guide-at .ensures)
 
-in-plane : (c : tie.In-loop Inv-loop μ-loop) → c .before .before .before .args .line .first + c .before .loop .k * c .before .before .before .args .line .stride < 262144
+in-plane : (c : tie.In-loop Inv-loop μ-loop) →
+    c .before .before .before .args .line .first + c .before .loop .k * c .before .before .before .args .line .stride < 262144
 in-plane c = let st = c .before .before .before in place-small (st .pre .0) (st .pre .1 .inside (c .before .loop .k) (c .loop-test .taken))
 
 loop-holds : tie.Need-loop-holds Inv-loop μ-loop
@@ -47,13 +50,15 @@ cast-f : tie.Need-cast-f Inv-loop μ-loop
 cast-f c = omega (arith, low c)
 
 add-sum : tie.Need-add-sum Inv-loop μ-loop
-add-sum c = let st = c .before .before .before .before .before in omega (arith, low c, c .before .before .before .loop .inv .1 .sum-high, st .pre .1 .few)
+add-sum c = let st =
+    c .before .before .before .before .before in omega (arith, low c, c .before .before .before .loop .inv .1 .sum-high, st .pre .1 .few)
 
 mul-squares : tie.Need-mul-squares Inv-loop μ-loop
 mul-squares c = omega (arith, low c)
 
 add-squares : tie.Need-add-squares Inv-loop μ-loop
-add-squares c = let st = c .before .before .before .before .before in omega (arith, low c, c .before .before .before .loop .inv .1 .squares-high, st .pre .1 .few)
+add-squares c = let st =
+    c .before .before .before .before .before in omega (arith, low c, c .before .before .before .loop .inv .1 .squares-high, st .pre .1 .few)
 
 add-k : tie.Need-add-k Inv-loop μ-loop
 add-k c = let st = c .before .before .before .before .before in omega (arith, c .before .before .loop-test .taken, st .pre .1 .few)
@@ -62,10 +67,18 @@ loop-less : tie.Need-loop-less Inv-loop μ-loop
 loop-less c = omega (arith, c .before .before .loop-test .taken)
 
 loop-again : tie.Need-loop-again Inv-loop μ-loop
-loop-again c = let st = c .before .before .before .before .before in (omega (arith, c .before .before .loop-test .taken), line-next (st .pre .0) (st .args .line) (st .pre .1) (c .before .before .before .loop .k) _ (c .before .before .loop-test .taken) (c .before .guide-at .ensures) _ _ (c .before .before .before .loop .inv .1))
+loop-again c = let st =
+    c .before .before .before .before .before in (
+      omega (arith, c .before .before .loop-test .taken),
+      line-next (st .pre .0) (st .args .line) (st .pre .1) (c .before .before .before .loop .k) _
+          (c .before .before .loop-test .taken) (c .before .guide-at .ensures) _ _ (c .before .before .before .loop .inv .1),
+    )
 
 returns : tie.Need-returns Inv-loop μ-loop
-returns c = let st = c .before .before .before in let done : c .before .loop .k ≡ st .args .line .count = omega (arith, c .before .loop .inv .0, c .loop-test .left) in subst (λ (n : ℕ). LineSums (st .args .file .now) (st .args .line) n (sums (c .before .loop .k) (c .before .loop .sum) (c .before .loop .squares))) done (c .before .loop .inv .1)
+returns c = let st = c .before .before .before in let done : c .before .loop .k ≡ st .args .line .count =
+    omega (arith, c .before .loop .inv .0, c .loop-test .left) in subst
+    (λ (n : ℕ). LineSums (st .args .file .now) (st .args .line) n (sums (c .before .loop .k) (c .before .loop .sum) (c .before .loop .squares))) done
+    (c .before .loop .inv .1)
 
 pub line-sums-spec : {M : Type 1} → statement M
 line-sums-spec =

@@ -24,13 +24,32 @@ sub-t12 : tie.Need-sub-t12
 sub-t12 c = search needs
 
 add-t13 : tie.Need-add-t13
-add-t13 c = omega (arith, c .before .before .before .before .before .before .before .before .before .before .before .before .before .pre .1 .1 .squares-high, c .before .before .before .before .before .before .before .before .line-sums2 .ensures .squares-high, c .before .before .before .before .before .before .before .before .before .before .before .before .before .pre .1 .0 .entering .few)
+add-t13 c =
+    omega (
+      arith,
+      c .before .before .before .before .before .before .before .before .before .before .before .before .before .pre .1 .1 .squares-high,
+      c
+          .before .before .before .before .before .before .before .before .line-sums2 .ensures .squares-high,
+      c .before .before .before .before .before
+          .before .before .before .before .before .before .before .before .pre .1 .0 .entering .few,
+    )
 
 sub-t14 : tie.Need-sub-t14
-sub-t14 c = omega (arith, c .before .before .before .before .before .before .before .before .before .before .before .before .before .before .pre .1 .1 .squares-enough, c .before .before .before .before .before .before .before .before .before .line-sums2 .ensures .squares, c .before .before .before .before .before .before .before .before .before .before .line-sums .ensures .squares)
+sub-t14 c =
+    omega (
+      arith,
+      c .before .before .before .before .before .before .before .before .before .before .before .before .before .before .pre .1 .1
+          .squares-enough,
+      c .before .before .before .before .before .before .before .before .before .line-sums2 .ensures .squares,
+      c .before .before
+          .before .before .before .before .before .before .before .before .line-sums .ensures .squares,
+    )
 
 returns : tie.Need-returns
-returns c = exchanged (c .before .before .before .before .before .before .before .before .before .before .before .before .before .before .pre .1 .1) (c .before .before .before .before .before .before .before .before .before .before .line-sums .ensures) (c .before .before .before .before .before .before .before .before .before .line-sums2 .ensures)
+returns c =
+    exchanged (c .before .before .before .before .before .before .before .before .before .before .before .before .before .before .pre .1 .1)
+    (c .before .before .before .before .before .before .before .before .before .before .line-sums .ensures)
+    (c .before .before .before .before .before .before .before .before .before .line-sums2 .ensures)
 
 pub moved-spec : {M : Type 1} → statement M
 moved-spec =

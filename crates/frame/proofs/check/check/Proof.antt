@@ -15,19 +15,25 @@ stops-requires c κs = search needs
 
 returns : tie.Need-returns
 unfolding verdict
-returns c = let b = c .before .before .before .before .args .file .now in stopped (trailerOutcome b) (contents b (planOf b)) (c .before .before .check-trailer .ensures) (c .before .stops .ensures) (c .if1 .taken)
+returns c = let b =
+    c .before .before .before .before .args .file .now in stopped (trailerOutcome b) (contents b (planOf b))
+    (c .before .before .check-trailer .ensures) (c .before .stops .ensures) (c .if1 .taken)
 
 plan-of-requires : tie.Need-plan-of-requires
 plan-of-requires c κs = trailer-passed _ (quiet (c .before .before .check-trailer .ensures) (c .before .stops .ensures) (c .if1 .left)) .long
 
 contents-requires : tie.Need-contents-requires
-contents-requires c κs = rw (c .plan-of .ensures) (parts-in-file _ (quiet (c .before .before .before .check-trailer .ensures) (c .before .before .stops .ensures) (c .before .if1 .left)))
+contents-requires c κs =
+    rw (c .plan-of .ensures)
+    (parts-in-file _ (quiet (c .before .before .before .check-trailer .ensures) (c .before .before .stops .ensures) (c .before .if1 .left)))
 
 returns-2 : tie.Need-returns-2
 unfolding verdict
 returns-2 c =
     let b = c .before .before .before .before .before .before .args .file .now in
-    past (trailerOutcome b) (contents b (planOf b)) (quiet (c .before .before .before .before .check-trailer .ensures) (c .before .before .before .stops .ensures) (c .before .before .if1 .left)) (rw (c .before .plan-of .ensures) at (c .contents .ensures))
+    past (trailerOutcome b) (contents b (planOf b))
+    (quiet (c .before .before .before .before .check-trailer .ensures) (c .before .before .before .stops .ensures)
+    (c .before .before .if1 .left)) (rw (c .before .plan-of .ensures) at (c .contents .ensures))
 
 pub check-spec : {M : Type 1} → statement M
 check-spec =

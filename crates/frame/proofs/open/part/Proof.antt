@@ -37,7 +37,12 @@ part-result-end-2 c = search needs
 
 returns-2 : tie.Need-returns-2
 unfolding noPart shown shownFrom trailerAt
-returns-2 c = record { holds = simp (le-ltb _ _ (c .before .before .if1 .left), lt-ltb _ _ (c .before .if2 .taken)); place = simp (le-ltb _ _ (c .before .before .if1 .left), lt-ltb _ _ (c .before .if2 .taken)) }
+returns-2 c =
+    record {
+      holds = simp (le-ltb _ _ (c .before .before .if1 .left), lt-ltb _ _ (c .before .if2 .taken));
+      place =
+          simp (le-ltb _ _ (c .before .before .if1 .left), lt-ltb _ _ (c .before .if2 .taken));
+    }
 
 sub-result-3 : tie.Need-sub-result-3
 sub-result-3 c = search needs
@@ -50,7 +55,13 @@ part-result-end-3 c = search needs
 
 returns-3 : tie.Need-returns-3
 unfolding noPart shown shownFrom trailerAt
-returns-3 c = record { holds = simp (le-ltb _ _ (c .before .before .before .if1 .left), le-ltb _ _ (c .before .before .if2 .left), lt-ltb _ _ (c .before .if3 .taken)); place = simp (le-ltb _ _ (c .before .before .before .if1 .left), le-ltb _ _ (c .before .before .if2 .left), lt-ltb _ _ (c .before .if3 .taken)) }
+returns-3 c =
+    record {
+      holds =
+          simp (le-ltb _ _ (c .before .before .before .if1 .left), le-ltb _ _ (c .before .before .if2 .left), lt-ltb _ _ (c .before .if3 .taken));
+      place =
+          simp (le-ltb _ _ (c .before .before .before .if1 .left), le-ltb _ _ (c .before .before .if2 .left), lt-ltb _ _ (c .before .if3 .taken));
+    }
 
 add-end : tie.Need-add-end
 add-end c = search needs
@@ -71,7 +82,9 @@ returns-4 c =
     let s : ℕ = length (a .file .now) - 28 - a .back in
     let n : s + a .n - s ≡ a .n = omega arith in
     record {
-      holds = ap (λ (m : ℕ). take m (drop s (a .file .now))) n ∙ simp (le-ltb _ _ (c .before .before .before .if1 .left), le-ltb _ _ (c .before .before .if2 .left), le-ltb _ _ (c .before .if3 .left));
+      holds =
+          ap (λ (m : ℕ). take m (drop s (a .file .now))) n ∙ simp
+          (le-ltb _ _ (c .before .before .before .if1 .left), le-ltb _ _ (c .before .before .if2 .left), le-ltb _ _ (c .before .if3 .left));
       place = simp (le-ltb _ _ (c .before .before .before .if1 .left), le-ltb _ _ (c .before .before .if2 .left), le-ltb _ _ (c .before .if3 .left));
     }
 

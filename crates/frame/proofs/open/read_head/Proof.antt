@@ -19,14 +19,22 @@ blank-requires c κs = search needs
 
 returns : tie.Need-returns
 unfolding opened
-returns c = (c .before .before .before .check .ensures, c .blank .ensures ∙ if-fires blankTrailer (trailerOf _) (c .before .before .before .check .ensures) (c .before .before .stops .ensures) (c .before .if1 .taken))
+returns c = (
+  c .before .before .before .check .ensures,
+  c .blank .ensures ∙ if-fires blankTrailer (trailerOf _) (c .before .before .before .check .ensures)
+      (c .before .before .stops .ensures) (c .before .if1 .taken),
+)
 
 trailer-of-requires : tie.Need-trailer-of-requires
 trailer-of-requires c κs = passed _ (quiet (c .before .before .check .ensures) (c .before .stops .ensures) (c .if1 .left)) .long
 
 returns-2 : tie.Need-returns-2
 unfolding opened
-returns-2 c = (c .before .before .before .check .ensures, c .trailer-of .ensures ∙ if-silent blankTrailer (trailerOf _) (c .before .before .before .check .ensures) (c .before .before .stops .ensures) (c .before .if1 .left))
+returns-2 c = (
+  c .before .before .before .check .ensures,
+  c .trailer-of .ensures ∙ if-silent blankTrailer (trailerOf _)
+      (c .before .before .before .check .ensures) (c .before .before .stops .ensures) (c .before .if1 .left),
+)
 
 pub read-head-spec : {M : Type 1} → statement M
 read-head-spec =

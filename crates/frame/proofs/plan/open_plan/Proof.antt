@@ -19,14 +19,22 @@ blank-requires c κs = search needs
 
 returns : tie.Need-returns
 unfolding openedPlan
-returns c = (c .before .before .before .check .ensures, c .blank .ensures ∙ if-fires blankPlan (planOf _) (c .before .before .before .check .ensures) (c .before .before .stops .ensures) (c .before .if1 .taken))
+returns c = (
+  c .before .before .before .check .ensures,
+  c .blank .ensures ∙ if-fires blankPlan (planOf _) (c .before .before .before .check .ensures)
+      (c .before .before .stops .ensures) (c .before .if1 .taken),
+)
 
 plan-of-requires : tie.Need-plan-of-requires
 plan-of-requires c κs = passed _ (quiet (c .before .before .check .ensures) (c .before .stops .ensures) (c .if1 .left)) .long
 
 returns-2 : tie.Need-returns-2
 unfolding openedPlan
-returns-2 c = (c .before .before .before .check .ensures, c .plan-of .ensures ∙ if-silent blankPlan (planOf _) (c .before .before .before .check .ensures) (c .before .before .stops .ensures) (c .before .if1 .left))
+returns-2 c = (
+  c .before .before .before .check .ensures,
+  c .plan-of .ensures ∙ if-silent blankPlan (planOf _) (c .before .before .before .check .ensures)
+      (c .before .before .stops .ensures) (c .before .if1 .left),
+)
 
 pub open-plan-spec : {M : Type 1} → statement M
 open-plan-spec =

@@ -23,13 +23,21 @@ abbrev own : tie.Start → Settings → Outcome
 own at k = balanceChecks k (at .args .column) (at .args .row) (at .args .level)
 
 -- where all checks have passed: the plan is the file's, and the outcome is accepted
-plan-at : (c : tie.Else2) → Planned (c .before .before .before .before .before .before .before .before .args .file .now) (c .before .before .before .before .before .before .open-plan .result .plan)
-plan-at c = planned-of (c .before .before .before .before .before .before .open-plan .result) (c .before .before .before .before .before .before .open-plan .ensures) (known (c .before .before .before .before .before .stops .ensures) (c .before .before .before .before .if1 .left))
+plan-at : (c : tie.Else2) →
+    Planned (c .before .before .before .before .before .before .before .before .args .file .now)
+    (c .before .before .before .before .before .before .open-plan .result .plan)
+plan-at c =
+    planned-of (c .before .before .before .before .before .before .open-plan .result)
+    (c .before .before .before .before .before .before .open-plan .ensures)
+    (known (c .before .before .before .before .before .stops .ensures) (c .before .before .before .before .if1 .left))
 
-outcome-at : (c : tie.Else2) → let at = c .before .before .before .before .before .before .before .before in balanceOutcome (at .args .file .now) (at .args .column) (at .args .row) (at .args .level) ≡ accepted
+outcome-at : (c : tie.Else2) → let at =
+    c .before .before .before .before .before .before .before .before in balanceOutcome (at .args .file .now) (at .args .column) (at .args .row)
+    (at .args .level) ≡ accepted
 unfolding balanceOutcome
 outcome-at c =
-    sym (own-decides (plan-at c) (own (c .before .before .before .before .before .before .before .before))) ∙ sym (c .before .before .balance-verdict .ensures)
+    sym (own-decides (plan-at c) (own (c .before .before .before .before .before .before .before .before))) ∙ sym
+    (c .before .before .balance-verdict .ensures)
     ∙ quiet (numbered (c .before .before .balance-verdict .result)) (known (c .before .stops2 .ensures) (c .if2 .left))
 
 -- src/calls.rt:193:9
@@ -46,7 +54,9 @@ unfolding balanceOutcome
 returns c =
     let at = c .before .before .before .before in
     let f = known (c .before .stops .ensures) (c .if1 .taken) in
-    balances-refused _ _ _ _ _ _ refl refl f (file-decides (at .args .file .now) (own at (settingsOf (at .args .file .now))) (c .before .before .open-plan .result .verdict) (c .before .before .open-plan .ensures .0) f)
+    balances-refused _ _ _ _ _ _ refl refl f
+    (file-decides (at .args .file .now) (own at (settingsOf (at .args .file .now))) (c .before .before .open-plan .result .verdict)
+    (c .before .before .open-plan .ensures .0) f)
 
 -- src/calls.rt:202:9
 balance-verdict-requires : tie.Need-balance-verdict-requires
@@ -61,7 +71,10 @@ returns-2 : tie.Need-returns-2
 unfolding balanceOutcome
 returns-2 c =
     let at = c .before .before .before .before .before .before .before .before in
-    let k = planned-of (c .before .before .before .before .before .before .open-plan .result) (c .before .before .before .before .before .before .open-plan .ensures) (known (c .before .before .before .before .before .stops .ensures) (c .before .before .before .before .if1 .left)) in
+    let k =
+    planned-of (c .before .before .before .before .before .before .open-plan .result)
+    (c .before .before .before .before .before .before .open-plan .ensures)
+    (known (c .before .before .before .before .before .stops .ensures) (c .before .before .before .before .if1 .left)) in
     let f = known (c .before .stops2 .ensures) (c .if2 .taken) in
     balances-refused _ _ _ _ _ _ refl refl f (c .before .before .balance-verdict .ensures ∙ own-decides k (own at))
 
@@ -75,7 +88,11 @@ balance-at-requires c κs = let k = plan-at c in let q = balance-granted k _ _ _
 -- src/calls.rt:190:1
 returns-3 : tie.Need-returns-3
 unfolding balanceOutcome
-returns-3 c = let d = c .before in balances-done _ _ _ _ _ (c .before .before .before .balance-verdict .ensures ∙ own-decides (plan-at d) (own (c .before .before .before .before .before .before .before .before .before))) (outcome-at d) (toZ-ofZ (record { sfits = c .balance-at .ok }) ∙ c .balance-at .ensures)
+returns-3 c = let d =
+    c .before in balances-done _ _ _ _ _
+    (c .before .before .before .balance-verdict .ensures ∙ own-decides (plan-at d)
+    (own (c .before .before .before .before .before .before .before .before .before))) (outcome-at d)
+    (toZ-ofZ (record { sfits = c .balance-at .ok }) ∙ c .balance-at .ensures)
 
 pub balance-spec : {M : Type 1} → statement M
 balance-spec =

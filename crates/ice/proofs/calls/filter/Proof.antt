@@ -42,10 +42,15 @@ unfolding filterOutcome
 returns c =
     let at = c .before .before .before .before .before .before .before .before .before in
     let f = known (c .before .before .stops .ensures) (c .before .if1 .taken) in
-    filters-refused _ _ (c .refused .ensures) f (held at) (at .args .output .now) _ _ (file-decides (at .args .file .now) (own at (settingsOf (at .args .file .now))) (c .before .before .before .open-plan .result .verdict) (c .before .before .before .open-plan .ensures .0) f)
+    filters-refused _ _ (c .refused .ensures) f (held at) (at .args .output .now) _ _
+    (file-decides (at .args .file .now) (own at (settingsOf (at .args .file .now))) (c .before .before .before .open-plan .result .verdict)
+    (c .before .before .before .open-plan .ensures .0) f)
 
 filter-verdict-requires : tie.Need-filter-verdict-requires
-filter-verdict-requires c κs = settings-limits-in (planned-of (c .before .before .before .open-plan .result) (c .before .before .before .open-plan .ensures) (known (c .before .before .stops .ensures) (c .before .if1 .left)))
+filter-verdict-requires c κs =
+    settings-limits-in
+    (planned-of (c .before .before .before .open-plan .result) (c .before .before .before .open-plan .ensures)
+    (known (c .before .before .stops .ensures) (c .before .if1 .left)))
 
 stops-requires-2 : tie.Need-stops-requires-2
 stops-requires-2 c κs = search needs
@@ -57,26 +62,45 @@ returns-2 : tie.Need-returns-2
 unfolding filterOutcome
 returns-2 c =
     let at = c .before .before .before .before .before .before .before .before .before .before .before .before .before in
-    let k = planned-of (c .before .before .before .before .before .before .before .open-plan .result) (c .before .before .before .before .before .before .before .open-plan .ensures) (known (c .before .before .before .before .before .before .stops .ensures) (c .before .before .before .before .before .if1 .left)) in
+    let k =
+    planned-of (c .before .before .before .before .before .before .before .open-plan .result)
+    (c .before .before .before .before .before .before .before .open-plan .ensures)
+    (known (c .before .before .before .before .before .before .stops .ensures) (c .before .before .before .before .before .if1 .left)) in
     let f = known (c .before .before .stops2 .ensures) (c .before .if2 .taken) in
-    filters-refused _ _ (c .refused2 .ensures) f (held at) (at .args .output .now) _ _ (c .before .before .before .filter-verdict .ensures ∙ own-decides k (own at))
+    filters-refused _ _ (c .refused2 .ensures) f (held at) (at .args .output .now) _ _
+    (c .before .before .before .filter-verdict .ensures ∙ own-decides k (own at))
 
 way-of-requires : tie.Need-way-of-requires
 way-of-requires c κs = search needs
 
 -- where all checks have passed: the plan is the file's, and the outcome is accepted
-plan-at : (c : tie.After-sweep-arg4) → Planned (c .before .before .before .before .before .before .before .before .before .before .before .before .before .before .before .before .before .args .file .now) (c .before .before .before .before .before .before .before .before .before .before .before .open-plan .result .plan)
-plan-at c = planned-of (c .before .before .before .before .before .before .before .before .before .before .before .open-plan .result) (c .before .before .before .before .before .before .before .before .before .before .before .open-plan .ensures) (known (c .before .before .before .before .before .before .before .before .before .before .stops .ensures) (c .before .before .before .before .before .before .before .before .before .if1 .left))
+plan-at : (c : tie.After-sweep-arg4) →
+    Planned
+    (c .before .before .before .before .before .before .before .before .before .before .before .before .before .before .before .before .before .args
+    .file .now) (c .before .before .before .before .before .before .before .before .before .before .before .open-plan .result .plan)
+plan-at c =
+    planned-of (c .before .before .before .before .before .before .before .before .before .before .before .open-plan .result)
+    (c .before .before .before .before .before .before .before .before .before .before .before .open-plan .ensures)
+    (known (c .before .before .before .before .before .before .before .before .before .before .stops .ensures)
+    (c .before .before .before .before .before .before .before .before .before .if1 .left))
 
-outcome-at : (c : tie.After-sweep-arg4) → let at = c .before .before .before .before .before .before .before .before .before .before .before .before .before .before .before .before .before in filterOutcome (at .args .file .now) (at .args .way) (lent (held at)) (length (at .args .output .now)) ≡ accepted
+outcome-at : (c : tie.After-sweep-arg4) → let at =
+    c .before .before .before .before .before .before .before .before .before .before .before .before .before .before .before .before .before in
+    filterOutcome (at .args .file .now) (at .args .way) (lent (held at)) (length (at .args .output .now)) ≡ accepted
 unfolding filterOutcome
 outcome-at c =
-    sym (own-decides (plan-at c) (own (c .before .before .before .before .before .before .before .before .before .before .before .before .before .before .before .before .before))) ∙ sym (c .before .before .before .before .before .before .before .filter-verdict .ensures)
-    ∙ quiet (numbered (c .before .before .before .before .before .before .before .filter-verdict .result)) (known (c .before .before .before .before .before .before .stops2 .ensures) (c .before .before .before .before .before .if2 .left))
+    sym
+    (own-decides (plan-at c)
+    (own
+    (c .before .before .before .before .before .before .before .before .before .before .before .before .before .before .before .before .before)))
+    ∙ sym (c .before .before .before .before .before .before .before .filter-verdict .ensures)
+    ∙ quiet (numbered (c .before .before .before .before .before .before .before .filter-verdict .result))
+    (known (c .before .before .before .before .before .before .stops2 .ensures) (c .before .before .before .before .before .if2 .left))
 
 sweep-requires : tie.Need-sweep-requires
 sweep-requires c κs =
-    let at = c .before .before .before .before .before .before .before .before .before .before .before .before .before .before .before .before .before in
+    let at =
+    c .before .before .before .before .before .before .before .before .before .before .before .before .before .before .before .before .before in
     let k = plan-at c in
     let g = filter-granted k _ _ (c .before .before .before .before .way-of .ensures) (held at) _ (outcome-at c) in
     ((k, g .serves), (g .fit, g .plane))
@@ -96,7 +120,9 @@ same-length-4 c = search needs
 returns-3 : tie.Need-returns-3
 returns-3 c =
     let d = c .before .before .before .before .before .before .before .before .before in
-    let at = c .before .before .before .before .before .before .before .before .before .before .before .before .before .before .before .before .before .before .before .before .before .before .before .before .before .before in
+    let at =
+    c .before .before .before .before .before .before .before .before .before .before .before .before .before .before .before .before .before
+    .before .before .before .before .before .before .before .before .before in
     let h = c .before .before .before .before .before .before .before .before .sweep .ensures in
     filters-done _ _ _ (d .before .before .before .before .way-of .ensures) (held at) _ (at .args .output .now) _ _ (outcome-at d) (h .0) (h .1)
 

@@ -26,7 +26,8 @@ abbrev held : tie.Start → Stores
 held at = stores (at .args .counts .now) (at .args .words .now) (at .args .numbers .now)
 
 abbrev own : tie.Start → Settings → Outcome
-own at k = walkChecks k (at .args .way) (at .args .column) (at .args .row) (length (at .args .moves .now)) (lent (held at)) (length (at .args .answers .now))
+own at k =
+    walkChecks k (at .args .way) (at .args .column) (at .args .row) (length (at .args .moves .now)) (lent (held at)) (length (at .args .answers .now))
 
 open-plan-requires : tie.Need-open-plan-requires
 open-plan-requires c κs = search needs
@@ -42,10 +43,15 @@ unfolding walkOutcome
 returns c =
     let at = c .before .before .before .before .before .before .before .before .before .before in
     let f = known (c .before .before .stops .ensures) (c .before .if1 .taken) in
-    walks-refused _ _ (c .refused .ensures) f (held at) (at .args .answers .now) _ _ _ _ (at .args .moves .now) (file-decides (at .args .file .now) (own at (settingsOf (at .args .file .now))) (c .before .before .before .open-plan .result .verdict) (c .before .before .before .open-plan .ensures .0) f)
+    walks-refused _ _ (c .refused .ensures) f (held at) (at .args .answers .now) _ _ _ _ (at .args .moves .now)
+    (file-decides (at .args .file .now) (own at (settingsOf (at .args .file .now))) (c .before .before .before .open-plan .result .verdict)
+    (c .before .before .before .open-plan .ensures .0) f)
 
 walk-verdict-requires : tie.Need-walk-verdict-requires
-walk-verdict-requires c κs = settings-limits-in (planned-of (c .before .before .before .open-plan .result) (c .before .before .before .open-plan .ensures) (known (c .before .before .stops .ensures) (c .before .if1 .left)))
+walk-verdict-requires c κs =
+    settings-limits-in
+    (planned-of (c .before .before .before .open-plan .result) (c .before .before .before .open-plan .ensures)
+    (known (c .before .before .stops .ensures) (c .before .if1 .left)))
 
 stops-requires-2 : tie.Need-stops-requires-2
 stops-requires-2 c κs = search needs
@@ -57,26 +63,47 @@ returns-2 : tie.Need-returns-2
 unfolding walkOutcome
 returns-2 c =
     let at = c .before .before .before .before .before .before .before .before .before .before .before .before .before .before in
-    let k = planned-of (c .before .before .before .before .before .before .before .open-plan .result) (c .before .before .before .before .before .before .before .open-plan .ensures) (known (c .before .before .before .before .before .before .stops .ensures) (c .before .before .before .before .before .if1 .left)) in
+    let k =
+    planned-of (c .before .before .before .before .before .before .before .open-plan .result)
+    (c .before .before .before .before .before .before .before .open-plan .ensures)
+    (known (c .before .before .before .before .before .before .stops .ensures) (c .before .before .before .before .before .if1 .left)) in
     let f = known (c .before .before .stops2 .ensures) (c .before .if2 .taken) in
-    walks-refused _ _ (c .refused2 .ensures) f (held at) (at .args .answers .now) _ _ _ _ (at .args .moves .now) (c .before .before .before .walk-verdict .ensures ∙ own-decides k (own at))
+    walks-refused _ _ (c .refused2 .ensures) f (held at) (at .args .answers .now) _ _ _ _ (at .args .moves .now)
+    (c .before .before .before .walk-verdict .ensures ∙ own-decides k (own at))
 
 way-of-requires : tie.Need-way-of-requires
 way-of-requires c κs = search needs
 
 -- where all checks have passed: the plan is the file's, and the outcome is accepted
-plan-at : (c : tie.After-travel-arg4) → Planned (c .before .before .before .before .before .before .before .before .before .before .before .before .before .before .before .before .before .before .args .file .now) (c .before .before .before .before .before .before .before .before .before .before .before .open-plan .result .plan)
-plan-at c = planned-of (c .before .before .before .before .before .before .before .before .before .before .before .open-plan .result) (c .before .before .before .before .before .before .before .before .before .before .before .open-plan .ensures) (known (c .before .before .before .before .before .before .before .before .before .before .stops .ensures) (c .before .before .before .before .before .before .before .before .before .if1 .left))
+plan-at : (c : tie.After-travel-arg4) →
+    Planned
+    (c .before .before .before .before .before .before .before .before .before .before .before .before .before .before .before .before .before
+    .before .args .file .now) (c .before .before .before .before .before .before .before .before .before .before .before .open-plan .result .plan)
+plan-at c =
+    planned-of (c .before .before .before .before .before .before .before .before .before .before .before .open-plan .result)
+    (c .before .before .before .before .before .before .before .before .before .before .before .open-plan .ensures)
+    (known (c .before .before .before .before .before .before .before .before .before .before .stops .ensures)
+    (c .before .before .before .before .before .before .before .before .before .if1 .left))
 
-outcome-at : (c : tie.After-travel-arg4) → let at = c .before .before .before .before .before .before .before .before .before .before .before .before .before .before .before .before .before .before in walkOutcome (at .args .file .now) (at .args .way) (at .args .column) (at .args .row) (length (at .args .moves .now)) (lent (held at)) (length (at .args .answers .now)) ≡ accepted
+outcome-at : (c : tie.After-travel-arg4) → let at =
+    c .before .before .before .before .before .before .before .before .before .before .before .before .before .before .before .before .before .before
+    in walkOutcome (at .args .file .now) (at .args .way) (at .args .column) (at .args .row) (length (at .args .moves .now)) (lent (held at))
+    (length (at .args .answers .now)) ≡ accepted
 unfolding walkOutcome
 outcome-at c =
-    sym (own-decides (plan-at c) (own (c .before .before .before .before .before .before .before .before .before .before .before .before .before .before .before .before .before .before))) ∙ sym (c .before .before .before .before .before .before .before .walk-verdict .ensures)
-    ∙ quiet (numbered (c .before .before .before .before .before .before .before .walk-verdict .result)) (known (c .before .before .before .before .before .before .stops2 .ensures) (c .before .before .before .before .before .if2 .left))
+    sym
+    (own-decides (plan-at c)
+    (own
+    (c .before .before .before .before .before .before .before .before .before .before .before .before .before .before .before .before .before
+    .before))) ∙ sym (c .before .before .before .before .before .before .before .walk-verdict .ensures)
+    ∙ quiet (numbered (c .before .before .before .before .before .before .before .walk-verdict .result))
+    (known (c .before .before .before .before .before .before .stops2 .ensures) (c .before .before .before .before .before .if2 .left))
 
 travel-requires : tie.Need-travel-requires
 travel-requires c κs =
-    let at = c .before .before .before .before .before .before .before .before .before .before .before .before .before .before .before .before .before .before in
+    let at =
+    c .before .before .before .before .before .before .before .before .before .before .before .before .before .before .before .before .before
+    .before in
     let k = plan-at c in
     let g = granted k _ _ (c .before .before .before .before .way-of .ensures) _ _ _ (held at) _ (outcome-at c) in
     ((k, g .serves), (g .pixel, (g .moves, (g .fit, g .answers))))
@@ -96,9 +123,12 @@ same-length-4 c = search needs
 returns-3 : tie.Need-returns-3
 returns-3 c =
     let d = c .before .before .before .before .before .before .before .before .before in
-    let at = c .before .before .before .before .before .before .before .before .before .before .before .before .before .before .before .before .before .before .before .before .before .before .before .before .before .before .before in
+    let at =
+    c .before .before .before .before .before .before .before .before .before .before .before .before .before .before .before .before .before
+    .before .before .before .before .before .before .before .before .before .before in
     let h = c .before .before .before .before .before .before .before .before .travel .ensures in
-    walks-done _ _ _ (d .before .before .before .before .way-of .ensures) (held at) _ (at .args .answers .now) _ _ _ _ (at .args .moves .now) (outcome-at d) (h .0) (h .1)
+    walks-done _ _ _ (d .before .before .before .before .way-of .ensures) (held at) _ (at .args .answers .now) _ _ _ _ (at .args .moves .now)
+    (outcome-at d) (h .0) (h .1)
 
 pub walk-spec : {M : Type 1} → statement M
 walk-spec =

@@ -23,11 +23,14 @@ Inv-loop file plan way counts₀ words₀ numbers₀ output₀ width n weights b
     Sweeping way file (stateOf visit₀) (stores counts₀ words₀ numbers₀) output₀ (stores counts words numbers) output histogram box visit i
 
 abbrev μ-loop : tie.MeasureT-loop
-μ-loop file plan way counts₀ words₀ numbers₀ output₀ width n weights box₀ histogram₀ visit₀ i₀ counts words numbers output box histogram visit i = n - i
+μ-loop file plan way counts₀ words₀ numbers₀ output₀ width n weights box₀ histogram₀ visit₀ i₀ counts words numbers output box histogram visit i =
+    n - i
 
 -- the way back from the loop to the function's entry
 entry : (c : tie.After-answer-number Inv-loop μ-loop) → tie.Start Inv-loop μ-loop
-entry c = c .before .before .before .before .before .before .before .before .before .before .before .before .before .before .before .before .before .before .before .before .before .before .before
+entry c =
+    c .before .before .before .before .before .before .before .before .before .before .before .before .before .before .before .before .before .before
+    .before .before .before .before .before
 
 room : (c : tie.After-answer-number Inv-loop μ-loop) → entry c .args .plan .width * entry c .args .plan .height ≤ length (entry c .args .output .now)
 unfolding entry
@@ -47,8 +50,10 @@ slice-aggregate-enter c = search needs
 
 enter-requires : tie.Need-enter-requires Inv-loop μ-loop
 enter-requires c κs =
-    let at = c .before .before .before .before .before .before .before .before .before .before .before .before .before .before .before in
-    ((at .pre .0 .0, c .before .before .before .before .before .before .before .built-rows .ensures, at .pre .0 .1), (first-in (at .args .way) (at .pre .0 .0), (at .pre .1 .0, (refl, histogram-blank (at .pre .0 .0)))))
+    let at = c .before .before .before .before .before .before .before .before .before .before .before .before .before .before .before in (
+      (at .pre .0 .0, c .before .before .before .before .before .before .before .built-rows .ensures, at .pre .0 .1),
+      (first-in (at .args .way) (at .pre .0 .0), (at .pre .1 .0, (refl, histogram-blank (at .pre .0 .0)))),
+    )
 
 answer-number-requires : tie.Need-answer-number-requires Inv-loop μ-loop
 answer-number-requires c κs = search needs
@@ -62,7 +67,8 @@ unfolding entry
 loop-holds c =
     let at = entry c in
     let v = c .before .before .before .before .before .before .before .enter in
-    sweeping-start _ (at .pre .0 .0) _ (at .args .output .now) _ _ (v .result) (room c) (v .ensures .state) (v .ensures .here) _ (c .answer-number .ensures)
+    sweeping-start _ (at .pre .0 .0) _ (at .args .output .now) _ _ (v .result) (room c) (v .ensures .state) (v .ensures .here) _
+    (c .answer-number .ensures)
 
 add-loop : tie.Need-add-loop Inv-loop μ-loop
 unfolding entry
@@ -84,31 +90,71 @@ step-requires c κs =
     let w = l .loop .inv .going in
     let b = l .before in
     let at = entry b in (
-      (at .pre .0 .0, b .before .before .before .before .before .before .before .before .before .before .before .before .before .before .before .built-rows .ensures, at .pre .0 .1),
+      (
+        at .pre .0 .0,
+        b .before .before .before .before .before .before .before .before .before .before .before .before .before .before .before
+            .built-rows .ensures,
+        at .pre .0 .1,
+      ),
       (
         within-of (at .pre .0 .0) _ _ (w .held) (omega (arith, sweeping-low _ (at .pre .0 .0) _ _ _ _ _ _ _ _ _ (l .loop .inv))),
-        (fit-going _ (at .pre .0 .0) _ _ _ (at .pre .1 .0) (b .before .before .before .before .before .before .before .enter .ensures .kept) (w .visited .kept), w .visited .here),
+        (
+          fit-going _ (at .pre .0 .0) _ _ _ (at .pre .1 .0) (b .before .before .before .before .before .before .before .enter .ensures .kept)
+              (w .visited .kept),
+          w .visited .here,
+        ),
       ),
     )
 
 add-i : tie.Need-add-i Inv-loop μ-loop
 unfolding entry
-add-i c = omega (arith, sweeping-low _ (entry (c .before .before .before .before .before .before .before .before .before .before .before .before .before .before .before .before) .pre .0 .0) _ _ _ _ _ _ _ _ _ (c .before .before .before .before .before .before .before .before .before .before .before .before .before .before .before .loop .inv))
+add-i c =
+    omega (
+      arith,
+      sweeping-low _
+          (entry (c .before .before .before .before .before .before .before .before .before .before .before .before .before .before .before .before) .pre
+          .0 .0) _ _ _ _ _ _ _ _ _
+          (c .before .before .before .before .before .before .before .before .before .before .before .before .before .before .before .loop .inv),
+    )
 
 -- the place of the answer
-placed : (c : tie.After-slice-known10 Inv-loop μ-loop) → c .before .before .before .before .before .before .step .result .row * entry (c .before .before .before .before .before .before .before .before .before .before .before .before .before .before .before .before) .args .plan .width + c .before .before .before .before .before .before .step .result .column < entry (c .before .before .before .before .before .before .before .before .before .before .before .before .before .before .before .before) .args .plan .width * entry (c .before .before .before .before .before .before .before .before .before .before .before .before .before .before .before .before) .args .plan .height
+placed : (c : tie.After-slice-known10 Inv-loop μ-loop) →
+    c .before .before .before .before .before .before .step .result .row * entry
+    (c .before .before .before .before .before .before .before .before .before .before .before .before .before .before .before .before) .args .plan
+    .width + c .before .before .before .before .before .before .step .result .column < entry
+    (c .before .before .before .before .before .before .before .before .before .before .before .before .before .before .before .before) .args .plan
+    .width * entry
+    (c .before .before .before .before .before .before .before .before .before .before .before .before .before .before .before .before) .args .plan
+    .height
 unfolding entry
 placed c =
     let l = c .before .before .before .before .before .before .before .before .before .before .before .before .before .before .before in
-    sweeping-place _ (entry (l .before) .pre .0 .0) _ _ _ _ _ _ _ _ _ (l .loop .inv) (omega (arith, c .before .before .before .before .before .before .before .before .before .before .before .before .before .before .loop-test .taken)) _ (c .before .before .before .before .before .before .before .before .before .before .before .before .turn-at .ensures) _ _ _ _ (c .before .before .before .before .before .before .step .ensures)
+    sweeping-place _ (entry (l .before) .pre .0 .0) _ _ _ _ _ _ _ _ _ (l .loop .inv)
+    (omega
+    (arith, c .before .before .before .before .before .before .before .before .before .before .before .before .before .before .loop-test .taken))
+    _ (c .before .before .before .before .before .before .before .before .before .before .before .before .turn-at .ensures) _ _ _ _
+    (c .before .before .before .before .before .before .step .ensures)
 
-small : (c : tie.After-slice-known10 Inv-loop μ-loop) → entry (c .before .before .before .before .before .before .before .before .before .before .before .before .before .before .before .before) .args .plan .width * entry (c .before .before .before .before .before .before .before .before .before .before .before .before .before .before .before .before) .args .plan .height ≤ 262144
+small : (c : tie.After-slice-known10 Inv-loop μ-loop) →
+    entry (c .before .before .before .before .before .before .before .before .before .before .before .before .before .before .before .before) .args
+    .plan .width * entry
+    (c .before .before .before .before .before .before .before .before .before .before .before .before .before .before .before .before) .args .plan
+    .height ≤ 262144
 unfolding entry
-small c = plane-small (entry (c .before .before .before .before .before .before .before .before .before .before .before .before .before .before .before .before) .pre .0 .0)
+small c =
+    plane-small
+    (entry (c .before .before .before .before .before .before .before .before .before .before .before .before .before .before .before .before) .pre
+    .0 .0)
 
-long : (c : tie.After-slice-known10 Inv-loop μ-loop) → length (c .before .before .before .before .before .before .before .before .before .before .before .before .before .before .before .loop .output) ≡ length (entry (c .before .before .before .before .before .before .before .before .before .before .before .before .before .before .before .before) .args .output .now)
+long : (c : tie.After-slice-known10 Inv-loop μ-loop) →
+    length (c .before .before .before .before .before .before .before .before .before .before .before .before .before .before .before .loop .output)
+    ≡ length
+    (entry (c .before .before .before .before .before .before .before .before .before .before .before .before .before .before .before .before) .args
+    .output .now)
 unfolding entry
-long c = c .before .before .before .before .before .before .before .before .before .before .before .before .before .before .before .loop .inv .rest .long ∙ simp length-set
+long c =
+    c .before .before .before .before .before .before .before .before .before .before .before .before .before .before .before .loop .inv .rest .long
+    ∙ simp length-set
 
 mul-at : tie.Need-mul-at Inv-loop μ-loop
 unfolding entry
@@ -123,29 +169,67 @@ answer-number-requires-2 c κs = search needs
 
 mul-output : tie.Need-mul-output Inv-loop μ-loop
 unfolding entry
-mul-output c = omega (arith, placed (c .before .before .before), small (c .before .before .before), c .before .before .before .before .before .before .before .before .before .before .before .before .before .before .before .before .before .loop-test .taken)
+mul-output c =
+    omega (
+      arith,
+      placed (c .before .before .before),
+      small (c .before .before .before),
+      c .before .before .before .before .before .before .before .before
+          .before .before .before .before .before .before .before .before .before .loop-test .taken,
+    )
 
 slice-write-output-2 : tie.Need-slice-write-output-2 Inv-loop μ-loop
 unfolding entry
-slice-write-output-2 c = omega (arith, placed (c .before .before .before), long (c .before .before .before), room (c .before .before .before .before .before .before .before .before .before .before .before .before .before .before .before .before .before .before .before), c .before .before .before .before .before .before .before .before .before .before .before .before .before .before .before .before .before .loop-test .taken)
+slice-write-output-2 c =
+    omega (
+      arith,
+      placed (c .before .before .before),
+      long (c .before .before .before),
+      room
+          (c .before .before .before .before .before .before .before .before .before .before .before .before .before .before .before .before .before
+          .before .before),
+      c .before .before .before .before .before .before .before .before .before .before .before .before .before .before .before
+          .before .before .loop-test .taken,
+    )
 
 loop-less : tie.Need-loop-less Inv-loop μ-loop
-loop-less c = omega (arith, c .before .before .before .before .before .before .before .before .before .before .before .before .before .before .before .before .before .loop-test .taken)
+loop-less c =
+    omega (
+      arith,
+      c .before .before .before .before .before .before .before .before .before .before .before .before .before .before .before .before .before
+          .loop-test .taken,
+    )
 
 loop-again : tie.Need-loop-again Inv-loop μ-loop
 unfolding entry
 loop-again c =
-    let l = c .before .before .before .before .before .before .before .before .before .before .before .before .before .before .before .before .before .before in
-    sweeping-more _ (entry (l .before) .pre .0 .0) _ _ _ _ _ _ _ _ _ (l .loop .inv) (omega (arith, c .before .before .before .before .before .before .before .before .before .before .before .before .before .before .before .before .before .loop-test .taken)) _ (c .before .before .before .before .before .before .before .before .before .before .before .before .before .before .before .turn-at .ensures) _ _ _ _ (c .before .before .before .before .before .before .before .before .before .step .ensures) (simp length-set (room (l .before))) _ (c .answer-number2 .ensures)
+    let l =
+    c .before .before .before .before .before .before .before .before .before .before .before .before .before .before .before .before .before
+    .before in
+    sweeping-more _ (entry (l .before) .pre .0 .0) _ _ _ _ _ _ _ _ _ (l .loop .inv)
+    (omega (
+      arith,
+      c .before .before .before .before .before .before .before .before .before .before .before .before .before .before .before .before
+          .before .loop-test .taken,
+    )) _
+    (c .before .before .before .before .before .before .before .before .before .before .before .before .before .before .before .turn-at .ensures)
+    _ _ _ _ (c .before .before .before .before .before .before .before .before .before .step .ensures) (simp length-set (room (l .before))) _
+    (c .answer-number2 .ensures)
 
 same-length : tie.Need-same-length Inv-loop μ-loop
-same-length c = c .before .before .loop .inv .going .visited .kept .counts .long ∙ c .before .before .before .before .before .before .before .before .before .before .enter .ensures .kept .counts .long
+same-length c =
+    c .before .before .loop .inv .going .visited .kept .counts .long ∙ c .before .before .before .before .before .before .before .before .before
+    .before .enter .ensures .kept .counts .long
 
 same-length-2 : tie.Need-same-length-2 Inv-loop μ-loop
-same-length-2 c = c .before .before .loop .inv .going .visited .kept .words .long ∙ c .before .before .before .before .before .before .before .before .before .before .enter .ensures .kept .words .long
+same-length-2 c =
+    c .before .before .loop .inv .going .visited .kept .words .long ∙ c .before .before .before .before .before .before .before .before .before
+    .before .enter .ensures .kept .words .long
 
 same-length-3 : tie.Need-same-length-3 Inv-loop μ-loop
-same-length-3 c = c .before .before .loop .inv .going .visited .kept .numbers .long ∙ c .before .before .before .before .before .before .before .before .before .before .enter .ensures .kept .numbers .long
+same-length-3 c =
+    c .before .before .loop .inv .going .visited .kept .numbers .long ∙ c .before .before .before .before .before .before .before .before .before
+    .before .enter .ensures .kept .numbers .long
 
 same-length-4 : tie.Need-same-length-4 Inv-loop μ-loop
 same-length-4 c = c .before .before .loop .inv .rest .long ∙ simp length-set
@@ -156,7 +240,9 @@ returns c =
     let l = c .before .before in
     let at = entry (l .before) in
     let v = c .before .before .before .before .before .before .before .before .before .before .enter .ensures in
-    let q = sweeping-end _ (at .pre .0 .0) _ _ _ _ _ _ _ (l .loop .visit) (l .loop .i) (l .loop .inv) _ (at .args .output .now) (omega (arith, c .before .loop-test .left)) (simp length-set (room (l .before))) (v .state) (v .kept) _ refl in
+    let q =
+    sweeping-end _ (at .pre .0 .0) _ _ _ _ _ _ _ (l .loop .visit) (l .loop .i) (l .loop .inv) _ (at .args .output .now)
+    (omega (arith, c .before .loop-test .left)) (simp length-set (room (l .before))) (v .state) (v .kept) _ refl in
     (finished (l .loop .visit) _ (q .0) refl refl refl refl, q .1)
 
 pub sweep-spec : {M : Type 1} → statement M

@@ -10,7 +10,8 @@ use Rattle.checks.proofs.moves.next.Reads as next-reads
 use Rattle.ways.proofs.dispatch.slide.Reads as slide-reads
 
 next-requires : tie.Need-next-requires
-next-requires c κs = let at = c .before .before .before .before .before in (settings-limits-in (at .pre .0 .0), (at .pre .1 .0 .column, at .pre .1 .0 .row))
+next-requires c κs = let at =
+    c .before .before .before .before .before in (settings-limits-in (at .pre .0 .0), (at .pre .1 .0 .column, at .pre .1 .0 .row))
 
 enum-known-m : tie.Need-enum-known-m
 enum-known-m c = search needs
@@ -18,8 +19,18 @@ enum-known-m c = search needs
 slide-requires : tie.Need-slide-requires
 slide-requires c κs =
     let at = c .before .before .before .before .before .before .before .before .before .before .before .before .before .before in
-    let on = at .pre .1 .0 in
-    (at .pre .0, (on, (move-adjacent _ _ _ _ _ _ (on .column) (on .row) (sym (c .before .before .before .before .before .before .before .before .next .ensures) ∙ c .before .before .before .before .before .before .m .given .1), (at .pre .1 .1 .0, at .pre .1 .1 .1))))
+    let on = at .pre .1 .0 in (
+      at .pre .0,
+      (
+        on,
+        (
+          move-adjacent _ _ _ _ _ _ (on .column) (on .row)
+              (sym (c .before .before .before .before .before .before .before .before .next .ensures) ∙ c .before .before .before .before .before .before
+              .m .given .1),
+          (at .pre .1 .1 .0, at .pre .1 .1 .1),
+        ),
+      ),
+    )
 
 enum-known-m-2 : tie.Need-enum-known-m-2
 enum-known-m-2 c = search needs
@@ -35,14 +46,22 @@ same-length-3 c = search needs
 
 returns : tie.Need-returns
 returns c =
-    let at = c .before .before .before .before .before .before .before .before .before .before .before .before .before .before .before .before .before .before .before .before .before in
-    visited-moves _ (at .pre .0 .0) (at .args .visit) _ _ _ _ _ _ _ _ (sym (c .before .before .before .before .before .before .before .before .before .before .before .before .before .before .before .next .ensures) ∙ c .before .before .before .before .before .before .before .before .before .before .before .before .before .m .given .1) (c .before .before .before .before .before .before .slide .ensures)
+    let at =
+    c .before .before .before .before .before .before .before .before .before .before .before .before .before .before .before .before .before
+    .before .before .before .before in
+    visited-moves _ (at .pre .0 .0) (at .args .visit) _ _ _ _ _ _ _ _
+    (sym
+    (c .before .before .before .before .before .before .before .before .before .before .before .before .before .before .before .next .ensures) ∙
+    c .before .before .before .before .before .before .before .before .before .before .before .before .before .m .given .1)
+    (c .before .before .before .before .before .before .slide .ensures)
 
 returns-2 : tie.Need-returns-2
 returns-2 c =
     let at = c .before .before .before .before .before .before .before .before .before .before .before in
     let h = at .pre .1 .1 .1 in
-    visited-stays _ (at .pre .0 .0) (at .args .visit) _ _ _ _ _ _ (sym (c .before .before .before .before .before .next .ensures) ∙ c .before .before .before .m2 .given .1) (record { holds = h .holds; carried = h .carried }) refl
+    visited-stays _ (at .pre .0 .0) (at .args .visit) _ _ _ _ _ _
+    (sym (c .before .before .before .before .before .next .ensures) ∙ c .before .before .before .m2 .given .1)
+    (record { holds = h .holds; carried = h .carried }) refl
 
 pub step-spec : {M : Type 1} → statement M
 step-spec =

@@ -16,16 +16,20 @@ use Rattle.spec.proofs.answer_number.Reads as answer-number-reads
 use Rattle.ways.proofs.dispatch.enter.Reads as enter-reads
 
 abbrev Inv-loop : tie.InvT-loop
-Inv-loop file plan way column row moves counts₀ words₀ numbers₀ answers₀ weights box₀ histogram₀ visit₀ i₀ counts words numbers answers box histogram visit i =
+Inv-loop file plan way column row moves counts₀ words₀ numbers₀ answers₀ weights box₀ histogram₀ visit₀ i₀ counts words numbers answers box histogram
+    visit i =
     Walking way file moves (stateOf visit₀) (stores counts₀ words₀ numbers₀) answers₀ (stores counts words numbers) answers histogram box visit i
 
 abbrev μ-loop : tie.MeasureT-loop
-μ-loop file plan way column row moves counts₀ words₀ numbers₀ answers₀ weights box₀ histogram₀ visit₀ i₀ counts words numbers answers box histogram visit i =
+μ-loop file plan way column row moves counts₀ words₀ numbers₀ answers₀ weights box₀ histogram₀ visit₀ i₀ counts words numbers answers box histogram
+    visit i =
     length moves - i
 
 -- the way back from the loop to the function's entry
 entry : (c : tie.After-answer-number Inv-loop μ-loop) → tie.Start Inv-loop μ-loop
-entry c = c .before .before .before .before .before .before .before .before .before .before .before .before .before .before .before .before .before .before .before .before .before .before .before
+entry c =
+    c .before .before .before .before .before .before .before .before .before .before .before .before .before .before .before .before .before .before
+    .before .before .before .before .before
 
 room : (c : tie.After-answer-number Inv-loop μ-loop) → length (entry c .args .moves .now) + 1 ≤ length (entry c .args .answers .now)
 unfolding entry
@@ -42,8 +46,10 @@ slice-aggregate-enter c = search needs
 
 enter-requires : tie.Need-enter-requires Inv-loop μ-loop
 enter-requires c κs =
-    let at = c .before .before .before .before .before .before .before .before .before .before .before .before .before .before .before in
-    ((at .pre .0 .0, c .before .before .before .before .before .before .before .built-rows .ensures, at .pre .0 .1), (at .pre .1 .0, (at .pre .1 .1 .1 .0, (refl, histogram-blank (at .pre .0 .0)))))
+    let at = c .before .before .before .before .before .before .before .before .before .before .before .before .before .before .before in (
+      (at .pre .0 .0, c .before .before .before .before .before .before .before .built-rows .ensures, at .pre .0 .1),
+      (at .pre .1 .0, (at .pre .1 .1 .1 .0, (refl, histogram-blank (at .pre .0 .0)))),
+    )
 
 answer-number-requires : tie.Need-answer-number-requires Inv-loop μ-loop
 answer-number-requires c κs = search needs
@@ -73,25 +79,52 @@ step-requires c κs =
     let w = l .loop .inv .going in
     let b = l .before in
     let at = entry b in (
-      (at .pre .0 .0, b .before .before .before .before .before .before .before .before .before .before .before .before .before .before .before .built-rows .ensures, at .pre .0 .1),
+      (
+        at .pre .0 .0,
+        b .before .before .before .before .before .before .before .before .before .before .before .before .before .before .before
+            .built-rows .ensures,
+        at .pre .0 .1,
+      ),
       (
         within-of (at .pre .0 .0) _ _ (w .held) (omega (arith, w .most, at .pre .1 .1 .0)),
-        (fit-going _ (at .pre .0 .0) _ _ _ (at .pre .1 .1 .1 .0) (b .before .before .before .before .before .before .before .enter .ensures .kept) (w .visited .kept), w .visited .here),
+        (
+          fit-going _ (at .pre .0 .0) _ _ _ (at .pre .1 .1 .1 .0) (b .before .before .before .before .before .before .before .enter .ensures .kept)
+              (w .visited .kept),
+          w .visited .here,
+        ),
       ),
     )
 
 add-i : tie.Need-add-i Inv-loop μ-loop
 unfolding entry
-add-i c = omega (arith, c .before .before .before .before .before .before .before .before .before .before .before .before .before .before .loop-test .taken, entry (c .before .before .before .before .before .before .before .before .before .before .before .before .before .before .before .before) .pre .1 .1 .0)
+add-i c =
+    omega (
+      arith,
+      c .before .before .before .before .before .before .before .before .before .before .before .before .before .before .loop-test .taken,
+      entry (c .before .before .before .before .before .before .before .before .before .before .before .before .before .before .before .before) .pre .1
+          .1 .0,
+    )
 
 answer-number-requires-2 : tie.Need-answer-number-requires-2 Inv-loop μ-loop
 answer-number-requires-2 c κs = search needs
 
 mul-answers : tie.Need-mul-answers Inv-loop μ-loop
 unfolding entry
-mul-answers c = omega (arith, c .before .before .before .before .before .before .before .before .before .before .before .before .before .before .before .loop-test .taken, entry (c .before .before .before .before .before .before .before .before .before .before .before .before .before .before .before .before .before) .pre .1 .1 .0)
+mul-answers c =
+    omega (
+      arith,
+      c .before .before .before .before .before .before .before .before .before .before .before .before .before .before .before .loop-test
+          .taken,
+      entry
+          (c .before .before .before .before .before .before .before .before .before .before .before .before .before .before .before .before .before) .pre
+          .1 .1 .0,
+    )
 
-long : (c : tie.After-slice-known10 Inv-loop μ-loop) → length (c .before .before .before .before .before .before .before .before .before .before .before .before .before .before .before .loop .answers) ≡ length (entry (c .before .before .before .before .before .before .before .before .before .before .before .before .before .before .before .before) .args .answers .now)
+long : (c : tie.After-slice-known10 Inv-loop μ-loop) →
+    length (c .before .before .before .before .before .before .before .before .before .before .before .before .before .before .before .loop .answers)
+    ≡ length
+    (entry (c .before .before .before .before .before .before .before .before .before .before .before .before .before .before .before .before) .args
+    .answers .now)
 unfolding entry
 long c =
     let l = c .before .before .before .before .before .before .before .before .before .before .before .before .before .before .before in
@@ -99,25 +132,50 @@ long c =
 
 slice-write-answers-2 : tie.Need-slice-write-answers-2 Inv-loop μ-loop
 unfolding entry
-slice-write-answers-2 c = omega (arith, long (c .before), c .before .before .before .before .before .before .before .before .before .before .before .before .before .before .before .loop-test .taken, room (c .before .before .before .before .before .before .before .before .before .before .before .before .before .before .before .before .before))
+slice-write-answers-2 c =
+    omega (
+      arith,
+      long (c .before),
+      c .before .before .before .before .before .before .before .before .before .before .before .before .before .before
+          .before .loop-test .taken,
+      room
+          (c .before .before .before .before .before .before .before .before .before .before .before .before .before .before .before .before .before),
+    )
 
 loop-less : tie.Need-loop-less Inv-loop μ-loop
-loop-less c = omega (arith, c .before .before .before .before .before .before .before .before .before .before .before .before .before .before .before .loop-test .taken)
+loop-less c =
+    omega (
+      arith,
+      c .before .before .before .before .before .before .before .before .before .before .before .before .before .before .before .loop-test
+          .taken,
+    )
 
 loop-again : tie.Need-loop-again Inv-loop μ-loop
 unfolding entry
 loop-again c =
     let l = c .before .before .before .before .before .before .before .before .before .before .before .before .before .before .before .before in
-    walking-more _ _ _ _ _ _ _ _ _ _ _ (l .loop .i) (l .loop .inv) (omega (arith, c .before .before .before .before .before .before .before .before .before .before .before .before .before .before .before .loop-test .taken)) (simp length-set (room (l .before))) _ _ _ _ (c .before .before .before .before .before .before .before .step .ensures) _ (c .answer-number2 .ensures)
+    walking-more _ _ _ _ _ _ _ _ _ _ _ (l .loop .i) (l .loop .inv)
+    (omega (
+      arith,
+      c .before .before .before .before .before .before .before .before .before .before .before .before .before .before .before .loop-test
+          .taken,
+    )) (simp length-set (room (l .before))) _ _ _ _ (c .before .before .before .before .before .before .before .step .ensures) _
+    (c .answer-number2 .ensures)
 
 same-length : tie.Need-same-length Inv-loop μ-loop
-same-length c = c .before .before .loop .inv .going .visited .kept .counts .long ∙ c .before .before .before .before .before .before .before .before .before .before .enter .ensures .kept .counts .long
+same-length c =
+    c .before .before .loop .inv .going .visited .kept .counts .long ∙ c .before .before .before .before .before .before .before .before .before
+    .before .enter .ensures .kept .counts .long
 
 same-length-2 : tie.Need-same-length-2 Inv-loop μ-loop
-same-length-2 c = c .before .before .loop .inv .going .visited .kept .words .long ∙ c .before .before .before .before .before .before .before .before .before .before .enter .ensures .kept .words .long
+same-length-2 c =
+    c .before .before .loop .inv .going .visited .kept .words .long ∙ c .before .before .before .before .before .before .before .before .before
+    .before .enter .ensures .kept .words .long
 
 same-length-3 : tie.Need-same-length-3 Inv-loop μ-loop
-same-length-3 c = c .before .before .loop .inv .going .visited .kept .numbers .long ∙ c .before .before .before .before .before .before .before .before .before .before .enter .ensures .kept .numbers .long
+same-length-3 c =
+    c .before .before .loop .inv .going .visited .kept .numbers .long ∙ c .before .before .before .before .before .before .before .before .before
+    .before .enter .ensures .kept .numbers .long
 
 same-length-4 : tie.Need-same-length-4 Inv-loop μ-loop
 unfolding entry
@@ -131,7 +189,9 @@ returns c =
     let l = c .before .before in
     let at = entry (l .before) in
     let v = c .before .before .before .before .before .before .before .before .before .before .enter .ensures in
-    let q = walking-end _ (at .args .file .now) (at .args .moves .now) _ _ _ _ _ (at .args .answers .now) _ _ _ _ _ (l .loop .visit) (l .loop .i) (l .loop .inv) (omega (arith, c .before .loop-test .left)) (v .state) (v .kept) _ refl in
+    let q =
+    walking-end _ (at .args .file .now) (at .args .moves .now) _ _ _ _ _ (at .args .answers .now) _ _ _ _ _ (l .loop .visit) (l .loop .i)
+    (l .loop .inv) (omega (arith, c .before .loop-test .left)) (v .state) (v .kept) _ refl in
     (finished (l .loop .visit) _ (q .0) refl refl refl refl, q .1)
 
 pub travel-spec : {M : Type 1} → statement M

@@ -66,8 +66,10 @@ returns c =
     let at = w .before .before .before .before in
     let xs = at .args .counts .now in
     let ws = at .args .words .now in (
-      ap (λ (x : ℕ). set xs x (getD xs x 0 + 1)) (w .before .cell-at .ensures) ∙ sym (enters-counts (at .args .enters) (at .args .m) (at .args .level .0) (at .args .guide .0) xs ws (t .if1 .taken)),
-      ap (set ws (w .word-at .result)) (c .with-bit .ensures) ∙ ap₂ (λ (q j : ℕ). set ws q (withBit (getD ws q 0) j)) (w .word-at .ensures) (b .bit-at .ensures)
+      ap (λ (x : ℕ). set xs x (getD xs x 0 + 1)) (w .before .cell-at .ensures) ∙ sym
+          (enters-counts (at .args .enters) (at .args .m) (at .args .level .0) (at .args .guide .0) xs ws (t .if1 .taken)),
+      ap (set ws (w .word-at .result)) (c .with-bit .ensures) ∙ ap₂ (λ (q j : ℕ). set ws q (withBit (getD ws q 0) j)) (w .word-at .ensures)
+          (b .bit-at .ensures)
           ∙ sym (enters-words (at .args .enters) (at .args .m) (at .args .level .0) (at .args .guide .0) xs ws (t .if1 .taken)),
     )
 
@@ -122,9 +124,12 @@ returns-2 c =
     let at = k .before .before .before in
     let xs = at .args .counts .now in
     let ws = at .args .words .now in (
-      ap (λ (x : ℕ). set xs x (getD xs x 0 - 1)) (k .cell-at .ensures) ∙ sym (leaves-counts (at .args .enters) (at .args .m) (at .args .level .0) (at .args .guide .0) xs ws (t .if1 .left)),
-      ap (set ws (w .word-at .result)) (c .without-bit .ensures ∙ ap₂ (withoutBit (getD ws (w .word-at .result) 0)) (b .bit-at .ensures) (g .emptied .ensures))
-          ∙ ap₂ (λ (q x : ℕ). set ws q (withoutBit (getD ws q 0) (at .args .guide .0 % 64) (1 - (getD xs x 0 - 1)))) (w .word-at .ensures) (k .cell-at .ensures)
+      ap (λ (x : ℕ). set xs x (getD xs x 0 - 1)) (k .cell-at .ensures) ∙ sym
+          (leaves-counts (at .args .enters) (at .args .m) (at .args .level .0) (at .args .guide .0) xs ws (t .if1 .left)),
+      ap (set ws (w .word-at .result))
+          (c .without-bit .ensures ∙ ap₂ (withoutBit (getD ws (w .word-at .result) 0)) (b .bit-at .ensures) (g .emptied .ensures))
+          ∙ ap₂ (λ (q x : ℕ). set ws q (withoutBit (getD ws q 0) (at .args .guide .0 % 64) (1 - (getD xs x 0 - 1)))) (w .word-at .ensures)
+          (k .cell-at .ensures)
           ∙ sym (leaves-words (at .args .enters) (at .args .m) (at .args .level .0) (at .args .guide .0) xs ws (t .if1 .left)),
     )
 

@@ -19,7 +19,8 @@ use Rattle.joint.proofs.list.change_pixels.Tie as tie
 
 abbrev Inv-loop : tie.InvT-loop
 Inv-loop p m enters cut cells₀ counts₀ words₀ n k₀ cells counts words k =
-    (k ≤ n) × ((a : Countable enters m p counts₀ words₀) → CountsPassed enters (a .levels) m p k counts₀ words₀ counts words) × BoxPassed enters (cut .0) p k cells₀ cells
+    (k ≤ n) × ((a : Countable enters m p counts₀ words₀) → CountsPassed enters (a .levels) m p k counts₀ words₀ counts words) × BoxPassed enters
+    (cut .0) p k cells₀ cells
 
 abbrev μ-loop : tie.MeasureT-loop
 μ-loop p m enters cut cells₀ counts₀ words₀ n k₀ cells counts words k = n - k
@@ -34,8 +35,11 @@ turn-low t = omega (arith, t .loop-test .taken, start (t .before) .pre .0 .below
 cell : (t : tie.In-loop Inv-loop μ-loop) → guideIn (start (t .before) .args .p .now) (t .before .loop .k) < 256
 cell t = let a = start (t .before) .pre .0 in omega (arith, a .below .guide (t .before .loop .k) (t .loop-test .taken), a .guides-high)
 
-room : (t : tie.In-loop Inv-loop μ-loop) → natAbs (getD (t .before .loop .balance-box) (guideIn (start (t .before) .args .p .now) (t .before .loop .k)) (pos 0)) ≤ 32766
-room t = let at = start (t .before) in cell-room (at .args .enters) (at .args .cut .0) (at .args .p .now) (at .pre .1) (t .loop-test .taken) (cell t) (t .before .loop .inv .2)
+room : (t : tie.In-loop Inv-loop μ-loop) →
+    natAbs (getD (t .before .loop .balance-box) (guideIn (start (t .before) .args .p .now) (t .before .loop .k)) (pos 0)) ≤ 32766
+room t = let at =
+    start (t .before) in cell-room (at .args .enters) (at .args .cut .0) (at .args .p .now) (at .pre .1) (t .loop-test .taken) (cell t)
+    (t .before .loop .inv .2)
 
 loop-holds : tie.Need-loop-holds Inv-loop μ-loop
 loop-holds c = (omega arith, λ a. counts-none a, box-none _ _ _ _)
@@ -104,7 +108,8 @@ loop-again c =
     let new = c .before .before .before .before .before .before .before .change-pixel .ensures in (
       omega (arith, t .loop-test .taken),
       λ a. counts-next a (t .loop-test .taken) (t .before .loop .inv .1 a) (new .0) (new .1),
-      box-next (at .args .enters) (at .args .cut .0) p (at .pre .1) (t .loop-test .taken) (cell t) (t .before .loop .inv .2) (ap (set (t .before .loop .balance-box) (guideIn p k)) stored),
+      box-next (at .args .enters) (at .args .cut .0) p (at .pre .1) (t .loop-test .taken) (cell t) (t .before .loop .inv .2)
+          (ap (set (t .before .loop .balance-box) (guideIn p k)) stored),
     )
 
 same-length : tie.Need-same-length Inv-loop μ-loop

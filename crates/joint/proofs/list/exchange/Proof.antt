@@ -13,8 +13,11 @@ change-pixels-requires-2 : tie.Need-change-pixels-requires-2
 change-pixels-requires-2 c κs =
     let g = c .before .before .before .before .before .before .before in
     let at = g .before .before .before .before .before .before .before .before in
-    let x = at .pre .0 in
-    (leave-counts x (g .change-pixels .ensures .0 (x .entering)), leave-box (at .args .entering .now) (at .args .leaving .now) (at .pre .1) (g .change-pixels .ensures .1))
+    let x = at .pre .0 in (
+      leave-counts x (g .change-pixels .ensures .0 (x .entering)),
+      leave-box (at .args .entering .now) (at .args .leaving .now) (at .pre .1)
+          (g .change-pixels .ensures .1),
+    )
 
 same-length : tie.Need-same-length
 same-length c = search needs

@@ -20,7 +20,8 @@ mul-clear-words : tie.Need-mul-clear-words
 mul-clear-words c = let at = c .before .before .before .before .before .before .before .before in omega (arith, words-small (at .pre .planned))
 
 clear-words-requires : tie.Need-clear-words-requires
-clear-words-requires c κs = let at = c .before .before .before .before .before .before .before .before in omega (arith, plan-words (at .pre .planned), at .pre .words)
+clear-words-requires c κs = let at =
+    c .before .before .before .before .before .before .before .before in omega (arith, plan-words (at .pre .planned), at .pre .words)
 
 low-requires : tie.Need-low-requires
 low-requires c κs = search needs
@@ -36,7 +37,8 @@ fill-requires c κs =
     let n = c .before .before .before in
     let w = n .before .before .before .before .before in
     let k = w .before .before .before .before in
-    build-asks (k .before .before .before .before .before .pre) (k .clear-counts .ensures) (w .clear-words .ensures) (n .before .low .ensures) (n .span-of .ensures)
+    build-asks (k .before .before .before .before .before .pre) (k .clear-counts .ensures) (w .clear-words .ensures) (n .before .low .ensures)
+    (n .span-of .ensures)
 
 same-length : tie.Need-same-length
 same-length c = search needs
@@ -50,7 +52,8 @@ returns c =
     let n = e .before .before .before .before in
     let w = n .before .before .before .before .before in
     let k = w .before .before .before .before in
-    built (k .before .before .before .before .before .pre) (k .clear-counts .ensures) (w .clear-words .ensures) (n .before .low .ensures) (n .span-of .ensures) (λ j. c .slice-known6 .given j .fits) (e .fill .ensures)
+    built (k .before .before .before .before .before .pre) (k .clear-counts .ensures) (w .clear-words .ensures) (n .before .low .ensures)
+    (n .span-of .ensures) (λ j. c .slice-known6 .given j .fits) (e .fill .ensures)
 
 pub build-spec : {M : Type 1} → statement M
 build-spec =

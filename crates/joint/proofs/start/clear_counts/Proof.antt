@@ -34,8 +34,11 @@ loop-less c = omega arith
 
 loop-again : tie.Need-loop-again Inv-loop μ-loop
 loop-again c =
-    let h = c .before in
-    (omega arith, ap (λ (q : List ℕ). set q (h .loop .k) 0) (h .loop .inv .1) ∙ clear-next (h .before .args .s .now) (h .loop .k) (omega (arith, h .before .pre)))
+    let h = c .before in (
+      omega arith,
+      ap (λ (q : List ℕ). set q (h .loop .k) 0) (h .loop .inv .1) ∙ clear-next (h .before .args .s .now) (h .loop .k)
+          (omega (arith, h .before .pre)),
+    )
 
 same-length : tie.Need-same-length Inv-loop μ-loop
 same-length c = long (c .before)

@@ -29,7 +29,8 @@ line r = r .before .before
 abbrev turn : tie.After-read Inv-loop μ-loop → tie.In-loop Inv-loop μ-loop
 turn r = r .before .before .before
 
-listed : (r : tie.After-read Inv-loop μ-loop) → let at = start (turn r .before) in LinePixels (at .args .file .now) (at .args .plan) (line r .column-line .result)
+listed : (r : tie.After-read Inv-loop μ-loop) → let at =
+    start (turn r .before) in LinePixels (at .args .file .now) (at .args .plan) (line r .column-line .result)
     (take (r .read .result - 0) (drop 0 (r .read .last .1 .1 .1 .0)))
 listed r = line-part (r .read .result) (r .read .last .1 .1 .1 .0) (r .read .ensures .1)
 
@@ -51,8 +52,12 @@ read-requires : tie.Need-read-requires Inv-loop μ-loop
 read-requires c κs =
     let d = c .before in
     let h = d .before .before in
-    let at = start h in
-    (at .pre .0 .0, column-planes (at .pre .0 .0) (at .pre .0 .1) (d .before .loop-test .taken) (h .loop .inv .1) (d .column-line .ensures), omega arith)
+    let at = start h in (
+      at .pre .0 .0,
+      column-planes (at .pre .0 .0) (at .pre .0 .1) (d .before .loop-test .taken) (h .loop .inv .1) (d .column-line .ensures),
+      omega
+          arith,
+    )
 
 sub-change-pixels : tie.Need-sub-change-pixels Inv-loop μ-loop
 sub-change-pixels c = search needs
@@ -85,7 +90,8 @@ loop-again c =
     let h = turn r .before in
     let at = start h in (
       omega (arith, turn r .loop-test .taken),
-      fill-again (at .pre .0 .0) (at .pre .0 .1) (turn r .loop-test .taken) (h .loop .inv .1) (line r .column-line .ensures) (listed r) (g .change-pixels .ensures .0) (g .change-pixels .ensures .1),
+      fill-again (at .pre .0 .0) (at .pre .0 .1) (turn r .loop-test .taken) (h .loop .inv .1) (line r .column-line .ensures) (listed r)
+          (g .change-pixels .ensures .0) (g .change-pixels .ensures .1),
     )
 
 same-length : tie.Need-same-length Inv-loop μ-loop

@@ -8,10 +8,12 @@ use Rattle.joint_rows.proofs.rows.built_formula.Statement.{statement}
 use Rattle.joint_rows.proofs.rows.built_formula.Tie as tie
 
 mul-guide-at : tie.Need-mul-guide-at
-mul-guide-at c = let at = c .before .before .before in omega (arith, place-small (at .pre .0 .0) (centre-place (at .pre .0 .0) (at .pre .0 .3) (at .pre .0 .4)))
+mul-guide-at c = let at =
+    c .before .before .before in omega (arith, place-small (at .pre .0 .0) (centre-place (at .pre .0 .0) (at .pre .0 .3) (at .pre .0 .4)))
 
 add-guide-at : tie.Need-add-guide-at
-add-guide-at c = let at = c .before .before .before in omega (arith, place-small (at .pre .0 .0) (centre-place (at .pre .0 .0) (at .pre .0 .3) (at .pre .0 .4)))
+add-guide-at c = let at =
+    c .before .before .before in omega (arith, place-small (at .pre .0 .0) (centre-place (at .pre .0 .0) (at .pre .0 .3) (at .pre .0 .4)))
 
 guide-at-requires : tie.Need-guide-at-requires
 guide-at-requires c κs = let at = c .before .before .before in (at .pre .0 .0, centre-place (at .pre .0 .0) (at .pre .0 .3) (at .pre .0 .4))

@@ -50,7 +50,8 @@ mul-row-2 : tie.Need-mul-row-2 Inv-loop μ-loop
 mul-row-2 c = omega (arith, c .before .before .loop-test .taken, c .before .before .before .before .pre)
 
 element-write-row : tie.Need-element-write-row Inv-loop μ-loop
-element-write-row c = omega (arith, c .before .before .loop-test .taken, c .before .before .before .before .pre, c .before .before .before .loop .inv .1 .long)
+element-write-row c =
+    omega (arith, c .before .before .loop-test .taken, c .before .before .before .before .pre, c .before .before .before .loop .inv .1 .long)
 
 add-k : tie.Need-add-k Inv-loop μ-loop
 add-k c = omega (arith, c .before .before .loop-test .taken, c .before .before .before .before .pre)
@@ -64,14 +65,19 @@ loop-again c =
     let at = t .before .before in (
       omega (arith, t .loop-test .taken),
       copied-next _ (omega (arith, t .loop-test .taken, at .pre))
-          (low-first (at .args .file .now) (at .args .first) (t .before .loop .k) (omega (arith, c .before .shared-slice-known .given (place c))) (omega (arith, c .shared-slice-known2 .given (place c + 1))))
+          (low-first (at .args .file .now) (at .args .first) (t .before .loop .k) (omega (arith, c .before .shared-slice-known .given (place c)))
+          (omega (arith, c .shared-slice-known2 .given (place c + 1))))
           (t .before .loop .inv .1),
     )
 
 returns : tie.Need-returns Inv-loop μ-loop
 returns c =
     let h = c .before in
-    record { long = h .loop .inv .1 .long ∙ h .before .pre .2; is = λ g l. h .loop .inv .1 .is g (omega (arith, h .loop .inv .0, c .loop-test .left)) }
+    record {
+      long = h .loop .inv .1 .long ∙ h .before .pre .2;
+      is =
+          λ g l. h .loop .inv .1 .is g (omega (arith, h .loop .inv .0, c .loop-test .left));
+    }
 
 pub copy-low-first-spec : {M : Type 1} → statement M
 copy-low-first-spec =

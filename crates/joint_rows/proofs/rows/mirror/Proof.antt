@@ -53,7 +53,8 @@ loop-again c =
     let h = t .before in (
       omega (arith, t .loop-test .taken),
       made-next (h .loop .k) _ _ _ (omega (arith, t .loop-test .taken, h .before .before .before .pre))
-          (built-entry 255 (h .loop .k) _ (h .before .constants .ensures) (omega (arith, c .apart .ensures, t .loop-test .taken)) (c .apart .ensures)) (h .loop .inv .1),
+          (built-entry 255 (h .loop .k) _ (h .before .constants .ensures) (omega (arith, c .apart .ensures, t .loop-test .taken))
+          (c .apart .ensures)) (h .loop .inv .1),
     )
 
 same-length : tie.Need-same-length Inv-loop μ-loop
@@ -62,7 +63,11 @@ same-length c = c .before .loop .inv .1 .long
 returns : tie.Need-returns Inv-loop μ-loop
 returns c =
     let h = c .before in
-    record { long = omega (arith, h .loop .inv .1 .long, h .before .before .before .pre); is = λ k l. h .loop .inv .1 .is k (omega (arith, h .loop .inv .0, c .loop-test .left)) }
+    record {
+      long = omega (arith, h .loop .inv .1 .long, h .before .before .before .pre);
+      is =
+          λ k l. h .loop .inv .1 .is k (omega (arith, h .loop .inv .0, c .loop-test .left));
+    }
 
 pub mirror-spec : {M : Type 1} → statement M
 mirror-spec =

@@ -39,7 +39,8 @@ add-first : tie.Need-add-first Inv-loop μ-loop
 add-first c = let at = c .before .before .before in omega (arith, inside at, at .good .0, small at, facts (at .pre .0) .value-last)
 
 copy-low-first-requires : tie.Need-copy-low-first-requires Inv-loop μ-loop
-copy-low-first-requires c κs = let at = c .before .before .before .before in (guides-within (at .pre .0) .1, omega (arith, inside at), length-replicate {A = ℕ} 256 0)
+copy-low-first-requires c κs = let at =
+    c .before .before .before .before in (guides-within (at .pre .0) .1, omega (arith, inside at), length-replicate {A = ℕ} 256 0)
 
 loop-holds : tie.Need-loop-holds Inv-loop μ-loop
 loop-holds c = (omega arith, exchange-start (c .copy-low-first .ensures))
@@ -57,7 +58,8 @@ mul-row : tie.Need-mul-row Inv-loop μ-loop
 mul-row c = let t = c .before in omega (arith, t .loop-test .taken, guides-within (begin (t .before) .pre .0) .1)
 
 array-write-row : tie.Need-array-write-row Inv-loop μ-loop
-array-write-row c = let t = c .before in omega (arith, t .loop-test .taken, guides-within (begin (t .before) .pre .0) .1, t .before .loop .inv .1 .long)
+array-write-row c = let t =
+    c .before in omega (arith, t .loop-test .taken, guides-within (begin (t .before) .pre .0) .1, t .before .loop .inv .1 .long)
 
 add-k : tie.Need-add-k Inv-loop μ-loop
 add-k c = let t = c .before in omega (arith, t .loop-test .taken, guides-within (begin (t .before) .pre .0) .1)
@@ -67,8 +69,11 @@ loop-less c = omega (arith, c .before .loop-test .taken)
 
 loop-again : tie.Need-loop-again Inv-loop μ-loop
 loop-again c =
-    let t = c .before in
-    (omega (arith, t .loop-test .taken), exchange-next (guides-within (begin (t .before) .pre .0) .1) (t .loop-test .taken) (c .exchanged .ensures) (t .before .loop .inv .1))
+    let t = c .before in (
+      omega (arith, t .loop-test .taken),
+      exchange-next (guides-within (begin (t .before) .pre .0) .1) (t .loop-test .taken) (c .exchanged .ensures)
+          (t .before .loop .inv .1),
+    )
 
 returns : tie.Need-returns Inv-loop μ-loop
 returns c =

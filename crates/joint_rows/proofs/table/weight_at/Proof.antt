@@ -28,31 +28,64 @@ returns : tie.Need-returns
 returns c =
     let e = c .before in
     let h = start (e .before) .pre in
-    built-entry _ _ _ (h .0) (apart-low (h .1) (h .2) (h .3) (e .apart .ensures)) (e .apart .ensures) ∙ sym (table-built (h .1) (e .before .if1 .taken) _ _)
+    built-entry _ _ _ (h .0) (apart-low (h .1) (h .2) (h .3) (e .apart .ensures)) (e .apart .ensures) ∙ sym
+    (table-built (h .1) (e .before .if1 .taken) _ _)
 
 cast-k : tie.Need-cast-k
 cast-k c = search needs
 
 mul-k : tie.Need-mul-k
-mul-k c = let h = c .before .before .before .before .before .pre in omega (arith, weight-place (h .1) (c .before .before .if1 .left) _ _ (h .2) (h .3), weight-place (h .1) (c .before .before .if1 .left) _ _ (h .3) (h .2))
+mul-k c = let h =
+    c .before .before .before .before .before .pre in omega (
+      arith,
+      weight-place (h .1) (c .before .before .if1 .left) _ _ (h .2) (h .3),
+      weight-place (h .1) (c .before .before .if1 .left) _ _ (h .3)
+          (h .2),
+    )
 
 cast-k-2 : tie.Need-cast-k-2
 cast-k-2 c = search needs
 
 add-k : tie.Need-add-k
-add-k c = let h = c .before .before .before .before .before .before .pre in omega (arith, weight-place (h .1) (c .before .before .before .if1 .left) _ _ (h .2) (h .3), weight-place (h .1) (c .before .before .before .if1 .left) _ _ (h .3) (h .2))
+add-k c = let h =
+    c .before .before .before .before .before .before .pre in omega (
+      arith,
+      weight-place (h .1) (c .before .before .before .if1 .left) _ _ (h .2) (h .3),
+      weight-place (h .1) (c .before .before .before .if1 .left)
+          _ _ (h .3) (h .2),
+    )
 
 mul-be16 : tie.Need-mul-be16
-mul-be16 c = let h = c .before .before .before .before .before .before .pre in omega (arith, weight-place (h .1) (c .before .before .before .if1 .left) _ _ (h .2) (h .3), weight-place (h .1) (c .before .before .before .if1 .left) _ _ (h .3) (h .2))
+mul-be16 c = let h =
+    c .before .before .before .before .before .before .pre in omega (
+      arith,
+      weight-place (h .1) (c .before .before .before .if1 .left) _ _ (h .2) (h .3),
+      weight-place (h .1) (c .before .before .before .if1 .left)
+          _ _ (h .3) (h .2),
+    )
 
 add-be16 : tie.Need-add-be16
-add-be16 c = let h = c .before .before .before .before .before .before .before .pre in omega (arith, weight-place (h .1) (c .before .before .before .before .if1 .left) _ _ (h .2) (h .3), weight-place (h .1) (c .before .before .before .before .if1 .left) _ _ (h .3) (h .2))
+add-be16 c = let h =
+    c .before .before .before .before .before .before .before .pre in omega (
+      arith,
+      weight-place (h .1) (c .before .before .before .before .if1 .left) _ _ (h .2) (h .3),
+      weight-place (h .1)
+          (c .before .before .before .before .if1 .left) _ _ (h .3) (h .2),
+    )
 
 be16-requires : tie.Need-be16-requires
-be16-requires c κs = let h = c .before .before .before .before .before .before .before .pre in omega (arith, weight-place (h .1) (c .before .before .before .before .if1 .left) _ _ (h .2) (h .3), weight-place (h .1) (c .before .before .before .before .if1 .left) _ _ (h .3) (h .2))
+be16-requires c κs = let h =
+    c .before .before .before .before .before .before .before .pre in omega (
+      arith,
+      weight-place (h .1) (c .before .before .before .before .if1 .left) _ _ (h .2) (h .3),
+      weight-place (h .1)
+          (c .before .before .before .before .if1 .left) _ _ (h .3) (h .2),
+    )
 
 returns-2 : tie.Need-returns-2
-returns-2 c = let h = c .before .before .before .before .before .before .before .before .pre in c .be16 .ensures ∙ sym (table-own (h .1) (c .before .before .before .before .before .if1 .left) _ _)
+returns-2 c = let h =
+    c .before .before .before .before .before .before .before .before .pre in c .be16 .ensures ∙ sym
+    (table-own (h .1) (c .before .before .before .before .before .if1 .left) _ _)
 
 pub weight-at-spec : {M : Type 1} → statement M
 weight-at-spec =

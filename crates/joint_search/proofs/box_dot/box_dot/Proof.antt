@@ -46,8 +46,11 @@ loop-again c =
     let o = c .before in
     let t = o .before in
     let h = t .before in
-    let at = start h in
-    (omega (arith, t .loop-test .taken), dot-again (at .pre .0) (at .pre .1) (at .pre .2) (h .loop .f) 16 (h .loop .dot) (t .loop-test .taken) (h .loop .inv .1) (o .sixteen .ensures) (c .add .ok) (c .add .ensures))
+    let at = start h in (
+      omega (arith, t .loop-test .taken),
+      dot-again (at .pre .0) (at .pre .1) (at .pre .2) (h .loop .f) 16 (h .loop .dot) (t .loop-test .taken)
+          (h .loop .inv .1) (o .sixteen .ensures) (c .add .ok) (c .add .ensures),
+    )
 
 rest-requires : tie.Need-rest-requires Inv-loop μ-loop
 rest-requires c κs = let h = c .before in let at = start h in ((at .pre .0, at .pre .1, at .pre .2), (h .loop .inv .0, h .loop .inv .1))

@@ -17,7 +17,9 @@ add-requires : tie.Need-add-requires
 add-requires c κs = halves-asks 4 (c .before .before .before .pre) (c .before .four .ensures) (c .four2 .ensures)
 
 returns : tie.Need-returns
-returns c = halves-join 4 (c .before .before .before .before .pre) (c .before .before .four .ensures) (c .before .four2 .ensures) (c .add .ok) (c .add .ensures)
+returns c =
+    halves-join 4 (c .before .before .before .before .pre) (c .before .before .four .ensures) (c .before .four2 .ensures) (c .add .ok)
+    (c .add .ensures)
 
 pub eight-spec : {M : Type 1} → statement M
 eight-spec = tie.close (tie.spec four-requires add-four four-requires-2 add-requires returns)

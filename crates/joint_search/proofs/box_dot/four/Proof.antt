@@ -17,7 +17,8 @@ add-requires : tie.Need-add-requires
 add-requires c κs = halves-asks 2 (c .before .before .before .pre) (c .before .two .ensures) (c .two2 .ensures)
 
 returns : tie.Need-returns
-returns c = halves-join 2 (c .before .before .before .before .pre) (c .before .before .two .ensures) (c .before .two2 .ensures) (c .add .ok) (c .add .ensures)
+returns c =
+    halves-join 2 (c .before .before .before .before .pre) (c .before .before .two .ensures) (c .before .two2 .ensures) (c .add .ok) (c .add .ensures)
 
 pub four-spec : {M : Type 1} → statement M
 four-spec = tie.close (tie.spec two-requires add-two two-requires-2 add-requires returns)

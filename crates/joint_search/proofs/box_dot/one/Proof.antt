@@ -38,7 +38,9 @@ returns c =
     let at = c .before .before .before .before in
     let f = at .args .f in
     toZ-ofZ (record { sfits = c .product .ok }) ∙ c .product .ensures
-    ∙ ap (λ (x : ℤ). x *ℤ pos (getD (at .args .weights .now) (at .args .at + f) 0)) (read-bounded w16 {z = getD (at .args .balance-box .now) f (pos 0)} 961 (at .pre .low .low f) tt) ∙ sym (part-one (at .args .balance-box .now) (at .args .weights .now) (at .args .at) f)
+    ∙ ap (λ (x : ℤ). x *ℤ pos (getD (at .args .weights .now) (at .args .at + f) 0))
+    (read-bounded w16 {z = getD (at .args .balance-box .now) f (pos 0)} 961 (at .pre .low .low f) tt) ∙ sym
+    (part-one (at .args .balance-box .now) (at .args .weights .now) (at .args .at) f)
 
 pub one-spec : {M : Type 1} → statement M
 one-spec =

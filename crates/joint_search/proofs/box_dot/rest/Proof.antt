@@ -31,7 +31,8 @@ add-requires : tie.Need-add-requires Inv-loop μ-loop
 add-requires c κs =
     let t = c .before in
     let at = start (t .before) in
-    more-asks (at .pre .0 .0) (at .pre .0 .1) (at .pre .0 .2) (t .before .loop .f) 1 (t .before .loop .dot) (omega (arith, t .loop-test .taken)) (t .before .loop .inv .1) (c .one .ensures)
+    more-asks (at .pre .0 .0) (at .pre .0 .1) (at .pre .0 .2) (t .before .loop .f) 1 (t .before .loop .dot) (omega (arith, t .loop-test .taken))
+    (t .before .loop .inv .1) (c .one .ensures)
 
 add-f : tie.Need-add-f Inv-loop μ-loop
 add-f c = let t = c .before .before in omega (arith, t .loop-test .taken, (start (t .before)) .pre .0 .0)
@@ -43,8 +44,11 @@ loop-again : tie.Need-loop-again Inv-loop μ-loop
 loop-again c =
     let o = c .before in
     let t = o .before in
-    let at = start (t .before) in
-    (omega (arith, t .loop-test .taken), dot-again (at .pre .0 .0) (at .pre .0 .1) (at .pre .0 .2) (t .before .loop .f) 1 (t .before .loop .dot) (omega (arith, t .loop-test .taken)) (t .before .loop .inv .1) (o .one .ensures) (c .add .ok) (c .add .ensures))
+    let at = start (t .before) in (
+      omega (arith, t .loop-test .taken),
+      dot-again (at .pre .0 .0) (at .pre .0 .1) (at .pre .0 .2) (t .before .loop .f) 1 (t .before .loop .dot)
+          (omega (arith, t .loop-test .taken)) (t .before .loop .inv .1) (o .one .ensures) (c .add .ok) (c .add .ensures),
+    )
 
 returns : tie.Need-returns Inv-loop μ-loop
 returns c =

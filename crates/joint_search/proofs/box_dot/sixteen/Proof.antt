@@ -17,7 +17,9 @@ add-requires : tie.Need-add-requires
 add-requires c κs = halves-asks 8 (c .before .before .before .pre) (c .before .eight .ensures) (c .eight2 .ensures)
 
 returns : tie.Need-returns
-returns c = halves-join 8 (c .before .before .before .before .pre) (c .before .before .eight .ensures) (c .before .eight2 .ensures) (c .add .ok) (c .add .ensures)
+returns c =
+    halves-join 8 (c .before .before .before .before .pre) (c .before .before .eight .ensures) (c .before .eight2 .ensures) (c .add .ok)
+    (c .add .ensures)
 
 pub sixteen-spec : {M : Type 1} → statement M
 sixteen-spec = tie.close (tie.spec eight-requires add-eight eight-requires-2 add-requires returns)

@@ -17,7 +17,8 @@ add-requires : tie.Need-add-requires
 add-requires c κs = halves-asks 1 (c .before .before .before .pre) (c .before .one .ensures) (c .one2 .ensures)
 
 returns : tie.Need-returns
-returns c = halves-join 1 (c .before .before .before .before .pre) (c .before .before .one .ensures) (c .before .one2 .ensures) (c .add .ok) (c .add .ensures)
+returns c =
+    halves-join 1 (c .before .before .before .before .pre) (c .before .before .one .ensures) (c .before .one2 .ensures) (c .add .ok) (c .add .ensures)
 
 pub two-spec : {M : Type 1} → statement M
 two-spec = tie.close (tie.spec one-requires add-one one-requires-2 add-requires returns)

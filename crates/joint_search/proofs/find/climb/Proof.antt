@@ -17,7 +17,8 @@ use Rattle.joint_search.proofs.find.climb.Tie as tie
 
 abbrev Inv-loop : tie.InvT-loop
 Inv-loop plan weights w bal shifts counts words i₀ b₀ n₀ i b n =
-    (i₀ ≤ i) × (i < plan .levels) × (toZ w64 b ≡ balanceIn plan counts weights w i) × ((j : ℕ) → i₀ ≤ j → j < i → balanceIn plan counts weights w j <ℤ pos 0) × (n + i₀ ≡ n₀ + i)
+    (i₀ ≤ i) × (i < plan .levels) × (toZ w64 b ≡ balanceIn plan counts weights w i) × ((j : ℕ) → i₀ ≤ j → j < i →
+    balanceIn plan counts weights w j <ℤ pos 0) × (n + i₀ ≡ n₀ + i)
 
 abbrev μ-loop : tie.MeasureT-loop
 μ-loop plan weights w bal shifts counts words i₀ b₀ n₀ i b n = plan .levels - i
@@ -38,8 +39,14 @@ next c = let at = start (c .before) in room (at .pre .0 .0) (at .pre .0 .1) (c .
 
 loop-holds : tie.Need-loop-holds Inv-loop μ-loop
 loop-holds c =
-    let at = c .before .before .before in
-    (omega arith, at .pre .1 .0, balance-back (at .pre .0 .0) (at .pre .0 .1) (at .args .from .0) (at .args .bal) (at .pre .1 .0) (at .pre .1 .1), λ j u v. absurd (omega arith), refl)
+    let at = c .before .before .before in (
+      omega arith,
+      at .pre .1 .0,
+      balance-back (at .pre .0 .0) (at .pre .0 .1) (at .args .from .0) (at .args .bal) (at .pre .1 .0) (at .pre .1 .1),
+      λ
+          j u v. absurd (omega arith),
+      refl,
+    )
 
 add-i : tie.Need-add-i Inv-loop μ-loop
 add-i c = omega (arith, (start (c .before)) .pre .0 .0 .levels, c .before .loop .inv .1)
@@ -57,7 +64,8 @@ step-balance-requires : tie.Need-step-balance-requires Inv-loop μ-loop
 step-balance-requires c κs =
     let h = c .before .before in
     let at = start h in
-    step-asks (at .pre .0 .0) (at .pre .0 .1) (h .loop .i) (h .loop .i + 1) (toZ w64 (h .loop .b)) (c .level-weight .result) (pos 2) (h .loop .inv .1) (next (c .before)) (h .loop .inv .2) (c .level-weight .ensures) (omega arith)
+    step-asks (at .pre .0 .0) (at .pre .0 .1) (h .loop .i) (h .loop .i + 1) (toZ w64 (h .loop .b)) (c .level-weight .result) (pos 2)
+    (h .loop .inv .1) (next (c .before)) (h .loop .inv .2) (c .level-weight .ensures) (omega arith)
 
 loop-less : tie.Need-loop-less Inv-loop μ-loop
 loop-less c = omega (arith, c .before .before .before .loop .inv .1)
@@ -69,8 +77,10 @@ loop-again c =
     let at = start h in (
       omega (arith, h .loop .inv .0),
       next (e .before),
-      step-up (at .pre .0 .0) (at .pre .0 .1) (h .loop .i) (toZ w64 (h .loop .b)) (e .level-weight .result) (c .step-balance .result) (next (e .before)) (h .loop .inv .2) (e .level-weight .ensures) (c .step-balance .ok) (c .step-balance .ensures),
-      λ j u v. ⊎-elim (λ x. h .loop .inv .3 j u x) (λ x. let d : j ≡ h .loop .i = omega arith in subst (λ (q : ℕ). bal at q <ℤ pos 0) (sym d) (below (e .before))) (lt-or-le j (h .loop .i)),
+      step-up (at .pre .0 .0) (at .pre .0 .1) (h .loop .i) (toZ w64 (h .loop .b)) (e .level-weight .result) (c .step-balance .result)
+          (next (e .before)) (h .loop .inv .2) (e .level-weight .ensures) (c .step-balance .ok) (c .step-balance .ensures),
+      λ j u v. ⊎-elim (λ x. h .loop .inv .3 j u x) (λ x. let d : j ≡ h .loop .i =
+          omega arith in subst (λ (q : ℕ). bal at q <ℤ pos 0) (sym d) (below (e .before))) (lt-or-le j (h .loop .i)),
       omega (arith, h .loop .inv .4),
     )
 

@@ -30,17 +30,25 @@ bal at j = balanceIn (at .args .plan) (at .args .counts .now) (at .args .weights
 inside : (c : tie.In-loop Inv-loop μ-loop) → c .before .loop .i < (start (c .before)) .args .plan .levels
 inside c = omega (arith, (start (c .before)) .pre .1 .0, c .before .loop .inv .0)
 
-lower : (v : tie.After-step-balance Inv-loop μ-loop) → toZ w64 (ofZ w64 (v .step-balance .result)) ≡ bal (start (v .before .before .before)) (v .before .before .before .loop .i - 1)
+lower : (v : tie.After-step-balance Inv-loop μ-loop) →
+    toZ w64 (ofZ w64 (v .step-balance .result)) ≡ bal (start (v .before .before .before)) (v .before .before .before .loop .i - 1)
 lower v =
     let e = v .before in
     let h = e .before .before in
     let at = start h in
-    step-down (at .pre .0 .0) (at .pre .0 .1) (h .loop .i) (toZ w64 (h .loop .b)) (e .level-weight .result) (v .step-balance .result) (e .before .loop-test .taken) (inside (e .before)) (h .loop .inv .1) (e .level-weight .ensures) (v .step-balance .ok) (v .step-balance .ensures)
+    step-down (at .pre .0 .0) (at .pre .0 .1) (h .loop .i) (toZ w64 (h .loop .b)) (e .level-weight .result) (v .step-balance .result)
+    (e .before .loop-test .taken) (inside (e .before)) (h .loop .inv .1) (e .level-weight .ensures) (v .step-balance .ok)
+    (v .step-balance .ensures)
 
 loop-holds : tie.Need-loop-holds Inv-loop μ-loop
 loop-holds c =
-    let at = c .before .before .before in
-    (omega arith, balance-back (at .pre .0 .0) (at .pre .0 .1) (at .args .from .0) (at .args .bal) (at .pre .1 .0) (at .pre .1 .1), subst (λ (q : ℤ). pos 0 ≤ℤ q) (at .pre .1 .1) (at .pre .1 .3), refl)
+    let at = c .before .before .before in (
+      omega arith,
+      balance-back (at .pre .0 .0) (at .pre .0 .1) (at .args .from .0) (at .args .bal) (at .pre .1 .0) (at .pre .1 .1),
+      subst
+          (λ (q : ℤ). pos 0 ≤ℤ q) (at .pre .1 .1) (at .pre .1 .3),
+      refl,
+    )
 
 level-weight-requires : tie.Need-level-weight-requires Inv-loop μ-loop
 level-weight-requires c κs = let at = start (c .before) in level-asks (at .pre .0 .0) (at .pre .0 .1) (c .before .loop .i) (inside c)
@@ -49,7 +57,8 @@ step-balance-requires : tie.Need-step-balance-requires Inv-loop μ-loop
 step-balance-requires c κs =
     let h = c .before .before in
     let at = start h in
-    step-asks (at .pre .0 .0) (at .pre .0 .1) (h .loop .i) (h .loop .i) (toZ w64 (h .loop .b)) (c .level-weight .result) (negsuc 1) (inside (c .before)) (inside (c .before)) (h .loop .inv .1) (c .level-weight .ensures) (omega arith)
+    step-asks (at .pre .0 .0) (at .pre .0 .1) (h .loop .i) (h .loop .i) (toZ w64 (h .loop .b)) (c .level-weight .result) (negsuc 1)
+    (inside (c .before)) (inside (c .before)) (h .loop .inv .1) (c .level-weight .ensures) (omega arith)
 
 -- the balance below falls short
 short : (c : tie.Then1 Inv-loop μ-loop) → let h = c .before .before .before .before in bal (start h) (h .loop .i - 1) <ℤ pos 0

@@ -24,8 +24,10 @@ shift-level-requires : tie.Need-shift-level-requires Inv-loop μ-loop
 shift-level-requires c κs =
     let h = c .before .before in
     let at = start h in
-    let q = at .pre .0 in
-    (q .marked _ (omega (arith, at .pre .1 .1, h .loop .inv .1)), (omega arith, box-bounds q (h .loop .i) _ (omega (arith, at .pre .1 .1, h .loop .inv .1)) (h .loop .inv .2)))
+    let q = at .pre .0 in (
+      q .marked _ (omega (arith, at .pre .1 .1, h .loop .inv .1)),
+      (omega arith, box-bounds q (h .loop .i) _ (omega (arith, at .pre .1 .1, h .loop .inv .1)) (h .loop .inv .2)),
+    )
 
 sub-i : tie.Need-sub-i Inv-loop μ-loop
 sub-i c = omega (arith, c .before .before .loop-test .taken)
@@ -41,7 +43,8 @@ loop-again c =
     let d : h .loop .i - 1 + 1 ≡ h .loop .i = omega (arith, t .loop-test .taken) in (
       omega (arith, t .loop-test .taken),
       omega (arith, h .loop .inv .1),
-      lowered (at .args .plan) (at .args .counts .now) (h .loop .i - 1) _ _ _ _ (h .loop .inv .2 ∙ ap (boxIn (at .args .plan) (at .args .counts .now)) (sym d)) (c .shift-level .ensures) (omega (arith, d)) refl,
+      lowered (at .args .plan) (at .args .counts .now) (h .loop .i - 1) _ _ _ _
+          (h .loop .inv .2 ∙ ap (boxIn (at .args .plan) (at .args .counts .now)) (sym d)) (c .shift-level .ensures) (omega (arith, d)) refl,
     )
 
 returns : tie.Need-returns Inv-loop μ-loop

@@ -27,8 +27,10 @@ shift-level-requires : tie.Need-shift-level-requires Inv-loop μ-loop
 shift-level-requires c κs =
     let h = c .before .before in
     let at = start h in
-    let q = at .pre .0 in
-    (q .marked _ (omega (arith, at .pre .1 .1, c .before .loop-test .taken)), (omega arith, box-bounds q (h .loop .i) _ (omega (arith, at .pre .1 .1, c .before .loop-test .taken)) (h .loop .inv .1)))
+    let q = at .pre .0 in (
+      q .marked _ (omega (arith, at .pre .1 .1, c .before .loop-test .taken)),
+      (omega arith, box-bounds q (h .loop .i) _ (omega (arith, at .pre .1 .1, c .before .loop-test .taken)) (h .loop .inv .1)),
+    )
 
 loop-less : tie.Need-loop-less Inv-loop μ-loop
 loop-less c = omega (arith, c .before .before .loop-test .taken)
@@ -37,8 +39,11 @@ loop-again : tie.Need-loop-again Inv-loop μ-loop
 loop-again c =
     let t = c .before .before in
     let h = t .before in
-    let at = start h in
-    (omega (arith, t .loop-test .taken), raised (at .args .plan) (at .args .counts .now) (h .loop .i) _ _ (h .loop .balance-box) (c .shift-level .last .1 .1 .1 .0) (h .loop .inv .1) (c .shift-level .ensures) (omega arith) refl)
+    let at = start h in (
+      omega (arith, t .loop-test .taken),
+      raised (at .args .plan) (at .args .counts .now) (h .loop .i) _ _ (h .loop .balance-box)
+          (c .shift-level .last .1 .1 .1 .0) (h .loop .inv .1) (c .shift-level .ensures) (omega arith) refl,
+    )
 
 returns : tie.Need-returns Inv-loop μ-loop
 returns c =

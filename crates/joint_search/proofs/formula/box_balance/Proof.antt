@@ -23,7 +23,10 @@ returns : tie.Need-returns
 returns c =
     let at = c .before .before in
     wide (c .box-dot .result) (low c) ∙ c .box-dot .ensures
-    ∙ rw (at .pre .3, at .pre .4) (solve2 (λ d a. d ≐ # 1 ⊗ d ⊕ # 0 ⊗ a) refl (boxDot (at .args .balance-box .now) (at .args .weights .now) (at .args .formula .row) (at .args .m)) (boxAll (at .args .balance-box .now) (at .args .m)))
+    ∙ rw (at .pre .3, at .pre .4)
+    (solve2 (λ d a. d ≐ # 1 ⊗ d ⊕ # 0 ⊗ a) refl
+    (boxDot (at .args .balance-box .now) (at .args .weights .now) (at .args .formula .row) (at .args .m))
+    (boxAll (at .args .balance-box .now) (at .args .m)))
 
 pub box-balance-spec : {M : Type 1} → statement M
 box-balance-spec = tie.close (tie.spec box-dot-requires cast-result returns)

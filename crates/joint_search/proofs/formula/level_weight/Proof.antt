@@ -24,15 +24,18 @@ cast-combine-2 : tie.Need-cast-combine-2
 cast-combine-2 c = search needs
 
 combine-requires : tie.Need-combine-requires
-combine-requires c κs = let e = c .before .before .before .before in level-asks ((start e) .args .formula) ((start e) .pre .1 .small) _ _ (low e .1) (low e .0)
+combine-requires c κs = let e =
+    c .before .before .before .before in level-asks ((start e) .args .formula) ((start e) .pre .1 .small) _ _ (low e .1) (low e .0)
 
 returns : tie.Need-returns
 unfolding levelWeightIn
 returns c =
     let e = c .before .before .before .before .before in
     let at = start e in
-    level-value (at .args .formula) (at .pre .1 .small) (c .combine .result) (e .level-sums .result .dot) (e .level-sums .result .pixels) (low e .1) (low e .0) (c .combine .ok) (c .combine .ensures)
-    ∙ ap₂ (λ (d a : ℕ). at .args .formula .slope *ℤ pos d +ℤ at .args .formula .offset *ℤ pos a) (e .level-sums .ensures .1) (e .level-sums .ensures .0)
+    level-value (at .args .formula) (at .pre .1 .small) (c .combine .result) (e .level-sums .result .dot) (e .level-sums .result .pixels) (low e .1)
+    (low e .0) (c .combine .ok) (c .combine .ensures)
+    ∙ ap₂ (λ (d a : ℕ). at .args .formula .slope *ℤ pos d +ℤ at .args .formula .offset *ℤ pos a) (e .level-sums .ensures .1)
+    (e .level-sums .ensures .0)
 
 pub level-weight-spec : {M : Type 1} → statement M
 level-weight-spec =

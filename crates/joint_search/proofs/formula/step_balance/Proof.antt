@@ -8,7 +8,9 @@ use Rattle.joint_search.proofs.formula.step_balance.Statement.{statemen
 use Rattle.joint_search.proofs.formula.step_balance.Tie as tie
 
 abbrev env : tie.Start → List Cell
-env c = paramCell w64 (c .args .x) 15004580982826500 (c .pre .0) tt ∷ paramCell w64 (c .args .by) 2 (c .pre .1) tt ∷ paramCell w64 (c .args .y) 15004580982826500 (c .pre .2) tt ∷ []
+env c =
+    paramCell w64 (c .args .x) 15004580982826500 (c .pre .0) tt ∷ paramCell w64 (c .args .by) 2 (c .pre .1) tt ∷ paramCell w64 (c .args .y)
+    15004580982826500 (c .pre .2) tt ∷ []
 
 mul-result : tie.Need-mul-result
 mul-result c = need! w64 (env c) (search signedCode depth 12) tt

@@ -6,7 +6,19 @@ use lib.ListN.{length, getD}
 use Rattle.spec.specs.Base.{sum}
 use Rattle.joint.specs.Store.{cellAt}
 use Rattle.joint_search.specs.Scan.{cellSum, cellDot, placeOf, Scans}
-use Rattle.joint_search.proofs.ScanLaws.{first-low, base-low, scan-asks, sums-low, turn, walk-start, walk-again, walk-done, term-zero, place-low, place-ended}
+use Rattle.joint_search.proofs.ScanLaws.{
+  first-low,
+  base-low,
+  scan-asks,
+  sums-low,
+  turn,
+  walk-start,
+  walk-again,
+  walk-done,
+  term-zero,
+  place-low,
+  place-ended,
+}
 use Rattle.joint_search.proofs.level.level_sums.Statement.{statement}
 use Rattle.joint_search.proofs.level.level_sums.Tie as tie
 
@@ -39,7 +51,9 @@ facts : (c : tie.After-guide Inv-loop μ-loop) →
     × ((start (head c)) .args .at + c .guide .result .0 ≤ 65792)
     × (getD ((start (head c)) .args .counts .now) (level (head c) * (start (head c)) .args .m + c .guide .result .0) 0 ≤ 961)
     × (getD ((start (head c)) .args .weights .now) ((start (head c)) .args .at + c .guide .result .0) 0 ≤ 65535)
-    × (getD ((start (head c)) .args .counts .now) (level (head c) * (start (head c)) .args .m + c .guide .result .0) 0 * getD ((start (head c)) .args .weights .now) ((start (head c)) .args .at + c .guide .result .0) 0 ≤ 62979135)
+    ×
+    (getD ((start (head c)) .args .counts .now) (level (head c) * (start (head c)) .args .m + c .guide .result .0) 0 * getD
+    ((start (head c)) .args .weights .now) ((start (head c)) .args .at + c .guide .result .0) 0 ≤ 62979135)
 facts c = let at = start (head c) in turn (at .pre .0) (at .pre .1) (c .guide .result .0) (omega (arith, c .guide .ensures, low (c .before)))
 
 sofar : (h : tie.At-loop Inv-loop μ-loop) → (h .loop .pixels ≤ 961) × (h .loop .dot ≤ 62979135)
@@ -63,8 +77,13 @@ begin-requires c κs = let at = c .before .before .before .before in scan-asks (
 loop-holds : tie.Need-loop-holds Inv-loop μ-loop
 loop-holds c =
     let f = c .begin .ensures in
-    let at = c .before .before .before .before .before in
-    (f .next .most, f .scans, walk-start (at .pre .0) _ (λ f e. e) _ (f .next), walk-start (at .pre .0) _ (term-zero (at .pre .0) (at .pre .1)) _ (f .next))
+    let at = c .before .before .before .before .before in (
+      f .next .most,
+      f .scans,
+      walk-start (at .pre .0) _ (λ f e. e) _ (f .next),
+      walk-start (at .pre .0) _ (term-zero (at .pre .0) (at .pre .1)) _
+          (f .next),
+    )
 
 guide-requires : tie.Need-guide-requires Inv-loop μ-loop
 guide-requires c κs = omega (arith, low c, (start (c .before .before)) .pre .0 .guides)
@@ -128,9 +147,12 @@ loop-again c =
     let l = low (g .before) in (
       n .most,
       c .next .ensures .scans,
-      walk-again (at .pre .0) _ (λ f e. e) _ _ _ _ l n (h .loop .inv .2) (ap (λ (q : ℕ). h .loop .pixels + getD (at .args .counts .now) (cellAt (at .args .m) (level h) q) 0) (g .guide .ensures)),
+      walk-again (at .pre .0) _ (λ f e. e) _ _ _ _ l n (h .loop .inv .2)
+          (ap (λ (q : ℕ). h .loop .pixels + getD (at .args .counts .now) (cellAt (at .args .m) (level h) q) 0) (g .guide .ensures)),
       walk-again (at .pre .0) _ (term-zero (at .pre .0) (at .pre .1)) _ _ _ _ l n (h .loop .inv .3)
-          (ap (λ (q : ℕ). h .loop .dot + getD (at .args .counts .now) (cellAt (at .args .m) (level h) q) 0 * getD (at .args .weights .now) (at .args .at + q) 0) (g .guide .ensures)),
+          (ap
+          (λ (q : ℕ). h .loop .dot + getD (at .args .counts .now) (cellAt (at .args .m) (level h) q) 0 * getD (at .args .weights .now)
+          (at .args .at + q) 0) (g .guide .ensures)),
     )
 
 returns : tie.Need-returns Inv-loop μ-loop

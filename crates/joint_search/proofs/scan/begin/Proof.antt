@@ -29,7 +29,8 @@ returns c =
     let t = c .before .before in
     let h = t .before in
     let at = h .before in
-    begins-at (at .args .words .now) (at .args .first) (at .args .k) (at .pre .1) (at .args .j * 64) (h .loop .i) (t .loop-test .taken) (omega (arith, h .loop .inv .0)) (h .loop .inv .2) (c .before .shared-slice-known .given _ .fits) (c .if1 .taken)
+    begins-at (at .args .words .now) (at .args .first) (at .args .k) (at .pre .1) (at .args .j * 64) (h .loop .i) (t .loop-test .taken)
+    (omega (arith, h .loop .inv .0)) (h .loop .inv .2) (c .before .shared-slice-known .given _ .fits) (c .if1 .taken)
 
 add-i : tie.Need-add-i Inv-loop μ-loop
 add-i c = omega (arith, c .before .before .before .loop .inv .1)
@@ -41,14 +42,19 @@ loop-again : tie.Need-loop-again Inv-loop μ-loop
 loop-again c =
     let t = c .before .before in
     let h = t .before in
-    let at = h .before in
-    (omega (arith, h .loop .inv .0), omega (arith, t .loop-test .taken, at .pre .1), passed-empty (at .args .words .now) (at .args .first) (at .args .k) (at .args .j * 64) (h .loop .i) (h .loop .inv .2) (c .if1 .left))
+    let at = h .before in (
+      omega (arith, h .loop .inv .0),
+      omega (arith, t .loop-test .taken, at .pre .1),
+      passed-empty (at .args .words .now) (at .args .first)
+          (at .args .k) (at .args .j * 64) (h .loop .i) (h .loop .inv .2) (c .if1 .left),
+    )
 
 returns-2 : tie.Need-returns-2 Inv-loop μ-loop
 returns-2 c =
     let h = c .before in
     let at = h .before in
-    begins-none (at .args .words .now) (at .args .first) (at .args .k) (at .pre .1) (at .args .j * 64) (h .loop .i) (omega (arith, c .loop-test .left)) (omega (arith, at .pre .2)) (h .loop .inv .2)
+    begins-none (at .args .words .now) (at .args .first) (at .args .k) (at .pre .1) (at .args .j * 64) (h .loop .i)
+    (omega (arith, c .loop-test .left)) (omega (arith, at .pre .2)) (h .loop .inv .2)
 
 pub begin-spec : {M : Type 1} → statement M
 begin-spec =

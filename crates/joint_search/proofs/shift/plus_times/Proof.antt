@@ -9,7 +9,9 @@ use Rattle.joint_search.proofs.shift.plus_times.Statement.{statement}
 use Rattle.joint_search.proofs.shift.plus_times.Tie as tie
 
 abbrev env : tie.Start → List Cell
-env c = paramCell w16 (c .args .x) 961 (c .pre .0) tt ∷ paramCell w16 (c .args .by) 2 (c .pre .1) tt ∷ unsignedCell w16 (c .args .n) 961 (c .pre .2) tt ∷ []
+env c =
+    paramCell w16 (c .args .x) 961 (c .pre .0) tt ∷ paramCell w16 (c .args .by) 2 (c .pre .1) tt ∷ unsignedCell w16 (c .args .n) 961 (c .pre .2) tt ∷
+    []
 
 cast-result : tie.Need-cast-result
 cast-result c = search needs

@@ -35,10 +35,15 @@ guide-low : (g : tie.After-guide Inv-loop μ-loop) → g .guide .result .0 < (st
 guide-low g = omega (arith, g .guide .ensures, low (g .before))
 
 -- what is moved, at that guide
-moved : (g : tie.After-guide Inv-loop μ-loop) → CountsAdded ((start (head g)) .args .m) ((start (head g)) .args .level .0) (toZ w16 (ofZ w16 ((start (head g)) .args .by))) ((start (head g)) .args .counts .now) (min (g .guide .result .0) ((start (head g)) .args .m)) ((start (head g)) .args .balance-box .now) (head g .loop .balance-box)
+moved : (g : tie.After-guide Inv-loop μ-loop) →
+    CountsAdded ((start (head g)) .args .m) ((start (head g)) .args .level .0) (toZ w16 (ofZ w16 ((start (head g)) .args .by)))
+    ((start (head g)) .args .counts .now) (min (g .guide .result .0) ((start (head g)) .args .m)) ((start (head g)) .args .balance-box .now)
+    (head g .loop .balance-box)
 moved g =
     let at = start (head g) in
-    subst (λ (q : ℕ). CountsAdded (at .args .m) (at .args .level .0) (toZ w16 (ofZ w16 (at .args .by))) (at .args .counts .now) (min q (at .args .m)) (at .args .balance-box .now) (head g .loop .balance-box)) (sym (g .guide .ensures))
+    subst
+    (λ (q : ℕ). CountsAdded (at .args .m) (at .args .level .0) (toZ w16 (ofZ w16 (at .args .by))) (at .args .counts .now) (min q (at .args .m))
+    (at .args .balance-box .now) (head g .loop .balance-box)) (sym (g .guide .ensures))
     (head g .loop .inv .2)
 
 cast-i : tie.Need-cast-i Inv-loop μ-loop
@@ -119,7 +124,8 @@ loop-again c =
       n .most,
       c .next .ensures .scans,
       shift-again (at .pre .0) _ _ r _ _ _ (guide-low g) (at .pre .1 .1 .long) n (moved g)
-          (shift-stored (getD (h .loop .balance-box) r (pos 0)) (toZ w16 (ofZ w16 (at .args .by))) (e .plus-times .result) (getD (at .args .counts .now) (at .args .level .0 * at .args .m + r) 0)
+          (shift-stored (getD (h .loop .balance-box) r (pos 0)) (toZ w16 (ofZ w16 (at .args .by))) (e .plus-times .result)
+          (getD (at .args .counts .now) (at .args .level .0 * at .args .m + r) 0)
           (shift-low _ (at .args .level .0) _ _ _ _ r (at .pre .1 .1) (guide-low g) (moved g)) (e .plus-times .ok) (e .plus-times .ensures)),
     )
 
@@ -127,7 +133,9 @@ returns : tie.Need-returns Inv-loop μ-loop
 returns c =
     let h = c .before .before in
     let at = start h in
-    subst (λ (q : ℤ). CountsAdded (at .args .m) (at .args .level .0) q (at .args .counts .now) (at .args .m) (at .args .balance-box .now) (h .loop .balance-box)) (read-bounded w16 2 (at .pre .1 .0) tt)
+    subst
+    (λ (q : ℤ). CountsAdded (at .args .m) (at .args .level .0) q (at .args .counts .now) (at .args .m) (at .args .balance-box .now)
+    (h .loop .balance-box)) (read-bounded w16 2 (at .pre .1 .0) tt)
     (shift-done (at .pre .0) _ _ (placeOf (h .loop .c)) _ (place-ended (at .pre .0) (h .loop .c) (c .if1 .left)) (h .loop .inv .2))
 
 pub shift-level-spec : {M : Type 1} → statement M

@@ -15,18 +15,25 @@ use Rattle.joint_search.proofs.SearchLaws.{balance-back, level-low}
 use Rattle.joint_visit.proofs.answer.from_cut.Statement.{statement}
 use Rattle.joint_visit.proofs.answer.from_cut.Tie as tie
 
-here : (at : tie.Start) → toZ w64 (ofZ w64 (at .args .bal)) ≡ balanceIn (at .args .plan) (at .args .counts .now) (at .args .weights .now) (at .args .formula) (at .args .cut .0)
+here : (at : tie.Start) →
+    toZ w64 (ofZ w64 (at .args .bal)) ≡ balanceIn (at .args .plan) (at .args .counts .now) (at .args .weights .now) (at .args .formula)
+    (at .args .cut .0)
 here at = balance-back (at .pre .0 .0) (at .pre .0 .1) (at .args .cut .0) (at .args .bal) (at .pre .1 .0 .0) (at .pre .1 .0 .1)
 
 -- no level weighs less than 0
-low : (at : tie.Start) (i : ℕ) → i < at .args .plan .levels → pos 0 ≤ℤ levelWeightIn (at .args .plan .guides) (at .args .counts .now) (at .args .weights .now) (at .args .formula) i
+low : (at : tie.Start) (i : ℕ) → i < at .args .plan .levels →
+    pos 0 ≤ℤ levelWeightIn (at .args .plan .guides) (at .args .counts .now) (at .args .weights .now) (at .args .formula) i
 low at i h = level-low (at .pre .0 .2) (at .args .counts .now) i
 
 -- on this side of the test the balance is negative, on the other it is not
-below : (c : tie.Then1) → let at = c .before .before .before .before in balanceIn (at .args .plan) (at .args .counts .now) (at .args .weights .now) (at .args .formula) (at .args .cut .0) <ℤ pos 0
+below : (c : tie.Then1) → let at =
+    c .before .before .before .before in balanceIn (at .args .plan) (at .args .counts .now) (at .args .weights .now) (at .args .formula)
+    (at .args .cut .0) <ℤ pos 0
 below c = let less = lt-true (here (c .before .before .before .before)) refl (c .if1 .taken) in omega (arith, ints, less)
 
-enough : (c : tie.Else1) → let at = c .before .before .before .before in pos 0 ≤ℤ balanceIn (at .args .plan) (at .args .counts .now) (at .args .weights .now) (at .args .formula) (at .args .cut .0)
+enough : (c : tie.Else1) → let at =
+    c .before .before .before .before in pos 0 ≤ℤ balanceIn (at .args .plan) (at .args .counts .now) (at .args .weights .now) (at .args .formula)
+    (at .args .cut .0)
 enough c = let not-less = lt-false (here (c .before .before .before .before)) refl (c .if1 .left) in omega (arith, ints, not-less)
 
 climb-requires : tie.Need-climb-requires

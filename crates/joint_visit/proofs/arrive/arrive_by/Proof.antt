@@ -19,21 +19,27 @@ abbrev start : tie.After-box-balance → tie.Start
 start r = r .before .before .before .before .before
 
 -- no level weighs less than 0
-low : (at : tie.Start) (i : ℕ) → i < at .args .plan .levels → pos 0 ≤ℤ levelWeightIn (at .args .plan .guides) (at .args .counts .now) (at .args .weights .now) (at .args .formula) i
+low : (at : tie.Start) (i : ℕ) → i < at .args .plan .levels →
+    pos 0 ≤ℤ levelWeightIn (at .args .plan .guides) (at .args .counts .now) (at .args .weights .now) (at .args .formula) i
 low at i h = level-low (table-weights (at .pre .0 .2) (at .pre .0 .3)) (at .args .counts .now) i
 
 -- the box gives the balance at the cut point
-here : (r : tie.After-box-balance) → let at = start r in r .box-balance .result ≡ balanceIn (at .args .plan) (at .args .counts .now) (at .args .weights .now) (at .args .formula) (at .args .cut .0)
+here : (r : tie.After-box-balance) → let at =
+    start r in r .box-balance .result ≡ balanceIn (at .args .plan) (at .args .counts .now) (at .args .weights .now) (at .args .formula)
+    (at .args .cut .0)
 here r =
     let at = start r in
-    box-balance (at .pre .0 .0) (at .pre .0 .1) (at .args .cut .0) _ (r .box-balance .result) (at .pre .1 .0) (at .pre .1 .2) (r .box-balance .ensures)
+    box-balance (at .pre .0 .0) (at .pre .0 .1) (at .args .cut .0) _ (r .box-balance .result) (at .pre .1 .0) (at .pre .1 .2)
+    (r .box-balance .ensures)
 
 -- past the test the window weighs something: its balance is not 0, or a level weighs
-weighs : (j : tie.Joined1) → let at = start (j .before) in false ≡ weightlessIn (at .args .plan) (at .args .counts .now) (at .args .weights .now) (at .args .formula)
+weighs : (j : tie.Joined1) → let at =
+    start (j .before) in false ≡ weightlessIn (at .args .plan) (at .args .counts .now) (at .args .weights .now) (at .args .formula)
 weighs j =
     let at = start (j .before) in
     ⊎-elim (λ q. sym (q .2 .left) ∙ q .1 .ensures)
-    (λ q. weightless-off (low at) (at .args .cut .0) (at .pre .1 .0) (λ e. let zero = ap (ofZ w64) (here (j .before) ∙ e) in omega (arith, zero, q .left))) (j .if1 .came)
+    (λ q. weightless-off (low at) (at .args .cut .0) (at .pre .1 .0) (λ e. let zero =
+    ap (ofZ w64) (here (j .before) ∙ e) in omega (arith, zero, q .left))) (j .if1 .came)
 
 box-balance-requires : tie.Need-box-balance-requires
 box-balance-requires c κs =
@@ -47,15 +53,24 @@ none-weighs-requires c κs = let p = start (c .before) .pre .0 in (p .0, p .1, t
 returns : tie.Need-returns
 returns c =
     let i = c .before in
-    let at = start (i .before .before) in
-    (arrival-weightless _ _ _ _ (at .args .own .0) (at .args .cut .0) (at .args .shifts) (sym (c .if2 .taken) ∙ i .none-weighs .ensures) (omega arith) (omega arith) (omega arith), at .pre .1 .2)
+    let at = start (i .before .before) in (
+      arrival-weightless _ _ _ _ (at .args .own .0) (at .args .cut .0) (at .args .shifts) (sym (c .if2 .taken) ∙ i .none-weighs .ensures)
+          (omega arith) (omega arith) (omega arith),
+      at .pre .1 .2,
+    )
 
 from-cut-requires : tie.Need-from-cut-requires
 from-cut-requires c κs =
     let r = c .before .before in
     let at = start r in
-    let p = at .pre .0 in
-    ((p .0, p .1, table-weights (p .2) (p .3)), ((at .pre .1 .0, balance-back (p .0) (p .1) (at .args .cut .0) (r .box-balance .result) (at .pre .1 .0) (here r), at .pre .1 .1), at .pre .1 .2))
+    let p = at .pre .0 in (
+      (p .0, p .1, table-weights (p .2) (p .3)),
+      (
+        (at .pre .1 .0, balance-back (p .0) (p .1) (at .args .cut .0) (r .box-balance .result) (at .pre .1 .0) (here r), at .pre .1 .1),
+        at .pre .1
+            .2,
+      ),
+    )
 
 returns-2 : tie.Need-returns-2
 returns-2 c =

@@ -53,7 +53,8 @@ returns c =
     let w = c .before .before in
     let r = w .before .before .before in
     let at = start r in
-    arrives-of (at .pre .0 .0) (w .built-formula .ensures .0) (at .pre .0 .2) (own-level r) (at .pre .1 .0) (c .arrive-by .ensures .0) (c .arrive-by .ensures .1)
+    arrives-of (at .pre .0 .0) (w .built-formula .ensures .0) (at .pre .0 .2) (own-level r) (at .pre .1 .0) (c .arrive-by .ensures .0)
+    (c .arrive-by .ensures .1)
 
 -- the file's own
 guide-at-requires : tie.Need-guide-at-requires

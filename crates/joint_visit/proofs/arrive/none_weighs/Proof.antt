@@ -37,7 +37,8 @@ low at i h = level-low (at .pre .2) (at .args .counts .now) i
 inside : (t : tie.In-loop Inv-loop μ-loop) → t .before .loop .i < (start (t .before)) .args .plan .levels
 inside t = omega (arith, t .loop-test .taken)
 
-weighed : (e : tie.After-level-weight Inv-loop μ-loop) → toZ w64 (ofZ w64 (e .level-weight .result)) ≡ weight (start (e .before .before)) (e .before .before .loop .i)
+weighed : (e : tie.After-level-weight Inv-loop μ-loop) →
+    toZ w64 (ofZ w64 (e .level-weight .result)) ≡ weight (start (e .before .before)) (e .before .before .loop .i)
 weighed e = toZ-ofZ (record { sfits = e .level-weight .ok }) ∙ e .level-weight .ensures
 
 cast-l : tie.Need-cast-l Inv-loop μ-loop
@@ -69,7 +70,8 @@ loop-again c =
     let at = start h in
     let zero = ≤-antisymm (lt-false refl (weighed e) (c .if1 .left)) (low at (h .loop .i) (inside t)) in (
       omega (arith, inside t),
-      λ j l. ⊎-elim (λ u. h .loop .inv .1 j u) (λ u. let d : j ≡ h .loop .i = omega arith in subst (λ (q : ℕ). weight at q ≡ pos 0) (sym d) zero) (lt-or-le j (h .loop .i)),
+      λ j l. ⊎-elim (λ u. h .loop .inv .1 j u) (λ u. let d : j ≡ h .loop .i = omega arith in subst (λ (q : ℕ). weight at q ≡ pos 0) (sym d) zero)
+          (lt-or-le j (h .loop .i)),
     )
 
 returns-2 : tie.Need-returns-2 Inv-loop μ-loop

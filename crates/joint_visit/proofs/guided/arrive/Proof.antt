@@ -28,7 +28,8 @@ says r =
     let m = w .before .before in
     let at = start w in
     let k = at .pre .0 .0 in
-    answered-at (k .planned) (at .pre .0 .1) (k .column) (k .row) (m .before .of-window .ensures) (profiled-parts (k .planned) (at .pre .0 .2) refl refl) (m .monotone .ensures) (r .answer .ensures .0)
+    answered-at (k .planned) (at .pre .0 .1) (k .column) (k .row) (m .before .of-window .ensures)
+    (profiled-parts (k .planned) (at .pre .0 .2) refl refl) (m .monotone .ensures) (r .answer .ensures .0)
     (r .answer .ensures .1)
 
 add-last : tie.Need-add-last
@@ -53,7 +54,8 @@ add-carried-where : tie.Need-add-carried-where
 add-carried-where c = search needs
 
 carried-where-requires : tie.Need-carried-where-requires
-carried-where-requires c κs = let v = c .before .before .before .before .before .before .before .before .before .pre .1 .0 .1 in ((v .entering, v .leaving), v .carriable)
+carried-where-requires c κs = let v =
+    c .before .before .before .before .before .before .before .before .before .pre .1 .0 .1 in ((v .entering, v .leaving), v .carriable)
 
 sub-answer : tie.Need-sub-answer
 sub-answer c = search needs
@@ -83,7 +85,8 @@ answer-requires c κs =
     let at = start w in
     let k = at .pre .0 .0 in
     let g = at .pre .1 .1 in
-    answerable (k .planned) (at .pre .0 .1) (k .column) (k .row) (m .before .of-window .ensures) (profiled-parts (k .planned) (at .pre .0 .2) refl refl) (m .monotone .ensures) (g .0) (g .1)
+    answerable (k .planned) (at .pre .0 .1) (k .column) (k .row) (m .before .of-window .ensures)
+    (profiled-parts (k .planned) (at .pre .0 .2) refl refl) (m .monotone .ensures) (g .0) (g .1)
     (λ e. at .pre .1 .0 .1 .carried _ (w .carried-where .ensures e))
 
 move-to-requires : tie.Need-move-to-requires
@@ -91,8 +94,10 @@ move-to-requires c κs =
     let r = c .before .before .before in
     let at = start (r .before .before .before) in
     let k = at .pre .0 .0 in
-    let g = at .pre .1 .1 in
-    (searchable k, (g .0, omega (arith, g .0, answer-low (k .planned) (k .column) (k .row) (at .pre .0 .1) (says r)), g .2 ∙ box-of k (at .args .cut .0) (g .0)))
+    let g = at .pre .1 .1 in (
+      searchable k,
+      (g .0, omega (arith, g .0, answer-low (k .planned) (k .column) (k .row) (at .pre .0 .1) (says r)), g .2 ∙ box-of k (at .args .cut .0) (g .0)),
+    )
 
 answered-requires : tie.Need-answered-requires
 answered-requires c κs = search needs
@@ -108,7 +113,9 @@ returns c =
     rw (c .answered .ensures)
     (record {
       same = record {
-        state = state-is (frameOf (at .args .file .now)) (at .args .s) (at .args .t) (at .args .cut .0) (at .args .shifts) (f .level) (f .shifts) (f .level) (record { sums = at .args .a; below = f .tally; free = record { head = 0; count = 0 } }) (h .cut) (h .shifts) (h .answer);
+        state =
+            state-is (frameOf (at .args .file .now)) (at .args .s) (at .args .t) (at .args .cut .0) (at .args .shifts) (f .level) (f .shifts)
+            (f .level) (record { sums = at .args .a; below = f .tally; free = record { head = 0; count = 0 } }) (h .cut) (h .shifts) (h .answer);
         box = box-moved k _ (f .level .0) (m .move-to .ensures) (omega arith) (answer-low (k .planned) (k .column) (k .row) (at .pre .0 .1) h);
       };
       guided = record { sums = at .pre .1 .0 .0; below = h .below; histogram = at .pre .0 .2 };

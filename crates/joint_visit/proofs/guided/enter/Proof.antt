@@ -27,8 +27,12 @@ tally-below-requires c κs =
     let h = c .before .before .before .before in
     let at = begin h in
     let k = at .pre .0 .0 in
-    let v = h .start .ensures in
-    (numbers-long (k .planned) v refl refl, level-cells (pixel-of (k .planned) (k .column) (k .row)) (profiled (k .planned) v refl refl), levels-some (k .planned))
+    let v = h .start .ensures in (
+      numbers-long (k .planned) v refl refl,
+      level-cells (pixel-of (k .planned) (k .column) (k .row)) (profiled (k .planned) v refl refl),
+      levels-some
+          (k .planned),
+    )
 
 sub-arrive : tie.Need-sub-arrive
 sub-arrive c = search needs
@@ -54,8 +58,18 @@ arrive-requires c κs =
     let a = w .before .before in
     let h = a .before .before .before in
     let at = begin h in
-    let k = at .pre .0 .0 in
-    ((k, at .pre .0 .1, h .start .ensures), ((a .start2 .ensures, carries-still (pixel-of (k .planned) (k .column) (k .row)) (gathered (k .planned) (k .column) (k .row) (profiled (k .planned) (h .start .ensures) refl refl) (levels-some (k .planned)) (w .tally-below .ensures)) refl refl), (levels-some (k .planned), omega arith, at .pre .1)))
+    let k = at .pre .0 .0 in (
+      (k, at .pre .0 .1, h .start .ensures),
+      (
+        (
+          a .start2 .ensures,
+          carries-still (pixel-of (k .planned) (k .column) (k .row))
+              (gathered (k .planned) (k .column) (k .row) (profiled (k .planned) (h .start .ensures) refl refl) (levels-some (k .planned))
+              (w .tally-below .ensures)) refl refl,
+        ),
+        (levels-some (k .planned), omega arith, at .pre .1),
+      ),
+    )
 
 same-length : tie.Need-same-length
 same-length c = c .before .before .before .before .before .before .before .before .before .before .before .before .start .kept .1 .1 .1 .1 .0

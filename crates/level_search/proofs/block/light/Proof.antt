@@ -20,11 +20,14 @@ use Rattle.level_search.proofs.block.light.Tie as tie
 whole : (c : tie.Else1) → c .before .before .before .args .from .0 + 16 ≤ length (c .before .before .before .args .counts .now)
 whole c = omega (arith, c .if1 .left)
 
-pixels-is : (c : tie.After-total) → c .total .result ≡ sumTo (c .before .before .before .before .args .counts .now) (c .before .before .before .before .args .from .0 + 16) - sumTo (c .before .before .before .before .args .counts .now) (c .before .before .before .before .args .from .0)
+pixels-is : (c : tie.After-total) →
+    c .total .result ≡ sumTo (c .before .before .before .before .args .counts .now) (c .before .before .before .before .args .from .0 + 16) - sumTo
+    (c .before .before .before .before .args .counts .now) (c .before .before .before .before .args .from .0)
 pixels-is c = omega (arith, c .total .ensures)
 
 pixels-few : (c : tie.After-total) → c .total .result ≤ 961
-pixels-few c = let st = c .before .before .before .before in omega (arith, c .total .ensures, st .pre .1 .2 (st .args .from .0 + 16) (whole (c .before)))
+pixels-few c = let st =
+    c .before .before .before .before in omega (arith, c .total .ensures, st .pre .1 .2 (st .args .from .0 + 16) (whole (c .before)))
 
 abbrev env : tie.After-total → List Cell
 env c =
@@ -83,7 +86,10 @@ returns-2 c = λ e.
     let st = a .before .before .before .before in
     record {
       whole = whole (a .before);
-      short = subst (λ (n : ℕ). (pos 2 *ℤ (weightOf (st .args .coefficients) (st .args .count) (st .args .sum) +ℤ st .args .heaviest *ℤ pos n)) <ℤ st .args .coefficients .total) (pixels-is a)
+      short =
+          subst
+          (λ (n : ℕ). (pos 2 *ℤ (weightOf (st .args .coefficients) (st .args .count) (st .args .sum) +ℤ st .args .heaviest *ℤ pos n)) <ℤ st .args
+          .coefficients .total) (pixels-is a)
           (lt-true (computes w64 (env a) (# 2 ⊗ (x₀ ⊗ x₄ ⊕ x₁ ⊗ x₃ ⊕ var 5 ⊗ var 6)) tt) (computes w64 (env a) x₂ tt) e);
     }
 

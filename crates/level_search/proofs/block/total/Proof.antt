@@ -16,16 +16,32 @@ abbrev μ-loop : tie.MeasureT-loop
 μ-loop numbers at sum₀ j₀ sum j = 16 - j
 
 next : (c : tie.After-shared-slice-known Inv-loop μ-loop)
-    → c .before .before .loop .sum + getD (c .before .before .before .before .args .numbers .now) (c .before .before .before .before .args .from .0 + c .before .before .loop .j) 0 + sumTo (c .before .before .before .before .args .numbers .now) (c .before .before .before .before .args .from .0)
-    ≡ sumTo (c .before .before .before .before .args .numbers .now) (c .before .before .before .before .args .from .0 + (c .before .before .loop .j + 1))
-next c = total-next (c .before .before .before .before .args .numbers .now) (c .before .before .before .before .args .from .0) (c .before .before .loop .j) (c .before .before .loop .sum) (c .before .before .loop .inv .1)
+    →
+    c .before .before .loop .sum + getD (c .before .before .before .before .args .numbers .now)
+    (c .before .before .before .before .args .from .0 + c .before .before .loop .j) 0 + sumTo
+    (c .before .before .before .before .args .numbers .now) (c .before .before .before .before .args .from .0)
+    ≡ sumTo (c .before .before .before .before .args .numbers .now)
+    (c .before .before .before .before .args .from .0 + (c .before .before .loop .j + 1))
+next c =
+    total-next (c .before .before .before .before .args .numbers .now) (c .before .before .before .before .args .from .0)
+    (c .before .before .loop .j) (c .before .before .loop .sum) (c .before .before .loop .inv .1)
 
-high : (c : tie.After-shared-slice-known Inv-loop μ-loop) → sumTo (c .before .before .before .before .args .numbers .now) (c .before .before .before .before .args .from .0 + (c .before .before .loop .j + 1)) ≤ 245055
-high c = le-trans (sumTo-le (c .before .before .before .before .args .numbers .now) (omega (arith, c .before .loop-test .taken))) (c .before .before .before .before .pre .2)
+high : (c : tie.After-shared-slice-known Inv-loop μ-loop) →
+    sumTo (c .before .before .before .before .args .numbers .now)
+    (c .before .before .before .before .args .from .0 + (c .before .before .loop .j + 1)) ≤ 245055
+high c =
+    le-trans (sumTo-le (c .before .before .before .before .args .numbers .now) (omega (arith, c .before .loop-test .taken)))
+    (c .before .before .before .before .pre .2)
 
 ended : (c : tie.After-loop Inv-loop μ-loop)
-    → c .before .loop .sum + sumTo (c .before .before .before .args .numbers .now) (c .before .before .before .args .from .0) ≡ sumTo (c .before .before .before .args .numbers .now) (c .before .before .before .args .from .0 + 16)
-ended c = subst (λ (j : ℕ). c .before .loop .sum + sumTo (c .before .before .before .args .numbers .now) (c .before .before .before .args .from .0) ≡ sumTo (c .before .before .before .args .numbers .now) (c .before .before .before .args .from .0 + j)) (le-antisymm (c .before .loop .inv .0) (c .loop-test .left)) (c .before .loop .inv .1)
+    →
+    c .before .loop .sum + sumTo (c .before .before .before .args .numbers .now) (c .before .before .before .args .from .0) ≡ sumTo
+    (c .before .before .before .args .numbers .now) (c .before .before .before .args .from .0 + 16)
+ended c =
+    subst
+    (λ (j : ℕ). c .before .loop .sum + sumTo (c .before .before .before .args .numbers .now) (c .before .before .before .args .from .0) ≡ sumTo
+    (c .before .before .before .args .numbers .now) (c .before .before .before .args .from .0 + j))
+    (le-antisymm (c .before .loop .inv .0) (c .loop-test .left)) (c .before .loop .inv .1)
 
 cast-at : tie.Need-cast-at Inv-loop μ-loop
 cast-at c = omega arith

@@ -23,7 +23,8 @@ heaviest-is : (c : tie.Start Inv-loop μ-loop) → stored w64 (c .args .heaviest
 heaviest-is c = read-bounded w64 240207812100 (c .pre .0 .1 .small) tt
 
 -- a tally is small
-small : (c : tie.Start Inv-loop μ-loop) (i n s : ℕ) → i ≤ length (c .args .counts .now) → TallyTo (c .args .counts .now) (c .args .sums .now) i (tally n s) → (n ≤ 961) × (s ≤ 245055)
+small : (c : tie.Start Inv-loop μ-loop) (i n s : ℕ) → i ≤ length (c .args .counts .now) →
+    TallyTo (c .args .counts .now) (c .args .sums .now) i (tally n s) → (n ≤ 961) × (s ≤ 245055)
 small c i n s h a = let q = c .pre .0 .0 .cells in (omega (arith, a .count, q .count-high i h), omega (arith, a .sum, q .sum-high i h))
 
 abbrev start : tie.At-loop Inv-loop μ-loop → tie.Start Inv-loop μ-loop
@@ -33,23 +34,35 @@ start h = h .before .before .before .before
 abbrev head : tie.Then2 Inv-loop μ-loop → tie.At-loop Inv-loop μ-loop
 head c = c .before .before .before .before
 
-is-light : (c : tie.Then2 Inv-loop μ-loop) → Light (start (head c) .args .coefficients) (start (head c) .args .heaviest) (start (head c) .args .counts .now) (head c .loop .i) (head c .loop .count) (head c .loop .sum)
+is-light : (c : tie.Then2 Inv-loop μ-loop) →
+    Light (start (head c) .args .coefficients) (start (head c) .args .heaviest) (start (head c) .args .counts .now) (head c .loop .i)
+    (head c .loop .count) (head c .loop .sum)
 is-light c =
     let st = start (head c) in
     let v = head c .loop in
-    subst (λ (w : ℤ). Light (st .args .coefficients) w (st .args .counts .now) (v .i) (v .count) (v .sum)) (heaviest-is st) (c .before .light .ensures (c .if2 .taken))
+    subst (λ (w : ℤ). Light (st .args .coefficients) w (st .args .counts .now) (v .i) (v .count) (v .sum)) (heaviest-is st)
+    (c .before .light .ensures (c .if2 .taken))
 
 after-block : (c : tie.After-total2 Inv-loop μ-loop)
-    → TallyTo (start (head (c .before .before)) .args .counts .now) (start (head (c .before .before)) .args .sums .now) (head (c .before .before) .loop .i + 16) (tally (head (c .before .before) .loop .count + c .before .total .result) (head (c .before .before) .loop .sum + c .total2 .result))
-after-block c = tally-block (c .before .total .result) (c .total2 .result) (head (c .before .before) .loop .inv .tally) (c .before .total .ensures) (c .total2 .ensures)
+    →
+    TallyTo (start (head (c .before .before)) .args .counts .now) (start (head (c .before .before)) .args .sums .now)
+    (head (c .before .before) .loop .i + 16)
+    (tally (head (c .before .before) .loop .count + c .before .total .result) (head (c .before .before) .loop .sum + c .total2 .result))
+after-block c =
+    tally-block (c .before .total .result) (c .total2 .result) (head (c .before .before) .loop .inv .tally) (c .before .total .ensures)
+    (c .total2 .ensures)
 
 -- ---- a level
 after-level : (h : tie.At-loop Inv-loop μ-loop)
-    → TallyTo (start h .args .counts .now) (start h .args .sums .now) (h .loop .i + 1) (tally (h .loop .count + getD (start h .args .counts .now) (h .loop .i) 0) (h .loop .sum + getD (start h .args .sums .now) (h .loop .i) 0))
+    →
+    TallyTo (start h .args .counts .now) (start h .args .sums .now) (h .loop .i + 1)
+    (tally (h .loop .count + getD (start h .args .counts .now) (h .loop .i) 0) (h .loop .sum + getD (start h .args .sums .now) (h .loop .i) 0))
 after-level h = tally-next (h .loop .inv .tally)
 
 level-small : (h : tie.At-loop Inv-loop μ-loop)
-    → (h .loop .count + getD (start h .args .counts .now) (h .loop .i) 0 ≤ 961) × (h .loop .sum + getD (start h .args .sums .now) (h .loop .i) 0 ≤ 245055)
+    →
+    (h .loop .count + getD (start h .args .counts .now) (h .loop .i) 0 ≤ 961) ×
+    (h .loop .sum + getD (start h .args .sums .now) (h .loop .i) 0 ≤ 245055)
 level-small h = small (start h) (h .loop .i + 1) _ _ (omega (arith, h .loop .inv .to)) (after-level h)
 
 sub-last : tie.Need-sub-last Inv-loop μ-loop
@@ -59,7 +72,8 @@ cast-first : tie.Need-cast-first Inv-loop μ-loop
 cast-first c = let st = c .before .before .before in omega (arith, st .pre .1 .0 .0, st .pre .0 .0 .cells .levels)
 
 loop-holds : tie.Need-loop-holds Inv-loop μ-loop
-loop-holds c = let st = c .before .before .before in record { from-low = omega arith; to = st .pre .1 .0 .0; tally = st .pre .1 .1 .0; fails = st .pre .1 .1 .1 }
+loop-holds c = let st =
+    c .before .before .before in record { from-low = omega arith; to = st .pre .1 .0 .0; tally = st .pre .1 .1 .0; fails = st .pre .1 .1 .1 }
 
 cast-t16 : tie.Need-cast-t16 Inv-loop μ-loop
 cast-t16 c = omega (arith, c .before .loop .inv .to, start (c .before) .pre .0 .0 .cells .levels)
@@ -70,8 +84,10 @@ light-requires c κs =
     let st = start h in
     let v = h .loop in
     let q = st .pre .0 .0 in
-    let l = small st (v .i) (v .count) (v .sum) (omega (arith, v .inv .to)) (v .inv .tally) in
-    ((q .small, subst (λ (w : ℤ). natAbs w ≤ 240207812100) (sym (heaviest-is st)) (st .pre .0 .1 .small), l .0, l .1), (v .inv .to, q .cells .levels, q .cells .count-high))
+    let l = small st (v .i) (v .count) (v .sum) (omega (arith, v .inv .to)) (v .inv .tally) in (
+      (q .small, subst (λ (w : ℤ). natAbs w ≤ 240207812100) (sym (heaviest-is st)) (st .pre .0 .1 .small), l .0, l .1),
+      (v .inv .to, q .cells .levels, q .cells .count-high),
+    )
 
 total-requires : tie.Need-total-requires Inv-loop μ-loop
 total-requires c κs =
@@ -82,7 +98,8 @@ total-requires c κs =
 add-count : tie.Need-add-count Inv-loop μ-loop
 add-count c =
     let h = head (c .before) in
-    omega (arith, c .total .ensures, h .loop .inv .tally .count, start h .pre .0 .0 .cells .count-high (h .loop .i + 16) (is-light (c .before) .whole))
+    omega
+    (arith, c .total .ensures, h .loop .inv .tally .count, start h .pre .0 .0 .cells .count-high (h .loop .i + 16) (is-light (c .before) .whole))
 
 total-requires-2 : tie.Need-total-requires-2 Inv-loop μ-loop
 total-requires-2 c κs =
@@ -94,7 +111,13 @@ total-requires-2 c κs =
 add-sum : tie.Need-add-sum Inv-loop μ-loop
 add-sum c =
     let h = head (c .before .before) in
-    omega (arith, c .total2 .ensures, h .loop .inv .tally .sum, start h .pre .0 .0 .cells .sum-high (h .loop .i + 16) (is-light (c .before .before) .whole))
+    omega (
+      arith,
+      c .total2 .ensures,
+      h .loop .inv .tally .sum,
+      start h .pre .0 .0 .cells .sum-high (h .loop .i + 16)
+          (is-light (c .before .before) .whole),
+    )
 
 add-i : tie.Need-add-i Inv-loop μ-loop
 add-i c = let t = c .before .before in omega (arith, is-light t .whole, start (head t) .pre .0 .0 .cells .levels)
@@ -138,14 +161,19 @@ add-sum-2 c = omega (arith, level-small (c .before .before .before .before) .1)
 reached-requires : tie.Need-reached-requires Inv-loop μ-loop
 reached-requires c κs = let h = c .before .before .before .before in (start h .pre .0 .0 .small, level-small h)
 
-passes-is : (c : tie.After-reached Inv-loop μ-loop) → c .reached .result ≡ passes (start (c .before .before .before .before .before) .args .coefficients) (start (c .before .before .before .before .before) .args .counts .now) (start (c .before .before .before .before .before) .args .sums .now) (c .before .before .before .before .before .loop .i)
-passes-is c = let h = c .before .before .before .before .before in c .reached .ensures ∙ half-at (start h .args .coefficients) (h .loop .i) (after-level h)
+passes-is : (c : tie.After-reached Inv-loop μ-loop) →
+    c .reached .result ≡ passes (start (c .before .before .before .before .before) .args .coefficients)
+    (start (c .before .before .before .before .before) .args .counts .now) (start (c .before .before .before .before .before) .args .sums .now)
+    (c .before .before .before .before .before .loop .i)
+passes-is c = let h =
+    c .before .before .before .before .before in c .reached .ensures ∙ half-at (start h .args .coefficients) (h .loop .i) (after-level h)
 
 sub-ended : tie.Need-sub-ended Inv-loop μ-loop
 sub-ended c = c .before .before .before .before .before .before .loop .inv .from-low
 
 add-ended : tie.Need-add-ended Inv-loop μ-loop
-add-ended c = let h = c .before .before .before .before .before .before in omega (arith, h .loop .inv .to, start h .pre .0 .0 .cells .levels, start h .pre .1 .0 .1)
+add-ended c = let h =
+    c .before .before .before .before .before .before in omega (arith, h .loop .inv .to, start h .pre .0 .0 .cells .levels, start h .pre .1 .0 .1)
 
 ended-requires : tie.Need-ended-requires Inv-loop μ-loop
 ended-requires c κs = tt
@@ -168,7 +196,13 @@ loop-again-2 : tie.Need-loop-again-2 Inv-loop μ-loop
 loop-again-2 c =
     let h = c .before .before .before .before .before .before in
     let v = h .loop .inv in
-    record { from-low = omega (arith, v .from-low); to = omega (arith, c .before .before .before .before .before .loop-test .taken); tally = after-level h; fails = fail-next (v .fails) (sym (passes-is (c .before)) ∙ c .if3 .left) }
+    record {
+      from-low = omega (arith, v .from-low);
+      to = omega (arith, c .before .before .before .before .before .loop-test .taken);
+      tally =
+          after-level h;
+      fails = fail-next (v .fails) (sym (passes-is (c .before)) ∙ c .if3 .left);
+    }
 
 -- ---- the last level: none below it passes, so it does
 mul-count-2 : tie.Need-mul-count-2 Inv-loop μ-loop

@@ -25,22 +25,38 @@ cast-count : tie.Need-cast-count Inv-loop μ-loop
 cast-count c = omega (arith, c .shared-slice-known .given (c .before .before .loop .i))
 
 add-count : tie.Need-add-count Inv-loop μ-loop
-add-count c = omega (arith, tally-next (c .before .before .loop .inv .1) .count, c .before .before .before .pre .0 .count-high (c .before .before .loop .i + 1) (omega (arith, c .before .loop-test .taken, c .before .before .before .pre .1)))
+add-count c =
+    omega (
+      arith,
+      tally-next (c .before .before .loop .inv .1) .count,
+      c .before .before .before .pre .0 .count-high (c .before .before .loop .i + 1)
+          (omega (arith, c .before .loop-test .taken, c .before .before .before .pre .1)),
+    )
 
 mul-sum : tie.Need-mul-sum Inv-loop μ-loop
-mul-sum c = omega (arith, c .before .loop-test .taken, c .before .before .before .pre .1, c .before .before .before .pre .0 .long, c .before .before .before .good)
+mul-sum c =
+    omega
+    (arith, c .before .loop-test .taken, c .before .before .before .pre .1, c .before .before .before .pre .0 .long, c .before .before .before .good)
 
 shared-slice-read-sum : tie.Need-shared-slice-read-sum Inv-loop μ-loop
-shared-slice-read-sum c = omega (arith, c .before .before .loop-test .taken, c .before .before .before .before .pre .1, c .before .before .before .before .pre .0 .long)
+shared-slice-read-sum c =
+    omega (arith, c .before .before .loop-test .taken, c .before .before .before .before .pre .1, c .before .before .before .before .pre .0 .long)
 
 cast-sum : tie.Need-cast-sum Inv-loop μ-loop
 cast-sum c = omega (arith, c .shared-slice-known2 .given (c .before .before .before .loop .i))
 
 add-sum : tie.Need-add-sum Inv-loop μ-loop
-add-sum c = omega (arith, tally-next (c .before .before .before .loop .inv .1) .sum, c .before .before .before .before .pre .0 .sum-high (c .before .before .before .loop .i + 1) (omega (arith, c .before .before .loop-test .taken, c .before .before .before .before .pre .1)))
+add-sum c =
+    omega (
+      arith,
+      tally-next (c .before .before .before .loop .inv .1) .sum,
+      c .before .before .before .before .pre .0 .sum-high
+          (c .before .before .before .loop .i + 1) (omega (arith, c .before .before .loop-test .taken, c .before .before .before .before .pre .1)),
+    )
 
 add-i : tie.Need-add-i Inv-loop μ-loop
-add-i c = omega (arith, c .before .before .loop-test .taken, c .before .before .before .before .pre .1, c .before .before .before .before .pre .0 .levels)
+add-i c =
+    omega (arith, c .before .before .loop-test .taken, c .before .before .before .before .pre .1, c .before .before .before .before .pre .0 .levels)
 
 loop-less : tie.Need-loop-less Inv-loop μ-loop
 loop-less c = omega (arith, c .before .before .loop-test .taken)

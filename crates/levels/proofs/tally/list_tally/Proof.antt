@@ -38,7 +38,8 @@ mul-f-2 : tie.Need-mul-f-2 Inv-loop μ-loop
 mul-f-2 c = omega (arith, turn-low (c .before))
 
 shared-slice-read-f-2 : tie.Need-shared-slice-read-f-2 Inv-loop μ-loop
-shared-slice-read-f-2 c = let t = c .before .before in places-in (t .before .before .before .args .p .now) (t .before .loop .k) (t .loop-test .taken) .1
+shared-slice-read-f-2 c = let t =
+    c .before .before in places-in (t .before .before .before .args .p .now) (t .before .loop .k) (t .loop-test .taken) .1
 
 cast-f : tie.Need-cast-f Inv-loop μ-loop
 cast-f c = let t = c .before .before in omega (arith, t .before .before .before .pre .guide (t .before .loop .k) (t .loop-test .taken))
@@ -76,8 +77,11 @@ loop-less c = omega (arith, c .before .before .before .before .loop-test .taken)
 loop-again : tie.Need-loop-again Inv-loop μ-loop
 loop-again c =
     let t = c .before .before .before .before in
-    let at = t .before .before .before in
-    (omega (arith, t .loop-test .taken), tally-next (at .pre) (at .args .end) (t .loop-test .taken) (c .before .if-below .ensures) (c .if-below2 .ensures) (t .before .loop .inv .1))
+    let at = t .before .before .before in (
+      omega (arith, t .loop-test .taken),
+      tally-next (at .pre) (at .args .end) (t .loop-test .taken) (c .before .if-below .ensures)
+          (c .if-below2 .ensures) (t .before .loop .inv .1),
+    )
 
 returns : tie.Need-returns Inv-loop μ-loop
 returns c =

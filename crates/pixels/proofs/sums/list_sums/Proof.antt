@@ -39,7 +39,8 @@ shared-slice-read-f : tie.Need-shared-slice-read-f Inv-loop μ-loop
 shared-slice-read-f c = places-in (c .before .before .before .args .p .now) (c .before .before .loop .k) (c .before .loop-test .taken) .1
 
 -- its guide is small
-small : (c : tie.After-shared-slice-known Inv-loop μ-loop) → let g = guideIn (c .before .before .before .args .p .now) (c .before .before .loop .k) in (g ≤ 255) × (g * g ≤ 65025)
+small : (c : tie.After-shared-slice-known Inv-loop μ-loop) → let g =
+    guideIn (c .before .before .before .args .p .now) (c .before .before .loop .k) in (g ≤ 255) × (g * g ≤ 65025)
 small c = guide-small (c .before .before .before .pre) (c .before .loop-test .taken)
 
 cast-f : tie.Need-cast-f Inv-loop μ-loop

@@ -31,26 +31,46 @@ lines s = rows (frameOf (s .args .input .now)) (s .args .plan .height)
 abbrev joint : tie.Start → List ℕ
 joint s = wayText jointWord (shiftCount (s .args .input .now))
 
-room-all : (s : tie.Start) → Room (s .args .out .now) 0 (parts (s .args .input .now) (s .args .plan .width) (s .args .plan .height) (s .args .plan .kind))
+room-all : (s : tie.Start) →
+    Room (s .args .out .now) 0 (parts (s .args .input .now) (s .args .plan .width) (s .args .plan .height) (s .args .plan .kind))
 room-all s =
     let h = text-short (s .pre .0) in
     let e = ap length (whole (s .pre .0 .planned)) in
     omega (arith, h, e, s .pre .1)
 
 room-three : (s : tie.Start) → Room (s .args .out .now) 0 (size s ++ lines s ++ joint s)
-room-three s = room-first (s .args .out .now) 0 (size s ++ lines s ++ joint s) (guidedText (s .args .plan .kind) (shiftCount (s .args .input .now))) (room-all s)
+room-three s =
+    room-first (s .args .out .now) 0 (size s ++ lines s ++ joint s) (guidedText (s .args .plan .kind) (shiftCount (s .args .input .now))) (room-all s)
 
 room-two : (s : tie.Start) → Room (s .args .out .now) 0 (size s ++ lines s)
 room-two s = room-first (s .args .out .now) 0 (size s ++ lines s) (joint s) (room-three s)
 
 -- after the rows, and after the line of the joint way
-picture : (e : tie.After-put-rows) → Puts (e .before .before .before .before .before .before .before .before .before .before .before .args .out .now) (e .put-rows .last .0) 0 (e .put-rows .result) (size (e .before .before .before .before .before .before .before .before .before .before .before) ++ lines (e .before .before .before .before .before .before .before .before .before .before .before))
+picture : (e : tie.After-put-rows) →
+    Puts (e .before .before .before .before .before .before .before .before .before .before .before .args .out .now) (e .put-rows .last .0) 0
+    (e .put-rows .result)
+    (size (e .before .before .before .before .before .before .before .before .before .before .before) ++ lines
+    (e .before .before .before .before .before .before .before .before .before .before .before))
 picture e =
     let m = e .before .before .before .before .before .before .before .filter-by .ensures in
-    joined (e .before .before .before .before .before .put-size .ensures) (called (plane-text (e .before .before .before .before .before .before .before .before .before .before .before .pre .0 .planned) _ (m .plane)) (e .put-rows .ensures))
+    joined (e .before .before .before .before .before .put-size .ensures)
+    (called
+    (plane-text (e .before .before .before .before .before .before .before .before .before .before .before .pre .0 .planned) _ (m .plane))
+    (e .put-rows .ensures))
 
-joint-line : (e : tie.After-put-way) → Puts (e .before .before .before .before .before .before .before .before .before .before .before .before .before .before .before .before .args .out .now) (e .put-way .last .0) 0 (e .put-way .result) (size (e .before .before .before .before .before .before .before .before .before .before .before .before .before .before .before .before) ++ lines (e .before .before .before .before .before .before .before .before .before .before .before .before .before .before .before .before) ++ joint (e .before .before .before .before .before .before .before .before .before .before .before .before .before .before .before .before))
-joint-line e = joined (picture (e .before .before .before .before .before)) (called (ap (wayText jointWord) (e .before .before .before .before .before .before .before .before .before .before .before .before .filter-by .ensures .shifts)) (e .put-way .ensures))
+joint-line : (e : tie.After-put-way) →
+    Puts
+    (e .before .before .before .before .before .before .before .before .before .before .before .before .before .before .before .before .args .out
+    .now) (e .put-way .last .0) 0 (e .put-way .result)
+    (size (e .before .before .before .before .before .before .before .before .before .before .before .before .before .before .before .before) ++
+    lines (e .before .before .before .before .before .before .before .before .before .before .before .before .before .before .before .before) ++
+    joint (e .before .before .before .before .before .before .before .before .before .before .before .before .before .before .before .before))
+joint-line e =
+    joined (picture (e .before .before .before .before .before))
+    (called
+    (ap (wayText jointWord)
+    (e .before .before .before .before .before .before .before .before .before .before .before .before .filter-by .ensures .shifts))
+    (e .put-way .ensures))
 
 filter-by-requires : tie.Need-filter-by-requires
 filter-by-requires c κs = record { plan = _; admitted = c .before .before .before .pre .0; serving = inl refl }
@@ -79,20 +99,29 @@ slice-aggregate-put-way c = search needs
 put-way-requires : tie.Need-put-way-requires
 put-way-requires c κs =
     let s = c .before .before .before .before .before .before .before .before .before .before .before .before .before .before .before in
-    rw (c .before .before .before .before .before .before .before .before .before .before .before .filter-by .ensures .shifts) (room-next (joint s) (room-three s) (picture (c .before .before .before .before)))
+    rw (c .before .before .before .before .before .before .before .before .before .before .before .filter-by .ensures .shifts)
+    (room-next (joint s) (room-three s) (picture (c .before .before .before .before)))
 
 put-guided-requires : tie.Need-put-guided-requires
 put-guided-requires c κs =
-    let s = c .before .before .before .before .before .before .before .before .before .before .before .before .before .before .before .before .before .before .before .before in
-    (s .pre .0, room-next (guidedText (s .args .plan .kind) (shiftCount (s .args .input .now))) (room-all s) (joint-line (c .before .before .before .before)))
+    let s =
+    c .before .before .before .before .before .before .before .before .before .before .before .before .before .before .before .before .before
+    .before .before .before in (
+      s .pre .0,
+      room-next (guidedText (s .args .plan .kind) (shiftCount (s .args .input .now))) (room-all s)
+          (joint-line (c .before .before .before .before)),
+    )
 
 same-length : tie.Need-same-length
 same-length c = search needs
 
 returns : tie.Need-returns
 returns c =
-    let s = c .before .before .before .before .before .before .before .before .before .before .before .before .before .before .before .before .before .before .before .before .before .before .before in
-    called (sym (whole (s .pre .0 .planned))) (joined (joint-line (c .before .before .before .before .before .before .before)) (c .before .before .put-guided .ensures))
+    let s =
+    c .before .before .before .before .before .before .before .before .before .before .before .before .before .before .before .before .before
+    .before .before .before .before .before .before in
+    called (sym (whole (s .pre .0 .planned)))
+    (joined (joint-line (c .before .before .before .before .before .before .before)) (c .before .before .put-guided .ensures))
 
 pub put-answer-spec : {M : Type 1} → statement M
 put-answer-spec =

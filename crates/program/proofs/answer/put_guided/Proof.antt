@@ -20,10 +20,18 @@ first s = wayText columnsWord (shiftCount (s .args .input .now))
 abbrev second : tie.Start → List ℕ
 second s = wayText chainWord (shiftCount (s .args .input .now))
 
-both : (d : tie.Else1) → Room (d .before .before .before .before .args .out .now) (d .before .before .before .before .args .at) (first (d .before .before .before .before) ++ second (d .before .before .before .before))
-both d = rw (guided-both (d .before .before .before .before .args .plan .kind) (shiftCount (d .before .before .before .before .args .input .now)) (d .if1 .left)) at (d .before .before .before .before .pre .1)
+both : (d : tie.Else1) →
+    Room (d .before .before .before .before .args .out .now) (d .before .before .before .before .args .at)
+    (first (d .before .before .before .before) ++ second (d .before .before .before .before))
+both d =
+    rw
+    (guided-both (d .before .before .before .before .args .plan .kind) (shiftCount (d .before .before .before .before .args .input .now))
+    (d .if1 .left)) at (d .before .before .before .before .pre .1)
 
-columns : (e : tie.After-put-way) → Puts (e .before .before .before .before .before .before .before .before .before .args .out .now) (e .put-way .last .0) (e .before .before .before .before .before .before .before .before .before .args .at) (e .put-way .result) (first (e .before .before .before .before .before .before .before .before .before))
+columns : (e : tie.After-put-way) →
+    Puts (e .before .before .before .before .before .before .before .before .before .args .out .now) (e .put-way .last .0)
+    (e .before .before .before .before .before .before .before .before .before .args .at) (e .put-way .result)
+    (first (e .before .before .before .before .before .before .before .before .before))
 columns e = called (ap (wayText columnsWord) (e .before .before .before .filter-by .ensures .shifts)) (e .put-way .ensures)
 
 returns : tie.Need-returns
@@ -32,7 +40,8 @@ returns c =
     called (sym (guided-none (s .args .plan .kind) (shiftCount (s .args .input .now)) (c .if1 .taken))) (none (s .args .out .now) (s .args .at))
 
 filter-by-requires : tie.Need-filter-by-requires
-filter-by-requires c κs = record { plan = _; admitted = c .before .before .before .before .before .pre .0; serving = inr (inl refl, c .before .if1 .left) }
+filter-by-requires c κs =
+    record { plan = _; admitted = c .before .before .before .before .before .pre .0; serving = inr (inl refl, c .before .if1 .left) }
 
 slice-aggregate-put-way : tie.Need-slice-aggregate-put-way
 slice-aggregate-put-way c = search needs
@@ -44,7 +53,14 @@ put-way-requires c κs =
     rw (c .before .before .filter-by .ensures .shifts) (room-first (s .args .out .now) (s .args .at) (first s) (second s) (both d))
 
 filter-by-requires-2 : tie.Need-filter-by-requires-2
-filter-by-requires-2 c κs = record { plan = _; admitted = c .before .before .before .before .before .before .before .before .before .before .before .before .pre .0; serving = inr (inr refl, c .before .before .before .before .before .before .before .before .if1 .left) }
+filter-by-requires-2 c κs =
+    record {
+      plan = _;
+      admitted =
+          c .before .before .before .before .before .before .before .before .before .before .before .before .pre .0;
+      serving =
+          inr (inr refl, c .before .before .before .before .before .before .before .before .if1 .left);
+    }
 
 slice-aggregate-put-way-2 : tie.Need-slice-aggregate-put-way-2
 slice-aggregate-put-way-2 c = search needs
@@ -63,7 +79,9 @@ returns-2 c =
     let d = c .before .before .before .before .before .before .before .before .before .before .before .before .before .before in
     let s = d .before .before .before .before in
     called (sym (guided-both (s .args .plan .kind) (shiftCount (s .args .input .now)) (d .if1 .left)))
-    (joined (columns (c .before .before .before .before .before .before .before .before .before)) (called (ap (wayText chainWord) (c .before .before .before .before .before .filter-by2 .ensures .shifts)) (c .before .before .put-way2 .ensures)))
+    (joined (columns (c .before .before .before .before .before .before .before .before .before))
+    (called (ap (wayText chainWord) (c .before .before .before .before .before .filter-by2 .ensures .shifts))
+    (c .before .before .put-way2 .ensures)))
 
 pub put-guided-spec : {M : Type 1} → statement M
 put-guided-spec =

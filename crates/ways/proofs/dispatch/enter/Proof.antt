@@ -40,7 +40,9 @@ same-length-2 c = search needs
 returns : tie.Need-returns
 returns c =
     let at = c .before .before .before .before .before .before .before .before .before .before .before .before .before .before .before .before in
-    joint-visited _ (at .pre .0 .0) _ _ _ (at .pre .1 .1 .0) _ _ _ _ _ _ (c .before .before .before .before .before .before .before .before .before .enum-told .given .1) (c .before .before .before .before .enter .ensures)
+    joint-visited _ (at .pre .0 .0) _ _ _ (at .pre .1 .1 .0) _ _ _ _ _ _
+    (c .before .before .before .before .before .before .before .before .before .enum-told .given .1)
+    (c .before .before .before .before .enter .ensures)
 
 same-length-3 : tie.Need-same-length-3
 same-length-3 c = search needs

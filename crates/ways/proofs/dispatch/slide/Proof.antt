@@ -20,8 +20,10 @@ enum-told-2 c = search needs
 slide-requires-2 : tie.Need-slide-requires-2
 slide-requires-2 c κs =
     let at = c .before .before .before .before .before .before .before .before in
-    let e = c .before .enum-told2 .given .1 in
-    ((at .pre .0 .0, guided-columns _ (at .args .plan) (at .pre .0 .2) e), ((at .pre .1 .0, at .pre .1 .1 .0), columns-at _ (at .pre .0 .0) _ _ _ (at .pre .1 .1 .1 .0) _ _ _ e (at .pre .1 .1 .1 .1) .0))
+    let e = c .before .enum-told2 .given .1 in (
+      (at .pre .0 .0, guided-columns _ (at .args .plan) (at .pre .0 .2) e),
+      ((at .pre .1 .0, at .pre .1 .1 .0), columns-at _ (at .pre .0 .0) _ _ _ (at .pre .1 .1 .1 .0) _ _ _ e (at .pre .1 .1 .1 .1) .0),
+    )
 
 enum-told-3 : tie.Need-enum-told-3
 enum-told-3 c = search needs
@@ -29,8 +31,10 @@ enum-told-3 c = search needs
 slide-requires-3 : tie.Need-slide-requires-3
 slide-requires-3 c κs =
     let at = c .before .before .before .before .before .before .before .before in
-    let e = c .before .enum-told3 .given .1 in
-    ((at .pre .0 .0, guided-chain _ (at .args .plan) (at .pre .0 .2) e), ((at .pre .1 .0, at .pre .1 .1 .0), chain-at _ (at .pre .0 .0) _ _ _ (at .pre .1 .1 .1 .0) _ _ _ e (at .pre .1 .1 .1 .1) .0))
+    let e = c .before .enum-told3 .given .1 in (
+      (at .pre .0 .0, guided-chain _ (at .args .plan) (at .pre .0 .2) e),
+      ((at .pre .1 .0, at .pre .1 .1 .0), chain-at _ (at .pre .0 .0) _ _ _ (at .pre .1 .1 .1 .0) _ _ _ e (at .pre .1 .1 .1 .1) .0),
+    )
 
 same-length : tie.Need-same-length
 same-length c = search needs
@@ -41,7 +45,9 @@ same-length-2 c = search needs
 returns : tie.Need-returns
 returns c =
     let at = c .before .before .before .before .before .before .before .before .before .before .before .before .before .before .before .before in
-    joint-visited _ (at .pre .0 .0) _ _ _ (at .pre .1 .1 .1 .0) _ _ _ _ _ _ (c .before .before .before .before .before .before .before .before .before .enum-told .given .1) (c .before .before .before .before .slide .ensures)
+    joint-visited _ (at .pre .0 .0) _ _ _ (at .pre .1 .1 .1 .0) _ _ _ _ _ _
+    (c .before .before .before .before .before .before .before .before .before .enum-told .given .1)
+    (c .before .before .before .before .slide .ensures)
 
 same-length-3 : tie.Need-same-length-3
 same-length-3 c = search needs
@@ -50,7 +56,8 @@ returns-2 : tie.Need-returns-2
 returns-2 c =
     let at = c .before .before .before .before .before .before .before .before .before .before .before in
     let e = c .before .before .before .before .enum-told2 .given .1 in
-    columns-visited _ (at .pre .0 .0) _ _ _ (at .pre .1 .1 .1 .0) _ _ _ _ _ e (c .before .before .slide2 .ensures) (columns-at _ (at .pre .0 .0) _ _ _ (at .pre .1 .1 .1 .0) _ _ _ e (at .pre .1 .1 .1 .1) .1)
+    columns-visited _ (at .pre .0 .0) _ _ _ (at .pre .1 .1 .1 .0) _ _ _ _ _ e (c .before .before .slide2 .ensures)
+    (columns-at _ (at .pre .0 .0) _ _ _ (at .pre .1 .1 .1 .0) _ _ _ e (at .pre .1 .1 .1 .1) .1)
 
 same-length-4 : tie.Need-same-length-4
 same-length-4 c = search needs
@@ -59,7 +66,8 @@ returns-3 : tie.Need-returns-3
 returns-3 c =
     let at = c .before .before .before .before .before .before .before .before .before .before .before in
     let e = c .before .before .before .before .enum-told3 .given .1 in
-    chain-visited _ (at .pre .0 .0) _ _ _ (at .pre .1 .1 .1 .0) _ _ _ _ _ e (c .before .before .slide3 .ensures) (chain-at _ (at .pre .0 .0) _ _ _ (at .pre .1 .1 .1 .0) _ _ _ e (at .pre .1 .1 .1 .1) .1)
+    chain-visited _ (at .pre .0 .0) _ _ _ (at .pre .1 .1 .1 .0) _ _ _ _ _ e (c .before .before .slide3 .ensures)
+    (chain-at _ (at .pre .0 .0) _ _ _ (at .pre .1 .1 .1 .0) _ _ _ e (at .pre .1 .1 .1 .1) .1)
 
 pub slide-spec : {M : Type 1} → statement M
 slide-spec =

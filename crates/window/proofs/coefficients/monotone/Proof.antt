@@ -40,15 +40,23 @@ add-high c = need! w64 (env (c .before .before .before .before .before .before))
 
 returns : tie.Need-returns
 unfolding endsNotNegative
-returns c = let st = c .before .before .before .before .before .before .before in let k = st .args .coefficients in sym (ap (λ (b : Bool). b && nonNeg (k .slope *ℤ pos (st .args .plan .guides - 1) +ℤ k .offset)) (is-neg (k .offset) (lt-true (computes w64 (env st) x₁ tt) refl (c .if1 .taken))))
+returns c = let st = c .before .before .before .before .before .before .before in let k =
+    st .args .coefficients in sym
+    (ap (λ (b : Bool). b && nonNeg (k .slope *ℤ pos (st .args .plan .guides - 1) +ℤ k .offset))
+    (is-neg (k .offset) (lt-true (computes w64 (env st) x₁ tt) refl (c .if1 .taken))))
 
 returns-2 : tie.Need-returns-2
 unfolding endsNotNegative
-returns-2 c = let st = c .before .before .before .before .before .before .before .before in sym (both-false (nonNeg (st .args .coefficients .offset)) (is-neg _ (lt-true (computes w64 (env st) (x₀ ⊗ x₂ ⊕ x₁) tt) refl (c .if2 .taken))))
+returns-2 c = let st =
+    c .before .before .before .before .before .before .before .before in sym
+    (both-false (nonNeg (st .args .coefficients .offset)) (is-neg _ (lt-true (computes w64 (env st) (x₀ ⊗ x₂ ⊕ x₁) tt) refl (c .if2 .taken))))
 
 returns-3 : tie.Need-returns-3
 unfolding endsNotNegative
-returns-3 c = let st = c .before .before .before .before .before .before .before .before in sym (ap₂ (λ (x y : Bool). x && y) (not-neg _ (lt-false (computes w64 (env st) x₁ tt) refl (c .before .if1 .left))) (not-neg _ (lt-false (computes w64 (env st) (x₀ ⊗ x₂ ⊕ x₁) tt) refl (c .if2 .left))))
+returns-3 c = let st =
+    c .before .before .before .before .before .before .before .before in sym
+    (ap₂ (λ (x y : Bool). x && y) (not-neg _ (lt-false (computes w64 (env st) x₁ tt) refl (c .before .if1 .left)))
+    (not-neg _ (lt-false (computes w64 (env st) (x₀ ⊗ x₂ ⊕ x₁) tt) refl (c .if2 .left))))
 
 pub monotone-spec : {M : Type 1} → statement M
 monotone-spec =

@@ -24,14 +24,18 @@ guide-at-requires c κs = let st = c .before .before in (st .pre .0 .0, place st
 from-sums-requires : tie.Need-from-sums-requires
 from-sums-requires c κs =
     let st = c .before .before .before in
-    let pl = st .pre .0 .0 in
-    (sums-small pl (st .pre .1 .0) (st .pre .1 .1) (st .pre .1 .2), (smoothing-high pl (st .pre .0 .1), omega (arith, c .guide-at .ensures, guide-low pl (place st), guides-high pl)))
+    let pl = st .pre .0 .0 in (
+      sums-small pl (st .pre .1 .0) (st .pre .1 .1) (st .pre .1 .2),
+      (smoothing-high pl (st .pre .0 .1), omega (arith, c .guide-at .ensures, guide-low pl (place st), guides-high pl)),
+    )
 
 returns : tie.Need-returns
 returns c =
     let st = c .before .before .before .before in
     let pl = st .pre .0 .0 in
-    let w = weighs pl (st .pre .0 .1) (st .pre .1 .2) (c .before .guide-at .ensures ∙ facts pl .guide-at (st .args .s) (st .args .t)) (c .from-sums .ensures) in
+    let w =
+    weighs pl (st .pre .0 .1) (st .pre .1 .2) (c .before .guide-at .ensures ∙ facts pl .guide-at (st .args .s) (st .args .t))
+    (c .from-sums .ensures) in
     (w, coefficients-small pl (st .pre .0 .1) w (st .pre .1 .0) (st .pre .1 .1))
 
 pub of-window-spec : {M : Type 1} → statement M

@@ -12,11 +12,20 @@ column-line-requires : tie.Need-column-line-requires
 column-line-requires c κs = search needs
 
 forward-requires : tie.Need-forward-requires
-forward-requires c κs = let s = c .before in (rw (c .column-line .ensures) (column-low (s .args .plan) (s .pre .0) 0 (s .args .t) (omega arith) (s .pre .1 .1)), omega arith, omega arith, omega arith, omega arith)
+forward-requires c κs = let s =
+    c .before in (
+      rw (c .column-line .ensures) (column-low (s .args .plan) (s .pre .0) 0 (s .args .t) (omega arith) (s .pre .1 .1)),
+      omega arith,
+      omega arith,
+      omega arith,
+      omega arith,
+    )
 
 returns : tie.Need-returns
 unfolding columnStep
-returns c = let a = c .before .before .args in c .forward .ensures ∙ ap (λ (d : Line). advance d 1 (a .c) (a .plan .radius) (a .plan .width)) (c .before .column-line .ensures)
+returns c = let a =
+    c .before .before .args in c .forward .ensures ∙ ap (λ (d : Line). advance d 1 (a .c) (a .plan .radius) (a .plan .width))
+    (c .before .column-line .ensures)
 
 pub column-step-spec : {M : Type 1} → statement M
 column-step-spec = tie.close (tie.spec column-line-requires forward-requires returns)

@@ -28,7 +28,9 @@ shifted-requires-2 : tie.Need-shifted-requires-2
 shifted-requires-2 c κs = let a = c .before .before .args in omega (arith, product (a .c + a .r + 1) (a .apart) (omega arith) (omega arith))
 
 returns : tie.Need-returns
-returns c = let a = c .before .before .before .args in advance-is (a .line) (a .apart) (a .c) (a .r) (a .size) _ _ _ (c .before .before .low .ensures) (c .before .shifted .ensures) (c .shifted2 .ensures)
+returns c = let a =
+    c .before .before .before .args in advance-is (a .line) (a .apart) (a .c) (a .r) (a .size) _ _ _ (c .before .before .low .ensures)
+    (c .before .shifted .ensures) (c .shifted2 .ensures)
 
 pub forward-spec : {M : Type 1} → statement M
 forward-spec =
