@@ -157,11 +157,12 @@ module _ (l : ℕ) (m : List ℕ) (w : Coefficients) (a : Climbs l w m) where
           at-cur : (j : ℕ) → j ≡ levelIn m cur → reachesAt (a .cnt) (a .sm) w j ≡ false
           at-cur j z = rw z (at-node false e)
 
-      pub ahead-less : ahead l m (nextIn m cur) < ahead l m cur
-      ahead-less =
+      pub ahead-less : (most : ℕ) → l ≤ most → ahead most m (nextIn m cur) < ahead most m cur
+      ahead-less most h =
           ⊎-elim
-          (λ z. let w : ahead l m (nextIn m cur) ≡ 0 = ap (ahead l m) z ∙ ahead-zero l m in omega (arith, ahead-pos l m cur p, cur-level))
-          (λ q. omega (arith, ahead-pos l m cur p, ahead-pos l m (nextIn m cur) q, cur-level, above, a .chain .shape .next cur (λ w. used) .from q))
+          (λ z. let w : ahead most m (nextIn m cur) ≡ 0 = ap (ahead most m) z ∙ ahead-zero most m in omega (arith, ahead-pos most m cur p, cur-level))
+          (λ q. omega (arith, ahead-pos most m cur p, ahead-pos most m (nextIn m cur) q, cur-level, above,
+          a .chain .shape .next cur (λ w. used) .from q))
           (zero-or-pos (nextIn m cur))
 
   -- the last node: none before it reaches it, so it does
@@ -227,8 +228,8 @@ module _ {l : ℕ} {m : List ℕ} {w : Coefficients} {a : Climbs l w m} where
           pub node-next : AtNode l m w a (count + getD m (at - 2) 0) (sum + getD m (at - 1) 0) at′ (getD m at′ 0)
           node-next = record { cur = next; state = after; place = g; goes = ap (λ (x : ℕ). getD m x 0) g }
 
-          pub node-less : ahead l m (getD m at′ 0) < ahead l m next
-          node-less = rw g (ahead-less l m w a _ _ _ after (climb-goes l m w a _ _ _ after))
+          pub node-less : (most : ℕ) → l ≤ most → ahead most m (getD m at′ 0) < ahead most m next
+          node-less most h = rw g (ahead-less l m w a _ _ _ after (climb-goes l m w a _ _ _ after) most h)
 
 -- ---- the weight of the levels up to i is linear in their count and their guide sum
 join-weights : (c d f g f′ g′ : ℤ) → (c *ℤ g +ℤ d *ℤ f) +ℤ (c *ℤ g′ +ℤ d *ℤ f′) ≡ c *ℤ (g +ℤ g′) +ℤ d *ℤ (f +ℤ f′)

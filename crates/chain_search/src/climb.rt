@@ -5,20 +5,20 @@ use spec::Level;
 use window::coefficients::Coefficients;
 use window::coefficients::reached;
 ghost use mathlib.Core.Path.{_≡_};
-ghost use Prim.Native.Nat.{_≤_};
+ghost use Prim.Native.Nat.{ℕ, _≤_};
 ghost use lib.IntN.{pos};
 ghost use lib.Signed.{_<ℤ_};
 ghost use Rattle.spec.specs.Base.{first};
 ghost use Rattle.window.specs.Coefficients.{CoefficientsSmall};
 ghost use Rattle.chain_search.specs.Climb.{reachesAt, Climbs};
 
-// The first level at which the weight of the levels up to it reaches half of the window's. Some level does: where none before the last node does, the
+// The first level at which the weight of the levels up to it reaches half of the window's, of however many levels the list is. Some level does: where none before the last node does, the
 // last node's level is the answer.
-pub fn climb(numbers: &[u32], levels: usize, coefficients: Coefficients) -> Level
-    requires { ⌜ Climbs levels coefficients (now numbers) ⌝ }
-    requires { ⌜ levels ≤ 1024 ⌝ }
+pub fn climb(numbers: &[u32], coefficients: Coefficients) -> Level
+    requires { ⌜ ((l : ℕ) × (l ≤ 1024) × Climbs l coefficients (now numbers)) ⌝ }
     requires { ⌜ (CoefficientsSmall coefficients) × (pos 0 <ℤ coefficients .total) ⌝ }
-    ensures { λ r. ⌜ ((a : Climbs levels coefficients (now (numbers .entry))) → r .0 ≡ first (reachesAt (a .cnt) (a .sm) coefficients) levels) ⌝ }
+    ensures { λ r. ⌜ ((l : ℕ) → l ≤ 1024 → (a : Climbs l coefficients (now (numbers .entry)))
+        → r .0 ≡ first (reachesAt (a .cnt) (a .sm) coefficients) l) ⌝ }
 {
     let mut count: u32 = 0;
     let mut sum: u32 = 0;

@@ -23,7 +23,7 @@ use Rattle.spec.proofs.Bounds.{pixelCount-high, guideSum-high}
 use Rattle.window.specs.declared.coefficients.Coefficients.{Coefficients}
 use Rattle.window.specs.Coefficients.{WeighsAt}
 use Rattle.window.specs.Sums.{SumsAt}
-use Rattle.window.proofs.PixelLaws.{guides-high}
+use Rattle.window.proofs.PixelLaws.{guides-high, levels-high}
 use Rattle.chain_nodes.specs.declared.FreeList.{FreeList}
 use Rattle.chain_list.specs.Chain.{sumBelow}
 use Rattle.chain.specs.Lines.{nodesOf, sizeOf}
@@ -79,9 +79,9 @@ module _ {b : List ℕ} {z : Plan} (pl : Planned b z) where
           }
 
       pub climbed : (k : Coefficients) (w : WeighsAt (frameOf b) s t k) (free : FreeList) (m : List ℕ) → Listed b z s t free m → (r : ℕ)
-          → ((a : Climbs (z .levels) k m) → r ≡ first (reachesAt (a .cnt) (a .sm) k) (z .levels)) → r ≡ median (frameOf b) s t
+          → ((l : ℕ) → l ≤ 1024 → (a : Climbs l k m) → r ≡ first (reachesAt (a .cnt) (a .sm) k) l) → r ≡ median (frameOf b) s t
       unfolding climbs
-      climbed k w free m c r h = h (climbs k w free m c) ∙ climb-is k w
+      climbed k w free m c r h = h (z .levels) (levels-high pl) (climbs k w free m c) ∙ climb-is k w
 
       -- no window of kind 2 is weightless
       arrive-is : (c n : ℕ) → arrive (frameOf b) s t c n

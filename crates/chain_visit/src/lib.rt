@@ -54,7 +54,7 @@ pub fn answer_at(
 {
     let sums = running.sums;
     let coefficients = coefficients::of_window(file, plan, sums, column, row);
-    let level = climb::climb(numbers, plan.levels, coefficients);
+    let level = climb::climb(numbers, coefficients);
     let monotone = coefficients::monotone(plan, coefficients);
     let more = added(monotone, cut, level);
     visit::answered(column, row, level, shifts + more, running)

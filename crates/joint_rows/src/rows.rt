@@ -4,7 +4,8 @@ use spec::Guide;
 use spec::Plan;
 use window::pixel;
 ghost use mathlib.Core.Path.{_≡_};
-ghost use Prim.Native.Nat.{_+_, _*_, _<_, _≤_};
+ghost use mathlib.Core.List.{List};
+ghost use Prim.Native.Nat.{ℕ, _+_, _*_, _<_, _≤_};
 ghost use lib.ListN.{length};
 ghost use lib.IntN.{pos};
 ghost use Rattle.spec.specs.Frame.{frameOf};
@@ -84,11 +85,11 @@ pub fn own_row(file: &[u8], plan: Plan, f: Guide) -> [u16; 256]
     row
 }
 
-// Kind 1, built-in weights: the row of the centre's guide.
-pub fn built_formula(file: &[u8], plan: Plan, weights: &[u16], s: usize, t: usize) -> Formula
+// Kind 1, built-in weights: the row of the centre's guide, as a part of the mirrored constants.
+pub fn built_formula(file: &[u8], plan: Plan, s: usize, t: usize) -> Formula
     requires { ⌜ (Planned (now file) plan) × (plan .kind ≡ 1) × (plan .weights ≡ 0) × (s < plan .width) × (t < plan .height) ⌝ }
-    requires { ⌜ Mirror (now weights) ⌝ }
-    ensures { λ r. ⌜ (Weighs (frameOf (now (file .entry))) s t (now (weights .entry)) r) × (r .slope ≡ pos 1) × (r .offset ≡ pos 0) ⌝ }
+    ensures { λ r. ⌜ ((row : List ℕ) → Mirror row → Weighs (frameOf (now (file .entry))) s t row r)
+        × (r .slope ≡ pos 1) × (r .offset ≡ pos 0) ⌝ }
 {
     let centre = pixel::guide_at(file, plan, t * plan.width + s);
     Formula {

@@ -113,7 +113,7 @@ pub fn arrive_table(
     let place = t * plan.width + s;
     let level = pixel::level_at(file, plan, place);
     if plan.weights == 0 {
-        let built = rows::built_formula(file, plan, weights, s, t);
+        let built = rows::built_formula(file, plan, s, t);
         return arrive_by(
             plan,
             weights,

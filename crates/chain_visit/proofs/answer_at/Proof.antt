@@ -18,13 +18,14 @@ of-window-requires c κs = let at = c .before .before .before in (at .pre .0, (a
 climb-requires : tie.Need-climb-requires
 climb-requires c κs =
     let at = start c in (
-      climbs (at .pre .0 .0) (at .pre .1 .0 .0) (at .pre .1 .0 .1) (at .pre .0 .1) _ (c .of-window .ensures .0) _ _ (at .pre .1 .1 .1),
       (
+        at .args .plan .levels,
         levels-high (at .pre .0 .0),
-        (
-          c .of-window .ensures .1,
-          total-pos (at .pre .0 .0) (at .pre .1 .0 .0) (at .pre .1 .0 .1) (at .pre .0 .1) _ (c .of-window .ensures .0),
-        ),
+        climbs (at .pre .0 .0) (at .pre .1 .0 .0) (at .pre .1 .0 .1) (at .pre .0 .1) _ (c .of-window .ensures .0) _ _ (at .pre .1 .1 .1),
+      ),
+      (
+        c .of-window .ensures .1,
+        total-pos (at .pre .0 .0) (at .pre .1 .0 .0) (at .pre .1 .0 .1) (at .pre .0 .1) _ (c .of-window .ensures .0),
       ),
     )
 

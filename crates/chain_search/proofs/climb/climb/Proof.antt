@@ -1,6 +1,7 @@
 -- `chain_search::climb::climb` meets its contract.
 -- Assumes nothing.
 use mathlib.Core.Path.{sym}
+use Prim.Native.Nat.{ℕ, _≤_}
 use native.Mathlib.Omega.{arith}
 use borrow.Author.Needs.{needs}
 use Rattle.chain_search.specs.Climb.{Climbs}
@@ -24,10 +25,11 @@ use Rattle.chain_search.proofs.climb.climb.Statement.{statement}
 use Rattle.chain_search.proofs.climb.climb.Tie as tie
 
 abbrev Inv-loop : tie.InvT-loop
-Inv-loop numbers levels k count₀ sum₀ at₀ next₀ count sum at next = (a : Climbs levels k numbers) → AtNode levels numbers k a count sum at next
+Inv-loop numbers k count₀ sum₀ at₀ next₀ count sum at next =
+    (l : ℕ) → l ≤ 1024 → (a : Climbs l k numbers) → AtNode l numbers k a count sum at next
 
 abbrev μ-loop : tie.MeasureT-loop
-μ-loop numbers levels k count₀ sum₀ at₀ next₀ count sum at next = ahead levels numbers next
+μ-loop numbers k count₀ sum₀ at₀ next₀ count sum at next = ahead 1024 numbers next
 
 -- the start, from the loop's head
 abbrev start : tie.At-loop Inv-loop μ-loop → tie.Start Inv-loop μ-loop
@@ -35,25 +37,25 @@ start h = h .before .before .before .before .before
 
 -- the state there, at the list of the `requires`
 state : (h : tie.At-loop Inv-loop μ-loop) →
-    AtNode (start h .args .levels) (start h .args .numbers .now) (start h .args .coefficients) (start h .pre .0) (h .loop .count) (h .loop .sum)
+    AtNode (start h .pre .0 .0) (start h .args .numbers .now) (start h .args .coefficients) (start h .pre .0 .2) (h .loop .count) (h .loop .sum)
     (h .loop .at) (h .loop .next)
-state h = h .loop .inv (start h .pre .0)
+state h = h .loop .inv _ (start h .pre .0 .1) (start h .pre .0 .2)
 
 shared-slice-read-place : tie.Need-shared-slice-read-place Inv-loop μ-loop
-shared-slice-read-place c = omega (arith, c .before .before .pre .0 .chain .shape .size)
+shared-slice-read-place c = omega (arith, c .before .before .pre .0 .2 .chain .shape .size)
 
 place-requires : tie.Need-place-requires Inv-loop μ-loop
 place-requires c κs = search needs
 
 mul-next : tie.Need-mul-next Inv-loop μ-loop
-mul-next c = let st = c .before .before .before in omega (arith, c .place .ensures, first-in (st .pre .0) (st .pre .1 .1 .1), st .good)
+mul-next c = let st = c .before .before .before in omega (arith, c .place .ensures, first-in (st .pre .0 .2) (st .pre .1 .1), st .good)
 
 shared-slice-read-next : tie.Need-shared-slice-read-next Inv-loop μ-loop
 shared-slice-read-next c = let st =
-    c .before .before .before .before in omega (arith, c .before .place .ensures, first-in (st .pre .0) (st .pre .1 .1 .1))
+    c .before .before .before .before in omega (arith, c .before .place .ensures, first-in (st .pre .0 .2) (st .pre .1 .1))
 
 loop-holds : tie.Need-loop-holds Inv-loop μ-loop
-loop-holds c = let st = c .before .before .before .before in λ a. node-start (st .pre .1 .1 .1) (c .before .place .ensures)
+loop-holds c = let st = c .before .before .before .before in λ l h a. node-start (st .pre .1 .1) (c .before .place .ensures)
 
 sub-count : tie.Need-sub-count Inv-loop μ-loop
 sub-count c = omega (arith, node-from (state (c .before)))
@@ -89,25 +91,25 @@ reached-requires : tie.Need-reached-requires Inv-loop μ-loop
 reached-requires c κs =
     let h = c .before .before .before in
     let s = state h in
-    (start h .pre .1 .1 .0, (omega (arith, node-count s, node-sum s), omega (arith, node-count s, node-sum s)))
+    (start h .pre .1 .0, (omega (arith, node-count s, node-sum s), omega (arith, node-count s, node-sum s)))
 
-sub-t19 : tie.Need-sub-t19 Inv-loop μ-loop
-sub-t19 c = omega (arith, node-from (state (c .before .before .before .before .before)))
+sub-t18 : tie.Need-sub-t18 Inv-loop μ-loop
+sub-t18 c = omega (arith, node-from (state (c .before .before .before .before .before)))
 
-mul-t20 : tie.Need-mul-t20 Inv-loop μ-loop
-mul-t20 c = let h = c .before .before .before .before .before in omega (arith, node-in (state h), start h .good)
+mul-t19 : tie.Need-mul-t19 Inv-loop μ-loop
+mul-t19 c = let h = c .before .before .before .before .before in omega (arith, node-in (state h), start h .good)
 
-shared-slice-read-t22 : tie.Need-shared-slice-read-t22 Inv-loop μ-loop
-shared-slice-read-t22 c = omega (arith, node-in (state (c .before .before .before .before .before .before)))
+shared-slice-read-t21 : tie.Need-shared-slice-read-t21 Inv-loop μ-loop
+shared-slice-read-t21 c = omega (arith, node-in (state (c .before .before .before .before .before .before)))
 
-cast-t23 : tie.Need-cast-t23 Inv-loop μ-loop
-cast-t23 c = let h = c .before .before .before .before .before .before in omega (arith, node-level (state h), start h .pre .1 .0)
+cast-t22 : tie.Need-cast-t22 Inv-loop μ-loop
+cast-t22 c = let h = c .before .before .before .before .before .before in omega (arith, node-level (state h), start h .pre .0 .1)
 
 returns : tie.Need-returns Inv-loop μ-loop
 returns c =
     let r = c .before .before in
     let h = r .before .before .before .before in
-    λ a. node-here (h .loop .inv a) (sym (r .reached .ensures)) (c .before .if1 .taken)
+    λ l q a. node-here (h .loop .inv l q a) (sym (r .reached .ensures)) (c .before .if1 .taken)
 
 place-requires-2 : tie.Need-place-requires-2 Inv-loop μ-loop
 place-requires-2 c κs = search needs
@@ -128,28 +130,28 @@ loop-less : tie.Need-loop-less Inv-loop μ-loop
 loop-less c =
     let e = c .before .before in
     let h = e .before .before .before .before .before in
-    node-less (state h) (sym (e .before .reached .ensures)) (e .if1 .left) (c .before .place2 .ensures)
+    node-less (state h) (sym (e .before .reached .ensures)) (e .if1 .left) (c .before .place2 .ensures) 1024 (start h .pre .0 .1)
 
 loop-again : tie.Need-loop-again Inv-loop μ-loop
 loop-again c =
     let e = c .before .before in
     let h = e .before .before .before .before .before in
-    λ a. node-next (h .loop .inv a) (sym (e .before .reached .ensures)) (e .if1 .left) (c .before .place2 .ensures)
+    λ l q a. node-next (h .loop .inv l q a) (sym (e .before .reached .ensures)) (e .if1 .left) (c .before .place2 .ensures)
 
-sub-t10 : tie.Need-sub-t10 Inv-loop μ-loop
-sub-t10 c = omega (arith, node-from (state (c .before)))
+sub-t9 : tie.Need-sub-t9 Inv-loop μ-loop
+sub-t9 c = omega (arith, node-from (state (c .before)))
 
-mul-t25 : tie.Need-mul-t25 Inv-loop μ-loop
-mul-t25 c = omega (arith, node-in (state (c .before)), start (c .before) .good)
+mul-t24 : tie.Need-mul-t24 Inv-loop μ-loop
+mul-t24 c = omega (arith, node-in (state (c .before)), start (c .before) .good)
 
-shared-slice-read-t9 : tie.Need-shared-slice-read-t9 Inv-loop μ-loop
-shared-slice-read-t9 c = omega (arith, node-in (state (c .before .before)))
+shared-slice-read-t8 : tie.Need-shared-slice-read-t8 Inv-loop μ-loop
+shared-slice-read-t8 c = omega (arith, node-in (state (c .before .before)))
 
-cast-t27 : tie.Need-cast-t27 Inv-loop μ-loop
-cast-t27 c = let h = c .before .before in omega (arith, node-level (state h), start h .pre .1 .0)
+cast-t26 : tie.Need-cast-t26 Inv-loop μ-loop
+cast-t26 c = let h = c .before .before in omega (arith, node-level (state h), start h .pre .0 .1)
 
 returns-2 : tie.Need-returns-2 Inv-loop μ-loop
-returns-2 c = λ a. node-last (c .before .before .loop .inv a) (c .before .loop-test .left)
+returns-2 c = λ l q a. node-last (c .before .before .loop .inv l q a) (c .before .loop-test .left)
 
 pub climb-spec : {M : Type 1} → statement M
 climb-spec =
@@ -173,18 +175,18 @@ climb-spec =
     cast-reached
     cast-reached-2
     reached-requires
-    sub-t19
-    mul-t20
-    shared-slice-read-t22
-    cast-t23
+    sub-t18
+    mul-t19
+    shared-slice-read-t21
+    cast-t22
     returns
     place-requires-2
     mul-next-2
     shared-slice-read-next-2
     loop-less
     loop-again
-    sub-t10
-    mul-t25
-    shared-slice-read-t9
-    cast-t27
+    sub-t9
+    mul-t24
+    shared-slice-read-t8
+    cast-t26
     returns-2)

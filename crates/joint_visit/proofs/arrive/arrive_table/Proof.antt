@@ -37,7 +37,14 @@ built-formula-requires : tie.Need-built-formula-requires
 built-formula-requires c κs =
     let at = start (c .before .before) in
     let k = at .pre .0 .0 in
-    ((k .planned, at .pre .0 .2, c .if1 .taken, k .column, k .row), at .pre .0 .1 .mirror (c .if1 .taken))
+    (k .planned, at .pre .0 .2, c .if1 .taken, k .column, k .row)
+
+-- the row weighs the window, as a part of the constants that the walk has
+built-weighs : (w : tie.After-built-formula) → let at = start (w .before .before .before) in
+    Weighs (frameOf (at .args .file .now)) (at .args .s) (at .args .t) (at .args .weights .now) (w .built-formula .result)
+built-weighs w =
+    let at = start (w .before .before .before) in
+    w .built-formula .ensures .0 _ (at .pre .0 .1 .mirror (w .before .if1 .taken))
 
 arrive-by-requires : tie.Need-arrive-by-requires
 arrive-by-requires c κs =
@@ -46,14 +53,14 @@ arrive-by-requires c κs =
     let k = at .pre .0 .0 in
     let p = at .pre .1 in
     let q = w .built-formula .ensures in
-    ((searchable k, formula-fits k (q .0), q .1, q .2), (p .0, p .1, p .2 ∙ box-of k (at .args .cut .0) (p .0)))
+    ((searchable k, formula-fits k (built-weighs w), q .1, q .2), (p .0, p .1, p .2 ∙ box-of k (at .args .cut .0) (p .0)))
 
 returns : tie.Need-returns
 returns c =
     let w = c .before .before in
     let r = w .before .before .before in
     let at = start r in
-    arrives-of (at .pre .0 .0) (w .built-formula .ensures .0) (at .pre .0 .2) (own-level r) (at .pre .1 .0) (c .arrive-by .ensures .0)
+    arrives-of (at .pre .0 .0) (built-weighs w) (at .pre .0 .2) (own-level r) (at .pre .1 .0) (c .arrive-by .ensures .0)
     (c .arrive-by .ensures .1)
 
 -- the file's own
