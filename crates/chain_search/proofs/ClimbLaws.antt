@@ -161,8 +161,14 @@ module _ (l : ℕ) (m : List ℕ) (w : Coefficients) (a : Climbs l w m) where
       ahead-less most h =
           ⊎-elim
           (λ z. let w : ahead most m (nextIn m cur) ≡ 0 = ap (ahead most m) z ∙ ahead-zero most m in omega (arith, ahead-pos most m cur p, cur-level))
-          (λ q. omega (arith, ahead-pos most m cur p, ahead-pos most m (nextIn m cur) q, cur-level, above,
-          a .chain .shape .next cur (λ w. used) .from q))
+          (λ q. omega (
+            arith,
+            ahead-pos most m cur p,
+            ahead-pos most m (nextIn m cur) q,
+            cur-level,
+            above,
+            a .chain .shape .next cur (λ w. used) .from q,
+          ))
           (zero-or-pos (nextIn m cur))
 
   -- the last node: none before it reaches it, so it does
