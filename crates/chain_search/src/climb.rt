@@ -12,8 +12,8 @@ ghost use Rattle.spec.specs.Base.{first};
 ghost use Rattle.window.specs.Coefficients.{CoefficientsSmall};
 ghost use Rattle.chain_search.specs.Climb.{reachesAt, Climbs};
 
-// The first level at which the weight of the levels up to it reaches half of the window's, of however many levels the list is. Some level does: where none before the last node does, the
-// last node's level is the answer.
+// The first level at which the weight of the levels up to it reaches half of the window's, of however many levels the list is. Some level does:
+// where none before the last node does, the last node's level is the answer.
 pub fn climb(numbers: &[u32], coefficients: Coefficients) -> Level
     requires { ⌜ ((l : ℕ) × (l ≤ 1024) × Climbs l coefficients (now numbers)) ⌝ }
     requires { ⌜ (CoefficientsSmall coefficients) × (pos 0 <ℤ coefficients .total) ⌝ }
