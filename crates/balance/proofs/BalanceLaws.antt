@@ -4,7 +4,7 @@ use mathlib.Core.Path.{_≡_, refl, sym, ap, ap₂, _∙_, subst}
 use mathlib.Core.Logic.{⊎-elim}
 use mathlib.Core.List.{List}
 use Prim.Native.Nat.{ℕ, _+_, _-_, _*_, _^_, _≤_, _<_}
-use native.Mathlib.Nat.{le-trans, zero-add}
+use native.Mathlib.Nat.{le-trans}
 use native.Mathlib.Omega.{arith}
 use lib.ListN.{getD, set, replicate, length-replicate, length-set}
 use lib.Seq.{getD-set-same, getD-set-other}
@@ -17,25 +17,28 @@ use Rattle.ints.specs.Bound.{abs-add, abs-mul-le}
 use Rattle.ints.specs.Order.{lt-or-le, eq-or-ne}
 use Rattle.ints.specs.Machine.{read-bounded}
 use Rattle.ints.specs.Polynomial.{_⊕_, _⊖_, _⊗_, opposite, #_, _≐_, solve2}
-use Rattle.ints.specs.Ring.{mul-one, one-mul}
+use Rattle.ints.specs.Ring.{one-mul}
 use Rattle.spec.specs.declared.Plan.{Plan}
-use Rattle.spec.specs.Frame.{Frame, guide, table, frameOf}
+use Rattle.spec.specs.Frame.{Frame, table, frameOf}
 use Rattle.spec.specs.Checks.{Planned}
 use Rattle.spec.specs.Window.{span}
 use Rattle.spec.specs.Median.{balance}
 use Rattle.spec.proofs.Limits.{Pixel}
 use Rattle.spec.proofs.Plans.{facts, pixel-of}
 use Rattle.spec.proofs.Ranges.{intSums, fold-same}
-use Rattle.spec.proofs.Levels.{balance-signed, weight-table}
+use Rattle.spec.proofs.Levels.{balance-signed, weight-linear}
 use Rattle.spec.proofs.Bounds.{weight-abs}
 use Rattle.window.specs.declared.line.Line.{Line}
 use Rattle.window.specs.Line.{columnLine}
+use Rattle.window.specs.declared.coefficients.Coefficients.{Coefficients}
+use Rattle.window.specs.Coefficients.{WeighsAt, CoefficientsSmall}
 use Rattle.pixels.specs.Pixels.{countOf, levelIn, guideIn, pixelFoldTo, pixelFold, columnsFold, LinePixels}
 use Rattle.pixels.proofs.AdditiveLaws.{pixels-more, high-abs, columns-more, columns-window}
 use Rattle.joint.specs.Side.{side}
 use Rattle.joint.proofs.SideLaws.{side-low, side-high}
-use Rattle.joint_search.specs.declared.formula.Formula.{Formula}
-use Rattle.joint_search.specs.Formula.{weightBy}
+use Rattle.balance.specs.declared.formula.Formula.{Formula}
+use Rattle.balance.specs.Formula.{weightBy, Weighs, Ramp}
+use Rattle.joint_search.specs.Window.{RowWeighs}
 use Rattle.joint_rows.specs.Rows.{TableRow}
 use Rattle.balance.specs.Balance.{signedWeight, signedBy, PixelsWeighed, Weighed}
 
@@ -72,19 +75,19 @@ module _ {p row : List ℕ} {w : Formula} (v : PixelsWeighed p row w) (c : ℕ) 
 
   module _ {k : ℕ} (h : k < countOf p) where
     abbrev number : ℕ
-    number = getD row (w .row + guideIn p k) 0
+    number = getD row (guideIn p k) 0
 
     module _ (l : number ≤ 65535) where
       natural : toZ w64 number ≡ pos number
       natural = toZ-pos w64 (omega arith)
 
       pub weight-asks : (natAbs (toZ w64 (ofZ w64 (w .slope))) ≤ 235497855) × (natAbs (toZ w64 (ofZ w64 (w .offset))) ≤ 180155859075) ×
-          (natAbs (toZ w64 number) ≤ 62979135) × (1 ≤ 961)
-      weight-asks = (rw slope-back (v .small .slope), rw offset-back (v .small .offset), rw natural (omega (arith, l)), omega arith)
+          (natAbs (toZ w64 number) ≤ 65535)
+      weight-asks = (rw slope-back (v .small .slope), rw offset-back (v .small .offset), rw natural l)
 
-      pub weight-is : (r : ℤ) → r ≡ toZ w64 (ofZ w64 (w .slope)) *ℤ toZ w64 number +ℤ toZ w64 (ofZ w64 (w .offset)) *ℤ pos 1 →
+      pub weight-is : (r : ℤ) → r ≡ toZ w64 (ofZ w64 (w .slope)) *ℤ toZ w64 number +ℤ toZ w64 (ofZ w64 (w .offset)) →
           r ≡ weightBy row w (guideIn p k)
-      weight-is r e = (rw (slope-back, offset-back, natural) at e) ∙ ap (λ (q : ℤ). w .slope *ℤ pos number +ℤ q) (mul-one (w .offset))
+      weight-is r e = rw (slope-back, offset-back, natural) at e
 
     module _ (x y : ℤ) (ex : x ≡ added k) (ey : y ≡ weightBy row w (guideIn p k)) where
       back : toZ w64 (ofZ w64 y) ≡ weightBy row w (guideIn p k)
@@ -112,7 +115,7 @@ module _ {b : List ℕ} {z : Plan} {s t : ℕ} {row : List ℕ} {w : Formula} (w
     pixels-weighed = record {
       few = v .below .few;
       small = wd .weighs .small;
-      inside = λ k h. omega (arith, wd .weighs .in-row .inside, row-in k h);
+      inside = λ k h. omega (arith, wd .weighs .inside, row-in k h);
       low =
           λ k h. subst (λ (q : ℤ). natAbs q ≤ 180155859075) (wd .weighs .is (guideIn p k) (row-in k h)) (weight-abs pixel (guideIn p k) (row-in k h));
     }
@@ -167,32 +170,24 @@ row-next {p} {k} {f} {v} {row} h r e = record {
       (eq-or-ne g k);
 }
 
--- it weighs the window of kind 1
-pub row-formula : {b : List ℕ} {z : Plan} {s t f : ℕ} {row : List ℕ} → Planned b z → z .kind ≡ 1 → s < z .width → t < z .height →
-    f ≡ guide (frameOf b) s t → TableRow (frameOf b) (z .guides) f row
-    → Weighed b z s t row (record { row = 0; slope = pos 1; offset = pos 0 })
-row-formula {b} {z} {s} {t} {f} {row} pl one hs ht ef r =
-    let q = facts pl in
-    let px = pixel-of pl hs ht in
-    let low : f < frameOf b .set .guides = rw ef (px .good .guide-low s t (px .in-column) (px .in-row)) in
-    let value : (g : ℕ) → g < frameOf b .set .guides → getD row (0 + g) 0 ≡ table (frameOf b) f g =
-    λ g l. ap (λ (n : ℕ). getD row n 0) (zero-add g) ∙ r .is g (rw (q .guides) l) in
+-- ---- kind 1: a row of weights with slope 1 and offset 0
+pub row-formula : {p : Frame} {s t : ℕ} {row : List ℕ} → RowWeighs p s t row → Weighs p s t row (record { slope = pos 1; offset = pos 0 })
+row-formula {row = row} r = record {
+  inside = r .in-row .inside;
+  small = record { slope = omega arith; offset = omega arith };
+  is = λ g l. r .is g l ∙ sym (+ℤ-idr (pos 1 *ℤ pos (getD row g 0)) ∙ one-mul (pos (getD row g 0)));
+}
+
+-- kind 2: the ramp with the window's coefficients
+pub ramp-weighs : {b : List ℕ} {z : Plan} {s t : ℕ} {row : List ℕ} {k : Coefficients} {a d : ℤ} → Planned b z → z .kind ≡ 2 → Ramp (z .guides) row →
+    WeighsAt (frameOf b) s t k → CoefficientsSmall k → a ≡ k .slope → d ≡ k .offset
+    → Weighs (frameOf b) s t row (record { slope = a; offset = d })
+ramp-weighs {b} {s = s} {t} {row} {a = a} {d} pl two ra w small ea ed =
+    let f = facts pl in
     record {
-      planned = pl;
-      column = hs;
-      row = ht;
-      weighs = record {
-        in-row =
-            record {
-              inside = omega (arith, r .long, q .limits .sound .guides-high);
-              start = omega arith;
-              low =
-                  λ g l. rw (value g l) (omega (arith, px .good .table-low f g low l));
-            };
-        small = record { slope = omega arith; offset = omega arith };
-        is =
-            λ g l. weight-table (frameOf b) s t g (sym (q .kind) ∙ one) ∙ ap (λ (n : ℕ). pos (table (frameOf b) n g)) (sym ef) ∙ ap pos
-            (sym (value g l))
-            ∙ sym (+ℤ-idr (pos 1 *ℤ pos (getD row (0 + g) 0)) ∙ one-mul (pos (getD row (0 + g) 0)));
-      };
+      inside = omega (arith, ra .long, f .guides);
+      small = record { slope = rw ea (small .slope); offset = rw ed (small .offset) };
+      is =
+          λ h l. weight-linear (frameOf b) s t h (sym (f .kind) ∙ two) ∙ ap₂ (λ (x y : ℤ). x *ℤ pos h +ℤ y) (sym (ea ∙ w .slope))
+          (sym (ed ∙ w .offset)) ∙ ap (λ (x : ℕ). a *ℤ pos x +ℤ d) (sym (ra .is h (rw (f .guides) l)));
     }

@@ -1,7 +1,7 @@
 -- What a pixel adds to the balance: its weight, taken off where its level is above the given one.
 -- Assumes nothing.
 use mathlib.Core.List.{List}
-use Prim.Native.Nat.{ℕ, _+_, _≤_, _<_}
+use Prim.Native.Nat.{ℕ, _≤_, _<_}
 use lib.ListN.{length}
 use lib.IntN.{ℤ, natAbs, _*ℤ_}
 use Rattle.spec.specs.declared.Plan.{Plan}
@@ -10,8 +10,8 @@ use Rattle.spec.specs.Checks.{Planned}
 use Rattle.spec.specs.Weight.{weight}
 use Rattle.pixels.specs.Pixels.{countOf, guideIn}
 use Rattle.joint.specs.Side.{side}
-use Rattle.joint_search.specs.declared.formula.Formula.{Formula}
-use Rattle.joint_search.specs.Formula.{FormulaInBounds, weightBy, Weighs}
+use Rattle.balance.specs.declared.formula.Formula.{Formula}
+use Rattle.balance.specs.Formula.{FormulaInBounds, weightBy, Weighs}
 
 unfoldable pub signedWeight : Frame → ℕ → ℕ → ℕ → ℕ → ℕ → ℤ
 signedWeight p s t c i g = side c i *ℤ weight p s t g
@@ -24,7 +24,7 @@ signedBy ns formula c i g = side c i *ℤ weightBy ns formula g
 pub record PixelsWeighed (p ns : List ℕ) (formula : Formula) : Type 0 where
   pub few : countOf p ≤ 31
   pub small : FormulaInBounds formula
-  pub inside : (k : ℕ) → k < countOf p → formula .row + guideIn p k < length ns
+  pub inside : (k : ℕ) → k < countOf p → guideIn p k < length ns
   pub low : (k : ℕ) → k < countOf p → natAbs (weightBy ns formula (guideIn p k)) ≤ 180155859075
 
 -- a window of an accepted file, and a row that weighs it

@@ -1,8 +1,8 @@
 // Document 01's balance of a window at any level, 2U(i) - T, from the file alone: no stores, one pass over the window's pixels in 64 bits.
-use joint_rows::rows;
+pub mod formula;
+
+use formula::Formula;
 use joint_rows::table;
-use joint_search::formula;
-use joint_search::formula::Formula;
 use pixels::sums;
 use spec::Guide;
 use spec::Level;
@@ -46,7 +46,6 @@ pub fn line_balance(p: &[u16], weights: &[u16], formula: Formula, top: Level) ->
     requires { ⌜ PixelsWeighed (now p) (now weights) formula ⌝ }
     ensures { λ r. ⌜ r ≡ pixelFold _+ℤ_ (pos 0) (now (p .entry)) (signedBy (now (weights .entry)) formula (top .0)) ⌝ }
 {
-    let row = formula.row;
     let n = p.len() / 2;
     let mut sum: i64 = 0;
     let mut k = 0;
@@ -55,10 +54,10 @@ pub fn line_balance(p: &[u16], weights: &[u16], formula: Formula, top: Level) ->
         let next = at + 1;
         let level = Level(p[at]);
         let g = Guide(p[next]);
-        let x = weights[row + (g.0 as usize)] as i64;
+        let x = weights[g.0 as usize] as i64;
         sum = add_signed(
             sum,
-            formula::combine(formula.slope, formula.offset, x, 1),
+            formula::weigh(formula.slope, formula.offset, x),
             level,
             top,
         );
@@ -118,7 +117,6 @@ pub fn table_balance(file: &[u8], plan: Plan, s: usize, t: usize, top: Level) ->
     let centre = pixel::guide_at(file, plan, t * plan.width + s);
     let row = table_row(file, plan, centre);
     let w = Formula {
-        row: 0,
         slope: 1,
         offset: 0,
     };
@@ -134,9 +132,8 @@ pub fn guided_balance(file: &[u8], plan: Plan, s: usize, t: usize, top: Level) -
     let coefficients = coefficients::of_window(file, plan, a, s, t);
     let m = plan.guides;
     let mut row = [0u16; 256];
-    rows::ramp(&mut row, m);
+    formula::ramp(&mut row, m);
     let w = Formula {
-        row: 0,
         slope: coefficients.slope,
         offset: coefficients.offset,
     };

@@ -1,28 +1,24 @@
--- Laws of the rows of weights: the table's row of the centre's guide, built-in or the file's own, and the ramp with the window's coefficients.
+-- Laws of the rows of weights: the table's row of the centre's guide, built-in or the file's own.
 -- Assumes nothing.
 use mathlib.Core.Path.{_≡_, refl, sym, ap, ap₂, _∙_}
 use mathlib.Core.Logic.{⊎-elim}
 use mathlib.Core.List.{List}
 use Prim.Native.Nat.{ℕ, _+_, _-_, _*_, _/_, _%_, _≤_, _<_}
-use native.Mathlib.Nat.{zero-add}
 use native.Mathlib.Omega.{arith}
 use lib.Arith.{digits-div, digits-mod}
-use lib.ListN.{length, getD, set, length-set}
-use lib.Seq.{getD-set-same, getD-set-other}
-use lib.IntN.{ℤ, pos, _+ℤ_, _*ℤ_, +ℤ-idr}
-use Rattle.ints.specs.Ring.{one-mul}
+use lib.ListN.{length, getD, set, take, drop, length-set, length-drop}
+use lib.Seq.{getD-set-same, getD-set-other, getD-take, getD-drop, length-take-le}
+use lib.IntN.{pos}
 use Rattle.spec.specs.declared.Plan.{Plan}
 use Rattle.spec.specs.Base.{distance}
 use Rattle.spec.specs.Bytes.{be16}
 use Rattle.spec.specs.Frame.{guide, table, plane, pixelGuide, builtIn, frameOf}
 use Rattle.spec.specs.Checks.{Planned}
 use Rattle.spec.proofs.Plans.{facts, pixel-of, place-low, table-own, table-built}
-use Rattle.spec.proofs.Levels.{weight-table, weight-linear}
-use Rattle.window.specs.declared.coefficients.Coefficients.{Coefficients}
-use Rattle.window.specs.Coefficients.{WeighsAt, CoefficientsSmall}
+use Rattle.spec.proofs.Levels.{weight-table}
 use Rattle.joint.proofs.BitLaws.{eq-or-ne}
-use Rattle.joint_search.specs.Formula.{Weighs}
-use Rattle.joint_rows.specs.Rows.{Lower, Mirror, Ramp, TableRow, exchanged}
+use Rattle.joint_search.specs.Window.{RowWeighs}
+use Rattle.joint_rows.specs.Rows.{Lower, Mirror, TableRow, exchanged}
 use Rattle.joint_rows.proofs.TableLaws.{guides-within, weight-place}
 
 -- the mirrored constants, moved so that the centre's is at its guide
@@ -47,56 +43,33 @@ module _ {b : List ℕ} {z : Plan} (pl : Planned b z) {s t : ℕ} (hs : s < z .w
     pub centre-small : f ≤ 255
     centre-small = let k = pixel-of pl hs ht in omega (arith, in-frame, k .good .sound .guides-high)
 
-    -- kind 1: a row of the table that begins at a place
-    pub table-weighs : {row : List ℕ} (at : ℕ) → z .kind ≡ 1 → at + frameOf b .set .guides ≤ length row → at ≤ 65536 →
-        ((h : ℕ) → h < frameOf b .set .guides → getD row (at + h) 0 ≡ table (frameOf b) f h)
-        → Weighs (frameOf b) s t row (record { row = at; slope = pos 1; offset = pos 0 })
-    table-weighs {row} at one inside start value = record {
-      in-row =
-          record { inside = inside; start = start; low = λ h l. rw (value h l) (omega (arith, pixel-of pl hs ht .good .table-low f h in-frame l)) };
-      small = record { slope = omega arith; offset = omega arith };
+    -- kind 1: a row of the table
+    table-weighs : {row : List ℕ} → z .kind ≡ 1 → frameOf b .set .guides ≤ length row →
+        ((h : ℕ) → h < frameOf b .set .guides → getD row h 0 ≡ table (frameOf b) f h) → RowWeighs (frameOf b) s t row
+    table-weighs one inside value = record {
+      in-row = record { inside = inside; low = λ h l. rw (value h l) (omega (arith, pixel-of pl hs ht .good .table-low f h in-frame l)) };
       is =
           λ h l. weight-table (frameOf b) s t h (sym (facts pl .kind) ∙ one) ∙ ap (λ (q : ℕ). pos (table (frameOf b) q h)) (sym centre-is) ∙ ap pos
-          (sym (value h l))
-          ∙ sym (+ℤ-idr (pos 1 *ℤ pos (getD row (at + h) 0)) ∙ one-mul (pos (getD row (at + h) 0)));
+          (sym (value h l));
     }
 
-    -- the built-in weights
-    pub mirror-weighs : {row : List ℕ} → z .kind ≡ 1 → z .weights ≡ 0 → Mirror row →
-        Weighs (frameOf b) s t row (record { row = 255 - f; slope = pos 1; offset = pos 0 })
-    mirror-weighs {row} one none mi =
-        let few : frameOf b .set .guides ≤ 256 = pixel-of pl hs ht .good .sound .guides-high in
-        table-weighs (255 - f) one (omega (arith, mi .long, few)) (omega arith)
-        (λ h l. mi .is (255 - f + h) (omega (arith, few)) ∙ mirror-built f h centre-small ∙ sym (table-built pl none f h))
+    few : frameOf b .set .guides ≤ 256
+    few = pixel-of pl hs ht .good .sound .guides-high
 
-    -- the file's own
-    pub own-weighs : {row : List ℕ} → z .kind ≡ 1 → TableRow (frameOf b) (z .guides) f row →
-        Weighs (frameOf b) s t row (record { row = 0; slope = pos 1; offset = pos 0 })
-    own-weighs {row} one r =
-        table-weighs 0 one (omega (arith, r .long, pixel-of pl hs ht .good .sound .guides-high)) (omega arith)
-        (λ h l. ap (λ (n : ℕ). getD row n 0) (zero-add h) ∙ r .is h (rw (facts pl .guides) l))
+    -- the built-in weights, as they are lent: the 256 constants from the centre's place on
+    pub mirror-weighs : {row : List ℕ} {from end : ℕ} → z .kind ≡ 1 → z .weights ≡ 0 → Mirror row → from ≡ 255 - f → end ≡ from + 256 →
+        RowWeighs (frameOf b) s t (take (end - from) (drop from row))
+    mirror-weighs {row} {from} {end} one none mi ef ee =
+        let n : end - from ≡ 256 = omega arith in
+        let inside : length (take (end - from) (drop from row)) ≡ end - from =
+        length-take-le (end - from) (drop from row) (rw length-drop (omega (arith, mi .long, centre-small))) in
+        table-weighs one (omega (arith, inside, few))
+        (λ h l. getD-take (end - from) (drop from row) h 0 (omega (arith, few)) ∙ getD-drop from row h 0 ∙ mi .is (from + h)
+        (omega (arith, few, centre-small)) ∙ ap (λ (q : ℕ). builtIn 255 (q + h)) ef ∙ mirror-built f h centre-small ∙ sym (table-built pl none f h))
 
-  -- kind 2
-  pub ramp-weighs : {row : List ℕ} {k : Coefficients} {a d : ℤ} → z .kind ≡ 2 → Ramp (z .guides) row → WeighsAt (frameOf b) s t k →
-      CoefficientsSmall k → a ≡ k .slope → d ≡ k .offset
-      → Weighs (frameOf b) s t row (record { row = 0; slope = a; offset = d })
-  ramp-weighs {row} {k} {a} {d} two ra w small ea ed =
-      let f = facts pl in
-      let value : (h : ℕ) → h < frameOf b .set .guides → getD row (0 + h) 0 ≡ h =
-      λ h l. ap (λ (x : ℕ). getD row x 0) (zero-add h) ∙ ra .is h (rw (f .guides) l) in
-      record {
-        in-row =
-            record {
-              inside = omega (arith, ra .long, f .guides);
-              start = omega arith;
-              low =
-                  λ h l. omega (arith, value h l, f .limits .sound .guides-high);
-            };
-        small = record { slope = rw ea (small .slope); offset = rw ed (small .offset) };
-        is =
-            λ h l. weight-linear (frameOf b) s t h (sym (f .kind) ∙ two) ∙ ap₂ (λ (x y : ℤ). x *ℤ pos h +ℤ y) (sym (ea ∙ w .slope))
-            (sym (ed ∙ w .offset)) ∙ ap (λ (x : ℕ). a *ℤ pos x +ℤ d) (sym (value h l));
-      }
+    -- a row of 256 numbers that are the table's: the file's own, or made weight by weight
+    pub row-weighs : {row : List ℕ} → z .kind ≡ 1 → TableRow (frameOf b) (z .guides) f row → RowWeighs (frameOf b) s t row
+    row-weighs one r = table-weighs one (omega (arith, r .long, few)) (λ h l. r .is h (rw (facts pl .guides) l))
 
 -- ---- lists that are made number by number: after k turns the first k are there
 pub record Made (F : ℕ → ℕ) (k : ℕ) (xs ys : List ℕ) : Type 0 where

@@ -7,11 +7,6 @@ use lib.ListN.{length, getD}
 use Rattle.spec.specs.declared.Plan.{Plan}
 use Rattle.spec.specs.Frame.{Frame, table, plane, builtIn}
 
--- the numbers 0 1 2 ..
-pub record Ramp (m : ℕ) (row : List ℕ) : Type 0 where
-  pub long : m ≤ length row
-  pub is : (f : ℕ) → f < m → getD row f 0 ≡ f
-
 -- the built-in weights from 255 guides below the centre's to 255 above
 pub record Mirror (row : List ℕ) : Type 0 where
   pub long : 511 ≤ length row

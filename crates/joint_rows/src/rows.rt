@@ -1,29 +1,12 @@
-// The weights of a window's pixels as a row of numbers, and the window's formula over it.
-use joint_search::formula::Formula;
+// The weights of a window's pixels as a row of numbers, one for each guide.
 use spec::Guide;
 use spec::Plan;
-use window::pixel;
 ghost use mathlib.Core.Path.{_≡_};
-ghost use mathlib.Core.List.{List};
-ghost use Prim.Native.Nat.{ℕ, _+_, _*_, _<_, _≤_};
+ghost use Prim.Native.Nat.{_+_, _*_, _<_, _≤_};
 ghost use lib.ListN.{length};
-ghost use lib.IntN.{pos};
 ghost use Rattle.spec.specs.Frame.{frameOf};
 ghost use Rattle.spec.specs.Checks.{Planned};
-ghost use Rattle.joint_search.specs.Formula.{Weighs};
-ghost use Rattle.joint_rows.specs.Rows.{Lower, Mirror, Ramp, TableRow, WeightRows, exchanged};
-
-// The numbers 0 1 2 .., m of them.
-pub fn ramp(row: &mut [u16], m: usize)
-    requires { ⌜ (m ≤ length (now row)) × (m ≤ 256) ⌝ }
-    ensures { λ _. ⌜ Ramp m (now (row .exit)) ⌝ }
-{
-    let mut k = 0;
-    while k < m {
-        row[k] = k as u16;
-        k += 1;
-    }
-}
+ghost use Rattle.joint_rows.specs.Rows.{Lower, Mirror, TableRow, WeightRows, exchanged};
 
 // The built-in weights from 255 guides below the centre's to 255 above: guide f's row begins at place 255 - f.
 pub fn mirror(out: &mut [u16])
@@ -83,18 +66,4 @@ pub fn own_row(file: &[u8], plan: Plan, f: Guide) -> [u16; 256]
         k += 1;
     }
     row
-}
-
-// Kind 1, built-in weights: the row of the centre's guide, as a part of the mirrored constants.
-pub fn built_formula(file: &[u8], plan: Plan, s: usize, t: usize) -> Formula
-    requires { ⌜ (Planned (now file) plan) × (plan .kind ≡ 1) × (plan .weights ≡ 0) × (s < plan .width) × (t < plan .height) ⌝ }
-    ensures { λ r. ⌜ ((row : List ℕ) → Mirror row → Weighs (frameOf (now (file .entry))) s t row r)
-        × (r .slope ≡ pos 1) × (r .offset ≡ pos 0) ⌝ }
-{
-    let centre = pixel::guide_at(file, plan, t * plan.width + s);
-    Formula {
-        row: 255 - (centre.0 as usize),
-        slope: 1,
-        offset: 0,
-    }
 }

@@ -30,12 +30,10 @@ use Rattle.spec.proofs.Bounds.{pixelCount-high}
 use Rattle.joint.specs.Store.{countIn, Rep}
 use Rattle.joint.proofs.ListLaws.{begun-long, rep-own, lists-rep, counts-long, bits-long}
 use Rattle.joint.proofs.WindowLaws as joint
-use Rattle.joint_search.specs.Scan.{Marked, cellSum}
-use Rattle.joint_search.specs.declared.formula.Formula.{Formula}
-use Rattle.joint_search.specs.Formula.{Weighs}
+use Rattle.joint_cells.specs.Scan.{Marked, RowFits, cellSum}
 use Rattle.joint_search.specs.Levels.{cumulativeOf, totalOf, balanceOf, weightlessOf, medianOf}
-use Rattle.joint_search.specs.Search.{levelWeightIn, balanceIn, weightlessIn, medianIn, boxIn, pixelsIn, Searchable, FormulaFits}
-use Rattle.joint_search.specs.Window.{Counted}
+use Rattle.joint_search.specs.Search.{levelWeightIn, balanceIn, weightlessIn, medianIn, boxIn, pixelsIn, Searchable}
+use Rattle.joint_search.specs.Window.{Counted, RowWeighs, sizesOf}
 use Rattle.joint_search.proofs.LevelsLaws as levels
 use Rattle.joint_search.proofs.SearchLaws.{level-guides, box-is}
 
@@ -135,7 +133,7 @@ module _ {b : List ℕ} {plan : Plan} {s t : ℕ} {cs ws : List ℕ} (st : Count
     few = level-few i h;
   }
 
-  pub searchable : Searchable plan cs ws
+  pub searchable : Searchable (sizesOf plan) cs ws
   unfolding pixelsIn
   searchable = record {
     guides = rw guides-eq (spot .good .sound .guides-high);
@@ -145,29 +143,29 @@ module _ {b : List ℕ} {plan : Plan} {s t : ℕ} {cs ws : List ℕ} (st : Count
   }
 
   -- the box
-  pub box-of : (c : ℕ) → c < plan .levels → balanceBox (frameOf b) s t c ≡ boxIn plan cs c
+  pub box-of : (c : ℕ) → c < plan .levels → balanceBox (frameOf b) s t c ≡ boxIn (sizesOf plan) cs c
   box-of c h =
       let h′ : c < frameOf b .set .levels = rw levels-eq at h in
-      box-is plan cs c (balanceBox (frameOf b) s t c) (joint.box-long (frameOf b) s t c)
+      box-is (sizesOf plan) cs c (balanceBox (frameOf b) s t c) (joint.box-long (frameOf b) s t c)
       (λ f l. box-cell (frameOf b) s t c f l ∙ cell-is spot c f h′
       ∙ levels.balance-same (λ i u. ap pos (rep-own _ _ _ cs ws rep i f u)) c h′
       ∙ sym (ap₂ (λ (m n : ℕ). balanceOf (λ i. pos (countIn m cs i f)) n c) guides-eq levels-eq))
 
   -- ---- with a row that weighs the window
-  module _ {row : List ℕ} {w : Formula} (weighs : Weighs (frameOf b) s t row w) where
-    pub formula-fits : FormulaFits (plan .guides) row w
-    formula-fits = record { in-row = rw guides-eq (weighs .in-row); small = weighs .small }
+  module _ {row : List ℕ} (weighs : RowWeighs (frameOf b) s t row) where
+    pub row-fits : RowFits (plan .guides) row
+    row-fits = rw guides-eq (weighs .in-row)
 
-    level-is : (i : ℕ) → i < plan .levels → levelWeightIn (plan .guides) cs row w i ≡ levelWeight (frameOf b) s t i
+    level-is : (i : ℕ) → i < plan .levels → levelWeightIn (plan .guides) cs row i ≡ levelWeight (frameOf b) s t i
     level-is i h =
         let M = frameOf b .set .guides in
         let h′ : i < frameOf b .set .levels = rw levels-eq at h in
-        ap (λ (m : ℕ). levelWeightIn m cs row w i) guides-eq ∙ level-guides M i cs row w
+        ap (λ (m : ℕ). levelWeightIn m cs row i) guides-eq ∙ level-guides M i cs row
         ∙ fold-same _+ℤ_ (pos 0) intSums _ _ 0 M (λ f u v. let l : f < M = subst (λ (q : ℕ). f < q) (zero-add M) v in
         ap₂ (λ (n : ℕ) (x : ℤ). pos n *ℤ x) (rep .cells i f h′ l) (sym (weighs .is f l)))
         ∙ sym (level-joint spot i)
 
-    cumulative-is : (c : ℕ) → c < plan .levels → cumulativeOf (levelWeightIn (plan .guides) cs row w) c ≡ cumulative (frameOf b) s t c
+    cumulative-is : (c : ℕ) → c < plan .levels → cumulativeOf (levelWeightIn (plan .guides) cs row) c ≡ cumulative (frameOf b) s t c
     cumulative-is zero h = levels.cumulative-zero _ ∙ level-is 0 h ∙ sym (cumulative-zero (frameOf b) s t)
     cumulative-is (suc c) h =
         levels.cumulative-next _ c ∙ ap₂ (λ (x y : ℤ). x +ℤ y) (cumulative-is c (omega arith)) (level-is (suc c) h) ∙ sym
@@ -176,25 +174,25 @@ module _ {b : List ℕ} {plan : Plan} {s t : ℕ} {cs ws : List ℕ} (st : Count
     some : 0 < plan .levels
     some = omega (arith, levels-eq, spot .good .sound .levels-low)
 
-    pub total-is : totalOf (levelWeightIn (plan .guides) cs row w) (plan .levels) ≡ totalWeight (frameOf b) s t
+    pub total-is : totalOf (levelWeightIn (plan .guides) cs row) (plan .levels) ≡ totalWeight (frameOf b) s t
     total-is =
         sym (levels.cumulative-last _ (plan .levels) some) ∙ cumulative-is (plan .levels - 1) (omega (arith, some)) ∙ ap
         (λ (l : ℕ). cumulative (frameOf b) s t (l - 1)) levels-eq ∙ cumulative-last spot
 
-    pub balance-is : (c : ℕ) → c < plan .levels → balanceIn plan cs row w c ≡ balance (frameOf b) s t c
+    pub balance-is : (c : ℕ) → c < plan .levels → balanceIn (sizesOf plan) cs row c ≡ balance (frameOf b) s t c
     unfolding balanceOf balance
     balance-is c h = ap₂ (λ (u v : ℤ). pos 2 *ℤ u -ℤ v) (cumulative-is c h) total-is
 
-    pub weightless-is : weightlessIn plan cs row w ≡ weightless (frameOf b) s t
+    pub weightless-is : weightlessIn (sizesOf plan) cs row ≡ weightless (frameOf b) s t
     unfolding weightlessOf weightless
     weightless-is = ap isZero total-is
 
-    pub median-is : medianIn plan cs row w ≡ median (frameOf b) s t
+    pub median-is : medianIn (sizesOf plan) cs row ≡ median (frameOf b) s t
     unfolding medianOf
     median-is =
         let f = median-first (frameOf b) s t in
         let same : (i : ℕ) → i < plan .levels →
-        leZ (totalOf (levelWeightIn (plan .guides) cs row w) (plan .levels)) (pos 2 *ℤ cumulativeOf (levelWeightIn (plan .guides) cs row w) i) ≡
+        leZ (totalOf (levelWeightIn (plan .guides) cs row) (plan .levels)) (pos 2 *ℤ cumulativeOf (levelWeightIn (plan .guides) cs row) i) ≡
         leZ (totalWeight (frameOf b) s t) (pos 2 *ℤ cumulative (frameOf b) s t i) =
         λ i h. ap₂ (λ (u v : ℤ). leZ u (pos 2 *ℤ v)) total-is (cumulative-is i h) in
         first-unique _ (plan .levels) (median (frameOf b) s t)

@@ -1,6 +1,4 @@
-pub mod Scan
-pub mod Box
-pub mod Formula
 pub mod Levels
 pub mod Search
+pub mod Arrive
 pub mod Window

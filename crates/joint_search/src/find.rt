@@ -1,15 +1,15 @@
 // Levels looked through one by one, a shift counted for each; and the box's cut point moved after them. The looking only reads, so that no box is
 // moved to a level where the search does not rest.
-use crate::formula;
-use crate::formula::Formula;
-use crate::shift;
+use crate::Sizes;
+use joint_cells::level::level_weight;
+use joint_cells::shift::shift_level;
 use spec::Level;
-use spec::Plan;
 ghost use mathlib.Core.Path.{_≡_};
 ghost use Prim.Native.Nat.{_<_, _≤_};
-ghost use lib.IntN.{pos};
+ghost use lib.IntN.{pos, natAbs, _+ℤ_, _*ℤ_};
 ghost use lib.Signed.{_≤ℤ_};
-ghost use Rattle.joint_search.specs.Search.{balanceIn, totalIn, boxIn, Searchable, FormulaFits, Climbed, Descended};
+ghost use Rattle.joint_cells.specs.Scan.{RowFits};
+ghost use Rattle.joint_search.specs.Search.{balanceIn, boxIn, Searchable, Climbed, Descended};
 
 // The level at which a search ends, and the shifts counted up to it.
 pub struct SearchEnd {
@@ -17,22 +17,27 @@ pub struct SearchEnd {
     pub shifts: u64,
 }
 
+// A balance with a level's weight more or less on both sides: by is 2 or -2.
+pub fn step_balance(x: i32, by: i32, y: i32) -> i32
+    requires { ⌜ (natAbs x ≤ 62979135) × (natAbs by ≤ 2) × (natAbs y ≤ 62979135) ⌝ }
+    ensures { λ r. ⌜ r ≡ x +ℤ by *ℤ y ⌝ }
+{
+    x + by * y
+}
+
 // The first level from the given one on whose balance is not negative; bal is the balance at the given one.
 pub fn climb(
-    plan: Plan,
-    weights: &[u16],
-    formula: Formula,
+    sizes: Sizes,
+    row: &[u16],
     from: Level,
-    bal: i64,
+    bal: i32,
     shifts: u64,
     counts: &[u16],
     words: &[u64],
 ) -> SearchEnd
-    requires { ⌜ (Searchable plan (now counts) (now words)) × (FormulaFits (plan .guides) (now weights) formula) ⌝ }
-    requires { ⌜ (from .0 < plan .levels) × (bal ≡ balanceIn plan (now counts) (now weights) formula (from .0)) × (shifts < 1099511627776)
-        × (pos 0 ≤ℤ totalIn plan (now counts) (now weights) formula) ⌝ }
-    ensures { λ r. ⌜ Climbed (balanceIn plan (now (counts .entry)) (now (weights .entry)) formula) (plan .levels) (from .0) (r .level .0) shifts
-        (r .shifts) ⌝ }
+    requires { ⌜ (Searchable sizes (now counts) (now words)) × (RowFits (sizes .guides) (now row)) ⌝ }
+    requires { ⌜ (from .0 < sizes .levels) × (bal ≡ balanceIn sizes (now counts) (now row) (from .0)) × (shifts < 1099511627776) ⌝ }
+    ensures { λ r. ⌜ Climbed (balanceIn sizes (now (counts .entry)) (now (row .entry))) (sizes .levels) (from .0) (r .level .0) shifts (r .shifts) ⌝ }
 {
     let mut i = from.0;
     let mut b = bal;
@@ -40,10 +45,10 @@ pub fn climb(
     while b < 0 {
         i += 1;
         n += 1;
-        b = formula::step_balance(
+        b = step_balance(
             b,
             2,
-            formula::level_weight(weights, formula, Level(i), plan.guides, counts, words),
+            level_weight(row, Level(i), sizes.guides, counts, words),
         );
     }
     SearchEnd {
@@ -54,28 +59,27 @@ pub fn climb(
 
 // Down from the given level while the balance below is not negative.
 pub fn descend(
-    plan: Plan,
-    weights: &[u16],
-    formula: Formula,
+    sizes: Sizes,
+    row: &[u16],
     from: Level,
-    bal: i64,
+    bal: i32,
     shifts: u64,
     counts: &[u16],
     words: &[u64],
 ) -> SearchEnd
-    requires { ⌜ (Searchable plan (now counts) (now words)) × (FormulaFits (plan .guides) (now weights) formula) ⌝ }
-    requires { ⌜ (from .0 < plan .levels) × (bal ≡ balanceIn plan (now counts) (now weights) formula (from .0)) × (shifts < 1099511627776)
+    requires { ⌜ (Searchable sizes (now counts) (now words)) × (RowFits (sizes .guides) (now row)) ⌝ }
+    requires { ⌜ (from .0 < sizes .levels) × (bal ≡ balanceIn sizes (now counts) (now row) (from .0)) × (shifts < 1099511627776)
         × (pos 0 ≤ℤ bal) ⌝ }
-    ensures { λ r. ⌜ Descended (balanceIn plan (now (counts .entry)) (now (weights .entry)) formula) (from .0) (r .level .0) shifts (r .shifts) ⌝ }
+    ensures { λ r. ⌜ Descended (balanceIn sizes (now (counts .entry)) (now (row .entry))) (from .0) (r .level .0) shifts (r .shifts) ⌝ }
 {
     let mut i = from.0;
     let mut b = bal;
     let mut counted = shifts;
     while 0 < i {
-        let lower = formula::step_balance(
+        let lower = step_balance(
             b,
             -2,
-            formula::level_weight(weights, formula, Level(i), plan.guides, counts, words),
+            level_weight(row, Level(i), sizes.guides, counts, words),
         );
         if lower < 0 {
             return SearchEnd {
@@ -95,62 +99,62 @@ pub fn descend(
 
 // The box's cut point raised, level by level.
 pub fn raise_to(
-    plan: Plan,
+    sizes: Sizes,
     from: Level,
     to: Level,
     balance_box: &mut [i16; 256],
     counts: &[u16],
     words: &[u64],
 )
-    requires { ⌜ Searchable plan (now counts) (now words) ⌝ }
-    requires { ⌜ (from .0 ≤ to .0) × (to .0 < plan .levels) × (now «balance_box» ≡ boxIn plan (now counts) (from .0)) ⌝ }
-    ensures { λ _. ⌜ now («balance_box» .exit) ≡ boxIn plan (now (counts .entry)) (to .0) ⌝ }
+    requires { ⌜ Searchable sizes (now counts) (now words) ⌝ }
+    requires { ⌜ (from .0 ≤ to .0) × (to .0 < sizes .levels) × (now «balance_box» ≡ boxIn sizes (now counts) (from .0)) ⌝ }
+    ensures { λ _. ⌜ now («balance_box» .exit) ≡ boxIn sizes (now (counts .entry)) (to .0) ⌝ }
 {
     let last = to.0;
     let mut i = from.0;
     while i < last {
         i += 1;
-        shift::shift_level(Level(i), plan.guides, 2, balance_box, counts, words);
+        shift_level(Level(i), sizes.guides, 2, balance_box, counts, words);
     }
 }
 
 // The box's cut point lowered, level by level.
 pub fn lower_to(
-    plan: Plan,
+    sizes: Sizes,
     from: Level,
     to: Level,
     balance_box: &mut [i16; 256],
     counts: &[u16],
     words: &[u64],
 )
-    requires { ⌜ Searchable plan (now counts) (now words) ⌝ }
-    requires { ⌜ (to .0 ≤ from .0) × (from .0 < plan .levels) × (now «balance_box» ≡ boxIn plan (now counts) (from .0)) ⌝ }
-    ensures { λ _. ⌜ now («balance_box» .exit) ≡ boxIn plan (now (counts .entry)) (to .0) ⌝ }
+    requires { ⌜ Searchable sizes (now counts) (now words) ⌝ }
+    requires { ⌜ (to .0 ≤ from .0) × (from .0 < sizes .levels) × (now «balance_box» ≡ boxIn sizes (now counts) (from .0)) ⌝ }
+    ensures { λ _. ⌜ now («balance_box» .exit) ≡ boxIn sizes (now (counts .entry)) (to .0) ⌝ }
 {
     let last = to.0;
     let mut i = from.0;
     while last < i {
-        shift::shift_level(Level(i), plan.guides, -2, balance_box, counts, words);
+        shift_level(Level(i), sizes.guides, -2, balance_box, counts, words);
         i -= 1;
     }
 }
 
 // The box's cut point moved, whichever way the answer lies.
 pub fn move_to(
-    plan: Plan,
+    sizes: Sizes,
     from: Level,
     to: Level,
     balance_box: &mut [i16; 256],
     counts: &[u16],
     words: &[u64],
 )
-    requires { ⌜ Searchable plan (now counts) (now words) ⌝ }
-    requires { ⌜ (from .0 < plan .levels) × (to .0 < plan .levels) × (now «balance_box» ≡ boxIn plan (now counts) (from .0)) ⌝ }
-    ensures { λ _. ⌜ now («balance_box» .exit) ≡ boxIn plan (now (counts .entry)) (to .0) ⌝ }
+    requires { ⌜ Searchable sizes (now counts) (now words) ⌝ }
+    requires { ⌜ (from .0 < sizes .levels) × (to .0 < sizes .levels) × (now «balance_box» ≡ boxIn sizes (now counts) (from .0)) ⌝ }
+    ensures { λ _. ⌜ now («balance_box» .exit) ≡ boxIn sizes (now (counts .entry)) (to .0) ⌝ }
 {
     if from.0 <= to.0 {
-        raise_to(plan, from, to, balance_box, counts, words);
+        raise_to(sizes, from, to, balance_box, counts, words);
         return;
     }
-    lower_to(plan, from, to, balance_box, counts, words);
+    lower_to(sizes, from, to, balance_box, counts, words);
 }

@@ -26,7 +26,7 @@ use Rattle.histogram.proofs.Laws.{count-at, sum-at}
 use Rattle.joint.specs.Window.{JointAt}
 use Rattle.joint.proofs.WindowLaws.{settled}
 use Rattle.joint_search.specs.Search.{boxIn}
-use Rattle.joint_search.specs.Window.{Counted}
+use Rattle.joint_search.specs.Window.{Counted, sizesOf}
 use Rattle.joint_search.proofs.WindowLaws.{box-of}
 use Rattle.visit.specs.declared.Visit.{Visit}
 use Rattle.visit.specs.Visit.{stateOf}
@@ -41,9 +41,9 @@ part-cell : (xs : List ℕ) (i n k : ℕ) → k < n → getD (take n (drop i xs)
 part-cell xs i n k h = getD-take n (drop i xs) k 0 h ∙ getD-drop i xs k 0
 
 -- the box moved to a level is the window's there
-pub box-moved : {b : List ℕ} {plan : Plan} {s t : ℕ} {cs ws : List ℕ} → Counted b plan s t cs ws → (to k : ℕ) {bx : List ℤ} → bx ≡ boxIn plan cs to →
+pub box-moved : {b : List ℕ} {plan : Plan} {s t : ℕ} {cs ws : List ℕ} → Counted b plan s t cs ws → (to k : ℕ) {bx : List ℤ} → bx ≡ boxIn (sizesOf plan) cs to →
     to ≡ k → k < plan .levels → bx ≡ balanceBox (frameOf b) s t k
-box-moved {plan = plan} {cs = cs} st to k e d h = e ∙ ap (boxIn plan cs) d ∙ sym (box-of st k h)
+box-moved {plan = plan} {cs = cs} st to k e d h = e ∙ ap (boxIn (sizesOf plan) cs) d ∙ sym (box-of st k h)
 
 -- a histogram's two lists, as they are lent
 pub first-part : (l : ℕ) (ns : List ℕ) → take (l - 0) (drop 0 ns) ≡ countsIn l ns

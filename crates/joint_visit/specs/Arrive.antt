@@ -5,9 +5,8 @@ use mathlib.Core.List.{List}
 use Prim.Native.Nat.{ℕ, _+_}
 use lib.IntN.{ℤ}
 use lib.ListN.{take, drop}
-use Rattle.spec.specs.declared.Plan.{Plan}
-use Rattle.spec.specs.Base.{if_then_else_, distance}
 use Rattle.spec.specs.Frame.{Frame}
+use Rattle.spec.specs.Median.{weightless}
 use Rattle.spec.specs.Joint.{balanceBox}
 use Rattle.spec.specs.Walk.{State, arrive}
 use Rattle.window.specs.declared.sums.Sums.{Sums}
@@ -16,22 +15,9 @@ use Rattle.joint.specs.Window.{JointAt}
 use Rattle.histogram.specs.Histogram.{Histogram}
 use Rattle.level_search.specs.declared.Tally.{Tally}
 use Rattle.levels.specs.Tally.{BelowAt}
-use Rattle.joint_search.specs.declared.formula.Formula.{Formula}
-use Rattle.joint_search.specs.Search.{medianIn, weightlessIn}
+use Rattle.joint_search.specs.declared.arrive.Arrival.{Arrival}
 use Rattle.visit.specs.declared.Visit.{Visit}
 use Rattle.visit.specs.Visit.{stateOf}
-use Rattle.joint_visit.specs.declared.arrive.TableArrival.{TableArrival}
-
--- ---- kind 1, by the counts of the window
-
-abbrev pub arrivalAt : ℕ → ℕ → ℕ → TableArrival
-arrivalAt a c n = record { answer = record { 0 = a }; cut = record { 0 = c }; shifts = n }
-
--- what is answered, and the cut point and the shifts after it; own is the centre's own level, c and n are the cut point and the shifts before it
-unfoldable pub arrivalIn : Plan → List ℕ → List ℕ → Formula → ℕ → ℕ → ℕ → TableArrival
-arrivalIn plan cs row formula own c n =
-    let m = medianIn plan cs row formula in
-    if weightlessIn plan cs row formula then arrivalAt own c n else arrivalAt m m (n + distance m c)
 
 -- ---- kind 2: a histogram's two lists, the counts of its l levels and behind them the guide sums
 abbrev pub countsIn : ℕ → List ℕ → List ℕ
@@ -51,13 +37,14 @@ pub record Guided (p : Frame) (s t c : ℕ) (a : Sums) (w : Tally) (ns : List �
 pub record Carried (p : Frame) (s t c : ℕ) (a : Sums) (w : Tally) (ns : List ℕ) : Type 0 where
   pub guided : p .set .kind ≡ 2 → Guided p s t c a w ns
 
-pub record Arrives (p : Frame) (s t c n : ℕ) (r : TableArrival) (bx : List ℤ) : Type 0 where
-  pub answer : r .answer .0 ≡ arrive p s t c n .answer
+-- kind 1: whether it is hollow, and the cut point, the shifts and the box after it
+pub record Arrives (p : Frame) (s t c n : ℕ) (r : Arrival) (bx : List ℤ) : Type 0 where
+  pub hollow : r .hollow ≡ weightless p s t
   pub cut : r .cut .0 ≡ arrive p s t c n .cut
   pub shifts : r .shifts ≡ arrive p s t c n .shifts
   pub box : bx ≡ balanceBox p s t (r .cut .0)
 
--- the same of a visit; and in kind 2, with what runs along
+-- a visit in its state, and the box; and in kind 2, with what runs along
 pub record AnswersAt (p : Frame) (s t c n : ℕ) (v : Visit) (bx : List ℤ) : Type 0 where
   pub state : stateOf v ≡ arrive p s t c n
   pub box : bx ≡ balanceBox p s t (v .cut .0)

@@ -1,6 +1,7 @@
 // Kind 2: a window's part in a walk. Its weights can be negative, so that most windows are searched from level 0: the search goes by the window's
 // histogram of levels, two numbers a level, and the box is moved to the answer once that is known.
 use chain_nodes::FreeList;
+use joint_search::Sizes;
 use joint_search::find;
 use level_search::Tally;
 use level_search::search;
@@ -75,7 +76,11 @@ pub fn arrive(
     );
     let level = r.level;
     let tally = r.tally;
-    find::move_to(plan, cut, level, balance_box, counts, words);
+    let sizes = Sizes {
+        levels: l,
+        guides: plan.guides,
+    };
+    find::move_to(sizes, cut, level, balance_box, counts, words);
     let free = FreeList { head: 0, count: 0 };
     let running = Running {
         sums: a,

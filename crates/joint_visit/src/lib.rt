@@ -1,83 +1,23 @@
 // Way 1, joint, at a window of a walk: its stores made or moved, its answer, the cut point and the box moved to it, and the shifts counted on the
 // way. The walk lends file, rows, box, stores and histogram, and hands the visit on.
-pub mod answer;
-pub mod arrive;
 pub mod guided;
+pub mod table;
 
-use chain_nodes::FreeList;
 use joint::list;
 use joint::start as store_start;
-use level_search::Tally;
 use pixels::sums;
-use spec::Answer;
 use spec::Level;
 use spec::Plan;
-use visit::Running;
 use visit::Visit;
 use window::line;
-use window::sums::Sums;
-ghost use mathlib.Core.Path.{_≡_};
-ghost use Prim.Native.Nat.{_<_, _≤_};
 ghost use Rattle.spec.specs.Frame.{frameOf};
-ghost use Rattle.spec.specs.Joint.{balanceBox};
 ghost use Rattle.spec.specs.Walk.{arrive};
 ghost use Rattle.window.specs.Line.{Adjacent};
 ghost use Rattle.joint.specs.Window.{Fresh, Held};
 ghost use Rattle.histogram.specs.Histogram.{Blank};
-ghost use Rattle.joint_search.specs.Window.{Counted};
 ghost use Rattle.joint_rows.specs.Rows.{WeightRows};
 ghost use Rattle.visit.specs.Visit.{Within};
-ghost use Rattle.joint_visit.specs.Arrive.{Carried, AnswersAt, JointVisited};
-
-// Kind 1, its stores and its box being made: nothing else runs along.
-pub fn table_visit(
-    file: &[u8],
-    plan: Plan,
-    weights: &[u16],
-    column: usize,
-    row: usize,
-    cut: Level,
-    shifts: u64,
-    balance_box: &mut [i16; 256],
-    counts: &[u16],
-    words: &[u64],
-) -> Visit
-    requires { ⌜ (Counted (now file) plan column row (now counts) (now words)) × (WeightRows plan (now weights)) × (plan .kind ≡ 1) ⌝ }
-    requires { ⌜ (cut .0 < plan .levels) × (shifts ≤ 4294967296) × (now «balance_box» ≡ balanceBox (frameOf (now file)) column row (cut .0)) ⌝ }
-    ensures { λ r. ⌜ AnswersAt (frameOf (now (file .entry))) column row (cut .0) shifts r (now («balance_box» .exit)) ⌝ }
-{
-    let r = arrive::arrive_table(
-        file,
-        plan,
-        weights,
-        column,
-        row,
-        cut,
-        shifts,
-        balance_box,
-        counts,
-        words,
-    );
-    let sums = Sums {
-        count: 0,
-        sum: 0,
-        squares: 0,
-    };
-    let below = Tally { count: 0, sum: 0 };
-    let free = FreeList { head: 0, count: 0 };
-    let running = Running { sums, below, free };
-    let next = r.cut;
-    let level = r.answer;
-    let answer = Answer::Level(level);
-    Visit {
-        column,
-        row,
-        cut: next,
-        shifts: r.shifts,
-        answer,
-        running,
-    }
-}
+ghost use Rattle.joint_visit.specs.Arrive.{Carried, JointVisited};
 
 // A walk comes to its first window, whatever the stores and the box held.
 pub fn enter(
@@ -109,7 +49,7 @@ pub fn enter(
     if plan.kind == 2 {
         return guided::enter(file, plan, column, row, balance_box, counts, words, numbers);
     }
-    table_visit(
+    table::visit(
         file,
         plan,
         weights,
@@ -181,7 +121,7 @@ pub fn slide(
             numbers,
         );
     }
-    table_visit(
+    table::visit(
         file,
         plan,
         weights,

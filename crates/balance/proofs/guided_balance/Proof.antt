@@ -3,7 +3,7 @@ use borrow.Author.Needs.{needs}
 use mir.Syntax.{w64}
 use Rattle.ints.specs.Machine.{read-bounded}
 use Rattle.window.proofs.PixelLaws.{guides-high}
-use Rattle.joint_rows.proofs.RowLaws.{ramp-weighs}
+use Rattle.balance.proofs.BalanceLaws.{ramp-weighs}
 use Rattle.balance.proofs.guided_balance.Statement.{statement}
 use Rattle.balance.proofs.guided_balance.Tie as tie
 
@@ -35,7 +35,7 @@ window-balance-requires c κs =
       planned = at .pre .0;
       column = at .pre .2;
       row = at .pre .3;
-      weighs = ramp-weighs (at .pre .0) (at .pre .2) (at .pre .3) (at .pre .1) (r .ramp .ensures) (known .0) (known .1)
+      weighs = ramp-weighs (at .pre .0) (at .pre .1) (r .ramp .ensures) (known .0) (known .1)
           (read-bounded w64 235497855 (known .1 .slope) tt) (read-bounded w64 180155859075 (known .1 .offset) tt);
     }
 

@@ -9,17 +9,17 @@ use mir.Val.{toZ}
 use Rattle.pixels.specs.Pixels.{countOf, levelIn, guideIn, pixelFoldTo}
 use Rattle.pixels.proofs.Laws.{places-in}
 use Rattle.pixels.proofs.AdditiveLaws.{pixels-none}
-use Rattle.joint_search.specs.Formula.{weightBy}
+use Rattle.balance.specs.Formula.{weightBy}
 use Rattle.balance.specs.Balance.{signedBy}
 use Rattle.balance.proofs.BalanceLaws.{weight-asks, weight-is, sum-asks, sum-again}
 use Rattle.balance.proofs.line_balance.Statement.{statement}
 use Rattle.balance.proofs.line_balance.Tie as tie
 
 abbrev Inv-loop : tie.InvT-loop
-Inv-loop p weights w top row n sum₀ k₀ sum k = (k ≤ n) × (toZ w64 sum ≡ pixelFoldTo _+ℤ_ (pos 0) p (signedBy weights w (top .0)) k)
+Inv-loop p weights w top n sum₀ k₀ sum k = (k ≤ n) × (toZ w64 sum ≡ pixelFoldTo _+ℤ_ (pos 0) p (signedBy weights w (top .0)) k)
 
 abbrev μ-loop : tie.MeasureT-loop
-μ-loop p weights w top row n sum₀ k₀ sum k = n - k
+μ-loop p weights w top n sum₀ k₀ sum k = n - k
 
 abbrev start : tie.At-loop Inv-loop μ-loop → tie.Start Inv-loop μ-loop
 start h = h .before .before .before
@@ -28,7 +28,7 @@ start h = h .before .before .before
 abbrev turn : tie.After-struct-known Inv-loop μ-loop → tie.In-loop Inv-loop μ-loop
 turn g = g .before .before .before
 
-abbrev read : tie.After-combine Inv-loop μ-loop → tie.After-shared-slice-known5 Inv-loop μ-loop
+abbrev read : tie.After-weigh Inv-loop μ-loop → tie.After-shared-slice-known5 Inv-loop μ-loop
 read e = e .before .before .before
 
 -- a turn's pixel is one of 31
@@ -37,7 +37,7 @@ turn-low c = omega (arith, c .loop-test .taken, start (c .before) .pre .few)
 
 -- its guide's weight is in the row
 inside : (g : tie.After-struct-known Inv-loop μ-loop) → let at =
-    start (turn g .before) in at .args .formula .row + guideIn (at .args .p .now) (turn g .before .loop .k) < length (at .args .weights .now)
+    start (turn g .before) in guideIn (at .args .p .now) (turn g .before .loop .k) < length (at .args .weights .now)
 inside g = start (turn g .before) .pre .inside (turn g .before .loop .k) (turn g .loop-test .taken)
 
 -- both of its numbers have 16 bits
@@ -49,9 +49,9 @@ numbers g = let k =
 
 -- the weight has 16 bits too
 number-low : (c : tie.After-shared-slice-known5 Inv-loop μ-loop) → let t = turn (c .before) in let at = start (t .before) in
-    getD (at .args .weights .now) (at .args .formula .row + guideIn (at .args .p .now) (t .before .loop .k)) 0 ≤ 65535
+    getD (at .args .weights .now) (guideIn (at .args .p .now) (t .before .loop .k)) 0 ≤ 65535
 number-low c = let t = turn (c .before) in let at =
-    start (t .before) in omega (arith, c .shared-slice-known5 .given (at .args .formula .row + guideIn (at .args .p .now) (t .before .loop .k)))
+    start (t .before) in omega (arith, c .shared-slice-known5 .given (guideIn (at .args .p .now) (t .before .loop .k)))
 
 loop-holds : tie.Need-loop-holds Inv-loop μ-loop
 loop-holds c = (omega arith, sym (pixels-none _+ℤ_ (pos 0) _ _))
@@ -78,9 +78,6 @@ shared-slice-read-x-2 c = let t =
 cast-x : tie.Need-cast-x Inv-loop μ-loop
 cast-x c = omega (arith, inside c, start (turn c .before) .good .1 .0, numbers c)
 
-add-x : tie.Need-add-x Inv-loop μ-loop
-add-x c = omega (arith, inside c, start (turn c .before) .good .1 .0, numbers c)
-
 mul-x-3 : tie.Need-mul-x-3 Inv-loop μ-loop
 mul-x-3 c = omega (arith, inside c, start (turn c .before) .good .1 .0, numbers c)
 
@@ -90,27 +87,27 @@ shared-slice-read-x-3 c = omega (arith, inside (c .before))
 cast-x-2 : tie.Need-cast-x-2 Inv-loop μ-loop
 cast-x-2 c = omega (arith, number-low c)
 
-combine-requires : tie.Need-combine-requires Inv-loop μ-loop
-combine-requires c κs =
+weigh-requires : tie.Need-weigh-requires Inv-loop μ-loop
+weigh-requires c κs =
     let r = c .before .before in
     let t = turn (r .before) in
     let at = start (t .before) in
     weight-asks (at .pre) (at .args .top .0) (t .loop-test .taken) (number-low r)
 
 -- what the call gave is the guide's weight
-weighed : (e : tie.After-combine Inv-loop μ-loop) → let t = turn (read e .before) in let at =
-    start (t .before) in e .combine .result ≡ weightBy (at .args .weights .now) (at .args .formula) (guideIn (at .args .p .now) (t .before .loop .k))
+weighed : (e : tie.After-weigh Inv-loop μ-loop) → let t = turn (read e .before) in let at =
+    start (t .before) in e .weigh .result ≡ weightBy (at .args .weights .now) (at .args .formula) (guideIn (at .args .p .now) (t .before .loop .k))
 weighed e =
     let t = turn (read e .before) in
     let at = start (t .before) in
-    weight-is (at .pre) (at .args .top .0) (t .loop-test .taken) (number-low (read e)) (e .combine .result) (e .combine .ensures)
+    weight-is (at .pre) (at .args .top .0) (t .loop-test .taken) (number-low (read e)) (e .weigh .result) (e .weigh .ensures)
 
 add-signed-requires : tie.Need-add-signed-requires Inv-loop μ-loop
 add-signed-requires c κs =
     let t = turn (read c .before) in
     let h = t .before in
     let at = start h in
-    sum-asks (at .pre) (at .args .top .0) (t .loop-test .taken) (toZ w64 (h .loop .sum)) (c .combine .result) (h .loop .inv .1) (weighed c)
+    sum-asks (at .pre) (at .args .top .0) (t .loop-test .taken) (toZ w64 (h .loop .sum)) (c .weigh .result) (h .loop .inv .1) (weighed c)
 
 add-k : tie.Need-add-k Inv-loop μ-loop
 add-k c = omega (arith, turn-low (turn (read (c .before) .before)))
@@ -125,7 +122,7 @@ loop-again c =
     let h = t .before in
     let at = start h in (
       omega (arith, t .loop-test .taken),
-      sum-again (at .pre) (at .args .top .0) (t .loop-test .taken) (toZ w64 (h .loop .sum)) (e .combine .result) (h .loop .inv .1) (weighed e)
+      sum-again (at .pre) (at .args .top .0) (t .loop-test .taken) (toZ w64 (h .loop .sum)) (e .weigh .result) (h .loop .inv .1) (weighed e)
           (c .add-signed .result) (c .add-signed .ok) (c .add-signed .ensures),
     )
 
@@ -150,11 +147,10 @@ line-balance-spec =
     mul-x-2
     shared-slice-read-x-2
     cast-x
-    add-x
     mul-x-3
     shared-slice-read-x-3
     cast-x-2
-    combine-requires
+    weigh-requires
     add-signed-requires
     add-k
     loop-less

@@ -2,7 +2,7 @@
 use borrow.Author.Needs.{needs}
 use native.Mathlib.Omega.{arith}
 use Rattle.window.proofs.PixelLaws.{place-small}
-use Rattle.joint_rows.proofs.RowLaws.{centre-place, centre-is, centre-low}
+use Rattle.joint_rows.proofs.RowLaws.{centre-place, centre-low, row-weighs}
 use Rattle.balance.proofs.BalanceLaws.{row-formula}
 use Rattle.balance.proofs.table_balance.Statement.{statement}
 use Rattle.balance.proofs.table_balance.Tie as tie
@@ -26,8 +26,13 @@ window-balance-requires : tie.Need-window-balance-requires
 window-balance-requires c κs =
     let r = c .before in
     let at = r .before .before .before .before in
-    row-formula (at .pre .0) (at .pre .1) (at .pre .2) (at .pre .3) (centre-is (at .pre .0) (at .pre .2) (at .pre .3) (r .before .guide-at .ensures))
-    (r .table-row .ensures)
+    record {
+      planned = at .pre .0;
+      column = at .pre .2;
+      row = at .pre .3;
+      weighs =
+          row-formula (row-weighs (at .pre .0) (at .pre .2) (at .pre .3) (r .before .guide-at .ensures) (at .pre .1) (r .table-row .ensures));
+    }
 
 returns : tie.Need-returns
 returns c = search needs

@@ -42,8 +42,8 @@ returns c =
     joint-visited _ _ _ _ _ _ _ _ _ _ _ _ (v .state) (record { counts = k .counts; words = k .words; box = v .box })
     (record { guided = λ _. r .enter .ensures .guided })
 
-table-visit-requires : tie.Need-table-visit-requires
-table-visit-requires c κs =
+visit-requires : tie.Need-visit-requires
+visit-requires c κs =
     let i = c .before .before .before in
     let k = built (i .before) in
     let at = begin k in
@@ -64,7 +64,7 @@ returns-2 c =
     let b = built (i .before) in
     let f = (begin b) .pre .0 .0 .planned in
     let k = b .build .ensures in
-    let v = c .table-visit .ensures in
+    let v = c .visit .ensures in
     joint-visited _ _ _ _ _ _ _ _ _ _ _ _ (v .state) (record { counts = k .counts; words = k .words; box = v .box })
     (carried-none f (kind-table f (i .if1 .left)))
 
@@ -78,7 +78,7 @@ enter-spec =
     same-length-2
     same-length-3
     returns
-    table-visit-requires
+    visit-requires
     same-length-4
     same-length-5
     returns-2)

@@ -237,8 +237,8 @@ returns c =
     joint-visited _ _ _ _ _ _ _ _ _ _ _ _ (v .state) (record { counts = k .counts; words = k .words; box = v .box })
     (record { guided = λ _. c .arrive .ensures .guided })
 
-table-visit-requires : tie.Need-table-visit-requires
-table-visit-requires c κs =
+visit-requires : tie.Need-visit-requires
+visit-requires c κs =
     let x = c .before .before .before .before .before .before .before .before .before in
     let at = begin (step (first (both x))) in
     let pl = at .pre .0 .0 .planned in
@@ -258,7 +258,7 @@ returns-2 c =
     let x = c .before .before .before .before .before .before .before .before .before .before in
     let pl = begin (step (first (both x))) .pre .0 .0 .planned in
     let k = moved x in
-    let v = c .table-visit .ensures in
+    let v = c .visit .ensures in
     joint-visited _ _ _ _ _ _ _ _ _ _ _ _ (v .state) (record { counts = k .counts; words = k .words; box = v .box })
     (carried-none pl (kind-table pl (c .before .before .before .before .if1 .left)))
 
@@ -303,7 +303,7 @@ slide-spec =
     same-length-2
     same-length-3
     returns
-    table-visit-requires
+    visit-requires
     same-length-4
     same-length-5
     returns-2)

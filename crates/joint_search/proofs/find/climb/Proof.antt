@@ -5,7 +5,7 @@ use native.Mathlib.Omega.{arith}
 use Prim.Native.Nat.{ℕ, _+_, _-_, _≤_, _<_}
 use lib.IntN.{ℤ, pos}
 use lib.Signed.{_≤ℤ_, _<ℤ_}
-use mir.Syntax.{w64}
+use mir.Syntax.{w32}
 use mir.Val.{toZ}
 use Rattle.ints.specs.Linear.{ints}
 use Rattle.ints.specs.Machine.{lt-true, lt-false}
@@ -16,26 +16,26 @@ use Rattle.joint_search.proofs.find.climb.Statement.{statement}
 use Rattle.joint_search.proofs.find.climb.Tie as tie
 
 abbrev Inv-loop : tie.InvT-loop
-Inv-loop plan weights w bal shifts counts words i₀ b₀ n₀ i b n =
-    (i₀ ≤ i) × (i < plan .levels) × (toZ w64 b ≡ balanceIn plan counts weights w i) × ((j : ℕ) → i₀ ≤ j → j < i →
-    balanceIn plan counts weights w j <ℤ pos 0) × (n + i₀ ≡ n₀ + i)
+Inv-loop sizes row bal shifts counts words i₀ b₀ n₀ i b n =
+    (i₀ ≤ i) × (i < sizes .levels) × (toZ w32 b ≡ balanceIn sizes counts row i) × ((j : ℕ) → i₀ ≤ j → j < i →
+    balanceIn sizes counts row j <ℤ pos 0) × (n + i₀ ≡ n₀ + i)
 
 abbrev μ-loop : tie.MeasureT-loop
-μ-loop plan weights w bal shifts counts words i₀ b₀ n₀ i b n = plan .levels - i
+μ-loop sizes row bal shifts counts words i₀ b₀ n₀ i b n = sizes .levels - i
 
 abbrev start : tie.At-loop Inv-loop μ-loop → tie.Start Inv-loop μ-loop
 start h = h .before .before .before .before
 
 -- the balance at level j, by the call's lists
 abbrev bal : tie.Start Inv-loop μ-loop → ℕ → ℤ
-bal at j = balanceIn (at .args .plan) (at .args .counts .now) (at .args .weights .now) (at .args .formula) j
+bal at j = balanceIn (at .args .sizes) (at .args .counts .now) (at .args .row .now) j
 
 -- a level that is passed falls short
 below : (c : tie.In-loop Inv-loop μ-loop) → bal (start (c .before)) (c .before .loop .i) <ℤ pos 0
 below c = let short = lt-true (c .before .loop .inv .2) refl (c .loop-test .taken) in omega (arith, ints, short)
 
-next : (c : tie.In-loop Inv-loop μ-loop) → c .before .loop .i + 1 < (start (c .before)) .args .plan .levels
-next c = let at = start (c .before) in room (at .pre .0 .0) (at .pre .0 .1) (c .before .loop .i) (at .pre .1 .3) (c .before .loop .inv .1) (below c)
+next : (c : tie.In-loop Inv-loop μ-loop) → c .before .loop .i + 1 < (start (c .before)) .args .sizes .levels
+next c = let at = start (c .before) in room (at .pre .0 .0) (at .pre .0 .1) (c .before .loop .i) (c .before .loop .inv .1) (below c)
 
 loop-holds : tie.Need-loop-holds Inv-loop μ-loop
 loop-holds c =
@@ -64,7 +64,7 @@ step-balance-requires : tie.Need-step-balance-requires Inv-loop μ-loop
 step-balance-requires c κs =
     let h = c .before .before in
     let at = start h in
-    step-asks (at .pre .0 .0) (at .pre .0 .1) (h .loop .i) (h .loop .i + 1) (toZ w64 (h .loop .b)) (c .level-weight .result) (pos 2)
+    step-asks (at .pre .0 .0) (at .pre .0 .1) (h .loop .i) (h .loop .i + 1) (toZ w32 (h .loop .b)) (c .level-weight .result) (pos 2)
     (h .loop .inv .1) (next (c .before)) (h .loop .inv .2) (c .level-weight .ensures) (omega arith)
 
 loop-less : tie.Need-loop-less Inv-loop μ-loop
@@ -77,7 +77,7 @@ loop-again c =
     let at = start h in (
       omega (arith, h .loop .inv .0),
       next (e .before),
-      step-up (at .pre .0 .0) (at .pre .0 .1) (h .loop .i) (toZ w64 (h .loop .b)) (e .level-weight .result) (c .step-balance .result)
+      step-up (at .pre .0 .0) (at .pre .0 .1) (h .loop .i) (toZ w32 (h .loop .b)) (e .level-weight .result) (c .step-balance .result)
           (next (e .before)) (h .loop .inv .2) (e .level-weight .ensures) (c .step-balance .ok) (c .step-balance .ensures),
       λ j u v. ⊎-elim (λ x. h .loop .inv .3 j u x) (λ x. let d : j ≡ h .loop .i =
           omega arith in subst (λ (q : ℕ). bal at q <ℤ pos 0) (sym d) (below (e .before))) (lt-or-le j (h .loop .i)),

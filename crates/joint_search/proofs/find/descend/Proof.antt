@@ -4,7 +4,7 @@ use native.Mathlib.Omega.{arith}
 use Prim.Native.Nat.{ℕ, _+_, _-_, _≤_, _<_}
 use lib.IntN.{ℤ, pos, negsuc}
 use lib.Signed.{_≤ℤ_, _<ℤ_}
-use mir.Syntax.{w64}
+use mir.Syntax.{w32}
 use mir.Val.{toZ, ofZ}
 use Rattle.ints.specs.Linear.{ints}
 use Rattle.ints.specs.Machine.{lt-true, lt-false}
@@ -14,29 +14,29 @@ use Rattle.joint_search.proofs.find.descend.Statement.{statement}
 use Rattle.joint_search.proofs.find.descend.Tie as tie
 
 abbrev Inv-loop : tie.InvT-loop
-Inv-loop plan weights w bal shifts counts words i₀ b₀ n₀ i b n =
-    (i ≤ i₀) × (toZ w64 b ≡ balanceIn plan counts weights w i) × (pos 0 ≤ℤ balanceIn plan counts weights w i) × (n + i ≡ n₀ + i₀)
+Inv-loop sizes row bal shifts counts words i₀ b₀ n₀ i b n =
+    (i ≤ i₀) × (toZ w32 b ≡ balanceIn sizes counts row i) × (pos 0 ≤ℤ balanceIn sizes counts row i) × (n + i ≡ n₀ + i₀)
 
 abbrev μ-loop : tie.MeasureT-loop
-μ-loop plan weights w bal shifts counts words i₀ b₀ n₀ i b n = i
+μ-loop sizes row bal shifts counts words i₀ b₀ n₀ i b n = i
 
 abbrev start : tie.At-loop Inv-loop μ-loop → tie.Start Inv-loop μ-loop
 start h = h .before .before .before .before
 
 -- the balance at level j, by the call's lists
 abbrev bal : tie.Start Inv-loop μ-loop → ℕ → ℤ
-bal at j = balanceIn (at .args .plan) (at .args .counts .now) (at .args .weights .now) (at .args .formula) j
+bal at j = balanceIn (at .args .sizes) (at .args .counts .now) (at .args .row .now) j
 
-inside : (c : tie.In-loop Inv-loop μ-loop) → c .before .loop .i < (start (c .before)) .args .plan .levels
+inside : (c : tie.In-loop Inv-loop μ-loop) → c .before .loop .i < (start (c .before)) .args .sizes .levels
 inside c = omega (arith, (start (c .before)) .pre .1 .0, c .before .loop .inv .0)
 
 lower : (v : tie.After-step-balance Inv-loop μ-loop) →
-    toZ w64 (ofZ w64 (v .step-balance .result)) ≡ bal (start (v .before .before .before)) (v .before .before .before .loop .i - 1)
+    toZ w32 (ofZ w32 (v .step-balance .result)) ≡ bal (start (v .before .before .before)) (v .before .before .before .loop .i - 1)
 lower v =
     let e = v .before in
     let h = e .before .before in
     let at = start h in
-    step-down (at .pre .0 .0) (at .pre .0 .1) (h .loop .i) (toZ w64 (h .loop .b)) (e .level-weight .result) (v .step-balance .result)
+    step-down (at .pre .0 .0) (at .pre .0 .1) (h .loop .i) (toZ w32 (h .loop .b)) (e .level-weight .result) (v .step-balance .result)
     (e .before .loop-test .taken) (inside (e .before)) (h .loop .inv .1) (e .level-weight .ensures) (v .step-balance .ok)
     (v .step-balance .ensures)
 
@@ -57,7 +57,7 @@ step-balance-requires : tie.Need-step-balance-requires Inv-loop μ-loop
 step-balance-requires c κs =
     let h = c .before .before in
     let at = start h in
-    step-asks (at .pre .0 .0) (at .pre .0 .1) (h .loop .i) (h .loop .i) (toZ w64 (h .loop .b)) (c .level-weight .result) (negsuc 1)
+    step-asks (at .pre .0 .0) (at .pre .0 .1) (h .loop .i) (h .loop .i) (toZ w32 (h .loop .b)) (c .level-weight .result) (negsuc 1)
     (inside (c .before)) (inside (c .before)) (h .loop .inv .1) (c .level-weight .ensures) (omega arith)
 
 -- the balance below falls short

@@ -8,11 +8,11 @@ use Rattle.joint_search.proofs.find.lower_to.Statement.{statement}
 use Rattle.joint_search.proofs.find.lower_to.Tie as tie
 
 abbrev Inv-loop : tie.InvT-loop
-Inv-loop plan cells₀ counts words last i₀ cells i =
-    (last ≤ i) × (i ≤ i₀) × (cells ≡ boxIn plan counts i)
+Inv-loop sizes cells₀ counts words last i₀ cells i =
+    (last ≤ i) × (i ≤ i₀) × (cells ≡ boxIn sizes counts i)
 
 abbrev μ-loop : tie.MeasureT-loop
-μ-loop plan cells₀ counts words last i₀ cells i = i
+μ-loop sizes cells₀ counts words last i₀ cells i = i
 
 abbrev start : tie.At-loop Inv-loop μ-loop → tie.Start Inv-loop μ-loop
 start h = h .before .before .before
@@ -43,8 +43,8 @@ loop-again c =
     let d : h .loop .i - 1 + 1 ≡ h .loop .i = omega (arith, t .loop-test .taken) in (
       omega (arith, t .loop-test .taken),
       omega (arith, h .loop .inv .1),
-      lowered (at .args .plan) (at .args .counts .now) (h .loop .i - 1) _ _ _ _
-          (h .loop .inv .2 ∙ ap (boxIn (at .args .plan) (at .args .counts .now)) (sym d)) (c .shift-level .ensures) (omega (arith, d)) refl,
+      lowered (at .args .sizes) (at .args .counts .now) (h .loop .i - 1) _ _ _ _
+          (h .loop .inv .2 ∙ ap (boxIn (at .args .sizes) (at .args .counts .now)) (sym d)) (c .shift-level .ensures) (omega (arith, d)) refl,
     )
 
 returns : tie.Need-returns Inv-loop μ-loop
@@ -52,7 +52,7 @@ returns c =
     let h = c .before in
     let at = start h in
     let done : h .loop .i ≡ at .args .to .0 = omega (arith, h .loop .inv .0, c .loop-test .left) in
-    h .loop .inv .2 ∙ ap (boxIn (at .args .plan) (at .args .counts .now)) done
+    h .loop .inv .2 ∙ ap (boxIn (at .args .sizes) (at .args .counts .now)) done
 
 pub lower-to-spec : {M : Type 1} → statement M
 lower-to-spec =

@@ -8,11 +8,11 @@ use Rattle.joint_search.proofs.find.raise_to.Statement.{statement}
 use Rattle.joint_search.proofs.find.raise_to.Tie as tie
 
 abbrev Inv-loop : tie.InvT-loop
-Inv-loop plan cells₀ counts words last i₀ cells i =
-    (i ≤ last) × (cells ≡ boxIn plan counts i)
+Inv-loop sizes cells₀ counts words last i₀ cells i =
+    (i ≤ last) × (cells ≡ boxIn sizes counts i)
 
 abbrev μ-loop : tie.MeasureT-loop
-μ-loop plan cells₀ counts words last i₀ cells i = last - i
+μ-loop sizes cells₀ counts words last i₀ cells i = last - i
 
 abbrev start : tie.At-loop Inv-loop μ-loop → tie.Start Inv-loop μ-loop
 start h = h .before .before .before
@@ -41,7 +41,7 @@ loop-again c =
     let h = t .before in
     let at = start h in (
       omega (arith, t .loop-test .taken),
-      raised (at .args .plan) (at .args .counts .now) (h .loop .i) _ _ (h .loop .balance-box)
+      raised (at .args .sizes) (at .args .counts .now) (h .loop .i) _ _ (h .loop .balance-box)
           (c .shift-level .last .1 .1 .1 .0) (h .loop .inv .1) (c .shift-level .ensures) (omega arith) refl,
     )
 
@@ -50,7 +50,7 @@ returns c =
     let h = c .before in
     let at = start h in
     let done : h .loop .i ≡ at .args .to .0 = omega (arith, h .loop .inv .0, c .loop-test .left) in
-    h .loop .inv .1 ∙ ap (boxIn (at .args .plan) (at .args .counts .now)) done
+    h .loop .inv .1 ∙ ap (boxIn (at .args .sizes) (at .args .counts .now)) done
 
 pub raise-to-spec : {M : Type 1} → statement M
 raise-to-spec =

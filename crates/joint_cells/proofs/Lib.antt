@@ -1,0 +1,3 @@
+pub mod ScanLaws
+pub mod BoxLaws
+pub mod ShiftLaws

@@ -1,0 +1,137 @@
+-- `table::arrive` meets its contract: the centre's guide chooses the row, and by the row the counts give the frame's answer. Assumes nothing.
+use borrow.Author.Needs.{needs}
+use mathlib.Core.Path.{_≡_, refl, _∙_}
+use native.Mathlib.Omega.{arith}
+use Prim.Native.Nat.{ℕ, _+_, _-_, _≤_}
+use lib.ListN.{take, drop}
+use Rattle.spec.specs.Frame.{frameOf}
+use Rattle.window.proofs.PixelLaws.{place-small}
+use Rattle.joint_search.specs.Window.{RowWeighs}
+use Rattle.joint_search.proofs.WindowLaws.{searchable, row-fits, box-of}
+use Rattle.joint_rows.proofs.RowLaws.{centre-place, centre-low, centre-small, mirror-weighs, row-weighs}
+use Rattle.joint_visit.proofs.ArriveLaws.{arrives-of}
+use Rattle.joint_visit.proofs.table.arrive.Statement.{statement}
+use Rattle.joint_visit.proofs.table.arrive.Tie as tie
+
+-- the places passed: the centre's guide read; and the start
+abbrev begin : tie.After-struct-known → tie.Start
+begin d = d .before .before .before .before .before
+
+abbrev start : tie.After-guide-at → tie.Start
+start g = begin (g .before)
+
+abbrev read : tie.After-struct-known3 → tie.After-guide-at
+read d = d .before .before .before
+
+small : (g : tie.After-guide-at) → g .guide-at .result .0 ≤ 255
+small g = let k = start g .pre .0 .0 in centre-small (k .planned) (k .column) (k .row) (g .guide-at .ensures)
+
+mul-guide-at : tie.Need-mul-guide-at
+mul-guide-at c = let k = begin c .pre .0 .0 in omega (arith, place-small (k .planned) (centre-place (k .planned) (k .column) (k .row)))
+
+add-guide-at : tie.Need-add-guide-at
+add-guide-at c = let k = begin c .pre .0 .0 in omega (arith, place-small (k .planned) (centre-place (k .planned) (k .column) (k .row)))
+
+guide-at-requires : tie.Need-guide-at-requires
+guide-at-requires c κs = let k = begin c .pre .0 .0 in (k .planned, centre-place (k .planned) (k .column) (k .row))
+
+-- built-in
+cast-from : tie.Need-cast-from
+cast-from c = search needs
+
+sub-from : tie.Need-sub-from
+sub-from c = omega (arith, small (read c))
+
+add-end : tie.Need-add-end
+add-end c = search needs
+
+mul-arrive : tie.Need-mul-arrive
+mul-arrive c = search needs
+
+sub-arrive : tie.Need-sub-arrive
+sub-arrive c = search needs
+
+part-arrive-start : tie.Need-part-arrive-start
+part-arrive-start c = search needs
+
+part-arrive-end : tie.Need-part-arrive-end
+part-arrive-end c =
+    let g = read c in
+    omega (arith, small g, start g .pre .0 .1 .mirror (c .before .if1 .taken) .long)
+
+-- the part of the constants weighs the window
+built : (c : tie.After-struct-known3) → let at = start (read c) in let from = 255 - read c .guide-at .result .0 in
+    RowWeighs (frameOf (at .args .file .now)) (at .args .s) (at .args .t) (take (from + 256 - from) (drop from (at .args .weights .now)))
+built c =
+    let g = read c in
+    let at = start g in
+    let k = at .pre .0 .0 in
+    mirror-weighs (k .planned) (k .column) (k .row) (g .guide-at .ensures) (at .pre .0 .2) (c .before .if1 .taken)
+    (at .pre .0 .1 .mirror (c .before .if1 .taken)) refl refl
+
+arrive-requires : tie.Need-arrive-requires
+arrive-requires c κs =
+    let d = c .before .before in
+    let at = start (read d) in
+    let k = at .pre .0 .0 in
+    let p = at .pre .1 in
+    ((searchable k, row-fits k (built d)), (p .0, p .1, p .2 ∙ box-of k (at .args .cut .0) (p .0)))
+
+returns : tie.Need-returns
+returns c =
+    let d = c .before .before .before in
+    let at = start (read d) in
+    arrives-of (at .pre .0 .0) (built d) (at .pre .0 .2) (at .pre .1 .0) (c .arrive .ensures .0) (c .arrive .ensures .1)
+
+-- the file's own
+own-row-requires : tie.Need-own-row-requires
+own-row-requires c κs =
+    let g = c .before .before in
+    let k = start g .pre .0 .0 in
+    (k .planned, centre-low (k .planned) (k .column) (k .row) (g .guide-at .ensures), c .if1 .left)
+
+slice-aggregate-arrive : tie.Need-slice-aggregate-arrive
+slice-aggregate-arrive c = search needs
+
+own : (o : tie.After-own-row) → let at = start (o .before .before .before) in
+    RowWeighs (frameOf (at .args .file .now)) (at .args .s) (at .args .t) (o .own-row .result)
+own o =
+    let g = o .before .before .before in
+    let at = start g in
+    let k = at .pre .0 .0 in
+    row-weighs (k .planned) (k .column) (k .row) (g .guide-at .ensures) (at .pre .0 .2) (o .own-row .ensures)
+
+arrive-requires-2 : tie.Need-arrive-requires-2
+arrive-requires-2 c κs =
+    let o = c .before .before in
+    let at = start (o .before .before .before) in
+    let k = at .pre .0 .0 in
+    let p = at .pre .1 in
+    ((searchable k, row-fits k (own o)), (p .0, p .1, p .2 ∙ box-of k (at .args .cut .0) (p .0)))
+
+returns-2 : tie.Need-returns-2
+returns-2 c =
+    let o = c .before .before .before in
+    let at = start (o .before .before .before) in
+    arrives-of (at .pre .0 .0) (own o) (at .pre .0 .2) (at .pre .1 .0) (c .arrive2 .ensures .0) (c .arrive2 .ensures .1)
+
+pub arrive-spec : {M : Type 1} → statement M
+arrive-spec =
+    tie.close
+    (tie.spec
+    mul-guide-at
+    add-guide-at
+    guide-at-requires
+    cast-from
+    sub-from
+    add-end
+    mul-arrive
+    sub-arrive
+    part-arrive-start
+    part-arrive-end
+    arrive-requires
+    returns
+    own-row-requires
+    slice-aggregate-arrive
+    arrive-requires-2
+    returns-2)

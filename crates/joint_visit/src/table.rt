@@ -1,0 +1,114 @@
+// Kind 1: a window's part in a walk, its stores and its box being made. A window without weight answers its centre's own level and keeps cut point
+// and shifts.
+use chain_nodes::FreeList;
+use joint_rows::rows;
+use joint_search::Sizes;
+use joint_search::arrive;
+use joint_search::arrive::Arrival;
+use level_search::Tally;
+use spec::Answer;
+use spec::Level;
+use spec::Plan;
+use visit::Running;
+use visit::Visit;
+use window::pixel;
+use window::sums::Sums;
+ghost use mathlib.Core.Path.{_≡_};
+ghost use Prim.Native.Nat.{_<_, _≤_};
+ghost use Rattle.spec.specs.Frame.{frameOf};
+ghost use Rattle.spec.specs.Joint.{balanceBox};
+ghost use Rattle.joint_search.specs.Window.{Counted};
+ghost use Rattle.joint_rows.specs.Rows.{WeightRows};
+ghost use Rattle.joint_visit.specs.Arrive.{Arrives, AnswersAt};
+
+// By the row of the centre's guide: a part of the built-in weights, or the file's own.
+pub fn arrive(
+    file: &[u8],
+    plan: Plan,
+    weights: &[u16],
+    s: usize,
+    t: usize,
+    cut: Level,
+    shifts: u64,
+    balance_box: &mut [i16; 256],
+    counts: &[u16],
+    words: &[u64],
+) -> Arrival
+    requires { ⌜ (Counted (now file) plan s t (now counts) (now words)) × (WeightRows plan (now weights)) × (plan .kind ≡ 1) ⌝ }
+    requires { ⌜ (cut .0 < plan .levels) × (shifts < 1099511627776) × (now «balance_box» ≡ balanceBox (frameOf (now file)) s t (cut .0)) ⌝ }
+    ensures { λ r. ⌜ Arrives (frameOf (now (file .entry))) s t (cut .0) shifts r (now («balance_box» .exit)) ⌝ }
+{
+    let sizes = Sizes {
+        levels: plan.levels,
+        guides: plan.guides,
+    };
+    let centre = pixel::guide_at(file, plan, t * plan.width + s);
+    if plan.weights == 0 {
+        let from = 255 - (centre.0 as usize);
+        let end = from + 256;
+        return arrive::arrive(
+            sizes,
+            &weights[from..end],
+            cut,
+            shifts,
+            balance_box,
+            counts,
+            words,
+        );
+    }
+    let row = rows::own_row(file, plan, centre);
+    arrive::arrive(sizes, &row, cut, shifts, balance_box, counts, words)
+}
+
+// The visit. Nothing runs along.
+pub fn visit(
+    file: &[u8],
+    plan: Plan,
+    weights: &[u16],
+    column: usize,
+    row: usize,
+    cut: Level,
+    shifts: u64,
+    balance_box: &mut [i16; 256],
+    counts: &[u16],
+    words: &[u64],
+) -> Visit
+    requires { ⌜ (Counted (now file) plan column row (now counts) (now words)) × (WeightRows plan (now weights)) × (plan .kind ≡ 1) ⌝ }
+    requires { ⌜ (cut .0 < plan .levels) × (shifts ≤ 4294967296) × (now «balance_box» ≡ balanceBox (frameOf (now file)) column row (cut .0)) ⌝ }
+    ensures { λ r. ⌜ AnswersAt (frameOf (now (file .entry))) column row (cut .0) shifts r (now («balance_box» .exit)) ⌝ }
+{
+    let sums = Sums {
+        count: 0,
+        sum: 0,
+        squares: 0,
+    };
+    let below = Tally { count: 0, sum: 0 };
+    let free = FreeList { head: 0, count: 0 };
+    let running = Running { sums, below, free };
+    let r = arrive(
+        file,
+        plan,
+        weights,
+        column,
+        row,
+        cut,
+        shifts,
+        balance_box,
+        counts,
+        words,
+    );
+    let next = r.cut;
+    if r.hollow {
+        let own = pixel::level_at(file, plan, row * plan.width + column);
+        let answer = Answer::Level(own);
+        return Visit {
+            column,
+            row,
+            cut: next,
+            shifts: r.shifts,
+            answer,
+            running,
+        };
+    }
+    visit::answered(column, row, next, r.shifts, running)
+}
