@@ -151,6 +151,10 @@ module _ {b : List ℕ} {plan : Plan} {s t : ℕ} {cs ws : List ℕ} (st : Count
       ∙ levels.balance-same (λ i u. ap pos (rep-own _ _ _ cs ws rep i f u)) c h′
       ∙ sym (ap₂ (λ (m n : ℕ). balanceOf (λ i. pos (countIn m cs i f)) n c) guides-eq levels-eq))
 
+  -- a box that is the counts' at x is the window's at k, where the two are one level
+  pub box-at : {x k : ℕ} {bx : List ℤ} → bx ≡ boxIn (sizesOf plan) cs x → x ≡ k → k < plan .levels → bx ≡ balanceBox (frameOf b) s t k
+  box-at {k = k} e d h = e ∙ ap (boxIn (sizesOf plan) cs) d ∙ sym (box-of k h)
+
   -- ---- with a row that weighs the window
   module _ {row : List ℕ} (weighs : RowWeighs (frameOf b) s t row) where
     pub row-fits : RowFits (plan .guides) row

@@ -82,20 +82,11 @@ pub fn arrive(
     if bal == 0 && none_weighs(sizes, row, counts, words) {
         return Arrival {
             hollow: true,
-            cut,
-            shifts,
+            cut: cut,
+            shifts: shifts,
         };
     }
-    let found = from_cut(
-        sizes,
-        row,
-        cut,
-        bal,
-        shifts,
-        balance_box,
-        counts,
-        words,
-    );
+    let found = from_cut(sizes, row, cut, bal, shifts, balance_box, counts, words);
     let level = found.level;
     Arrival {
         hollow: false,

@@ -1,2 +1,1 @@
-pub mod ArriveLaws
 pub mod VisitLaws

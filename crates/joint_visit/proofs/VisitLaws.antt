@@ -1,59 +1,24 @@
--- Laws of a visit: from the stores that a start or a move leaves to those that the search reads, and what kind 2 carries.
+-- Laws of a visit: from the stores that a start or a move leaves to those that the search reads.
 -- Assumes nothing.
-use mathlib.Core.Path.{_≡_, refl, sym, ap, _∙_}
+use mathlib.Core.Path.{_≡_}
 use mathlib.Core.List.{List}
-use Prim.Native.Nat.{ℕ, _+_, _-_, _≤_, _<_}
-use native.Mathlib.Nat.{zero-add}
+use Prim.Native.Nat.{ℕ, _<_}
 use native.Mathlib.Omega.{arith}
 use lib.IntN.{ℤ}
-use lib.ListN.{length, getD, take, drop, length-drop}
-use lib.Seq.{getD-take, getD-drop, length-take-le}
 use Rattle.spec.specs.declared.Plan.{Plan}
 use Rattle.spec.specs.Frame.{Frame, frameOf}
 use Rattle.spec.specs.Checks.{Planned}
-use Rattle.spec.specs.Median.{median}
-use Rattle.spec.specs.Joint.{balanceBox}
 use Rattle.spec.specs.Walk.{arrive}
 use Rattle.spec.proofs.Plans.{facts, pixel-of}
-use Rattle.spec.proofs.Totals.{median-low}
-use Rattle.spec.proofs.Climb.{guided-full}
 use Rattle.window.specs.declared.sums.Sums.{Sums}
-use Rattle.level_search.specs.declared.search.Found.{Found}
 use Rattle.level_search.specs.declared.Tally.{Tally}
-use Rattle.levels.specs.Answer.{Profiled, Answered}
-use Rattle.histogram.specs.Histogram.{Histogram}
-use Rattle.histogram.proofs.Laws.{count-at, sum-at}
 use Rattle.joint.specs.Window.{JointAt}
 use Rattle.joint.proofs.WindowLaws.{settled}
-use Rattle.joint_search.specs.Search.{boxIn}
-use Rattle.joint_search.specs.Window.{Counted, sizesOf}
-use Rattle.joint_search.proofs.WindowLaws.{box-of}
+use Rattle.joint_search.specs.Window.{Counted}
 use Rattle.visit.specs.declared.Visit.{Visit}
 use Rattle.visit.specs.Visit.{stateOf}
 use Rattle.visit.proofs.Laws.{at-visit}
-use Rattle.joint_visit.specs.Arrive.{countsIn, guideSumsIn, Carried, JointVisited}
-
--- ---- a part of a list
-part-long : (xs : List ℕ) (i n : ℕ) → i + n ≤ length xs → length (take n (drop i xs)) ≡ n
-part-long xs i n h = length-take-le n (drop i xs) (rw length-drop (omega arith))
-
-part-cell : (xs : List ℕ) (i n k : ℕ) → k < n → getD (take n (drop i xs)) k 0 ≡ getD xs (i + k) 0
-part-cell xs i n k h = getD-take n (drop i xs) k 0 h ∙ getD-drop i xs k 0
-
--- the box moved to a level is the window's there
-pub box-moved : {b : List ℕ} {plan : Plan} {s t : ℕ} {cs ws : List ℕ} → Counted b plan s t cs ws → (to k : ℕ) {bx : List ℤ} → bx ≡ boxIn (sizesOf plan) cs to →
-    to ≡ k → k < plan .levels → bx ≡ balanceBox (frameOf b) s t k
-box-moved {plan = plan} {cs = cs} st to k e d h = e ∙ ap (boxIn (sizesOf plan) cs) d ∙ sym (box-of st k h)
-
--- a histogram's two lists, as they are lent
-pub first-part : (l : ℕ) (ns : List ℕ) → take (l - 0) (drop 0 ns) ≡ countsIn l ns
-first-part l ns = let e : l - 0 ≡ l = omega arith in ap (λ (n : ℕ). take n ns) e
-
-pub second-part : (l last : ℕ) (ns : List ℕ) → last ≡ l + l → take (last - l) (drop l ns) ≡ guideSumsIn l ns
-second-part l last ns h = let e : last - l ≡ l = omega arith in ap (λ (n : ℕ). take n (drop l ns)) e
-
-pub counts-long : (l : ℕ) (ns : List ℕ) → l + l ≤ length ns → length (countsIn l ns) ≡ l
-counts-long l ns h = length-take-le l ns (omega arith)
+use Rattle.joint_visit.specs.Visit.{GuidedCarried, JointVisited}
 
 module _ {b : List ℕ} {z : Plan} (pl : Planned b z) where
   pub counted-of : {s t c : ℕ} {xs ws xs′ ws′ : List ℕ} {bx′ : List ℤ} → s < z .width → t < z .height → JointAt (frameOf b) s t c xs ws xs′ ws′ bx′ →
@@ -63,45 +28,16 @@ module _ {b : List ℕ} {z : Plan} (pl : Planned b z) where
       record { planned = pl; column = hs; row = ht; counts = k .counts; words = k .words }
 
   -- kind 1 carries nothing
-  pub carried-none : {s t c : ℕ} {a : Sums} {w : Tally} {ns : List ℕ} → z .kind ≡ 1 → Carried (frameOf b) s t c a w ns
+  pub carried-none : {s t c : ℕ} {a : Sums} {w : Tally} {ns : List ℕ} → z .kind ≡ 1 → GuidedCarried (frameOf b) s t c a w ns
   carried-none one = record { guided = λ two. absurd (omega (arith, one, facts pl .kind, two)) }
-
-  -- ---- the histogram, as the search reads it
-  module _ {s t : ℕ} {ns : List ℕ} (v : Histogram (frameOf b) s t ns) {l last : ℕ} (el : l ≡ z .levels) (ea : last ≡ l + l) where
-    pub numbers-long : last ≤ length ns
-    numbers-long = omega (arith, v .long, facts pl .levels)
-
-    pub profiled : Profiled (frameOf b) s t (countsIn l ns) (guideSumsIn l ns)
-    profiled =
-        let f = facts pl in
-        rw el
-        (record {
-          count-long = part-long ns 0 (z .levels) (omega (arith, numbers-long)) ∙ f .levels;
-          sum-long = part-long ns (z .levels) (z .levels) (omega (arith, numbers-long)) ∙ f .levels;
-          count-cell = λ i h. part-cell ns 0 (z .levels) i (rw (f .levels) h) ∙ ap (λ (j : ℕ). getD ns j 0) (zero-add i) ∙ count-at v i h;
-          sum-cell = λ i h. part-cell ns (z .levels) (z .levels) i (rw (f .levels) h) ∙ ap (λ (j : ℕ). getD ns (j + i) 0) (f .levels) ∙ sum-at v i h;
-        })
-
-    -- as they are lent to a search
-    pub profiled-parts : Profiled (frameOf b) s t (take (l - 0) (drop 0 ns)) (take (last - l) (drop l ns))
-    profiled-parts = rw (first-part l ns, second-part l last ns ea) profiled
-
-  -- ---- kind 2: the answer is a level
-  module _ {s t c n : ℕ} (hs : s < z .width) (ht : t < z .height) (two : z .kind ≡ 2) {f : Found} (h : Answered (frameOf b) s t c n f) where
-    cut-is : arrive (frameOf b) s t c n .cut ≡ median (frameOf b) s t
-    unfolding arrive
-    cut-is = rw (guided-full (pixel-of pl hs ht) (sym (facts pl .kind) ∙ two) .1) refl
-
-    pub answer-low : f .level .0 < z .levels
-    answer-low = omega (arith, h .cut, cut-is, median-low (pixel-of pl hs ht), facts pl .levels)
 
 -- ---- the window is the visit's own
 pub joint-visited : (p : Frame) (s t c n : ℕ) (v : Visit) (xs ws xs′ ws′ : List ℕ) (bx : List ℤ) (ns : List ℕ) → stateOf v ≡ arrive p s t c n
-    → JointAt p s t (v .cut .0) xs ws xs′ ws′ bx → Carried p s t (v .cut .0) (v .running .sums) (v .running .below) ns
+    → JointAt p s t (v .cut .0) xs ws xs′ ws′ bx → GuidedCarried p s t (v .cut .0) (v .running .sums) (v .running .below) ns
     → JointVisited p (arrive p s t c n) v xs ws xs′ ws′ bx ns
 joint-visited p s t c n v xs ws xs′ ws′ bx ns e j k =
     record {
       state = e;
       joint = at-visit p s t c n (λ x y. JointAt p x y (v .cut .0) xs ws xs′ ws′ bx) v e j;
-      carried = at-visit p s t c n (λ x y. Carried p x y (v .cut .0) (v .running .sums) (v .running .below) ns) v e k;
+      carried = at-visit p s t c n (λ x y. GuidedCarried p x y (v .cut .0) (v .running .sums) (v .running .below) ns) v e k;
     }

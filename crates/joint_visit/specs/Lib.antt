@@ -1,1 +1,1 @@
-pub mod Arrive
+pub mod Visit

@@ -1,8 +1,5 @@
 // Way 1, joint, at a window of a walk: its stores made or moved, its answer, the cut point and the box moved to it, and the shifts counted on the
 // way. The walk lends file, rows, box, stores and histogram, and hands the visit on.
-pub mod guided;
-pub mod table;
-
 use joint::list;
 use joint::start as store_start;
 use pixels::sums;
@@ -17,7 +14,7 @@ ghost use Rattle.joint.specs.Window.{Fresh, Held};
 ghost use Rattle.histogram.specs.Histogram.{Blank};
 ghost use Rattle.joint_rows.specs.Rows.{WeightRows};
 ghost use Rattle.visit.specs.Visit.{Within};
-ghost use Rattle.joint_visit.specs.Arrive.{Carried, JointVisited};
+ghost use Rattle.joint_visit.specs.Visit.{GuidedCarried, JointVisited};
 
 // A walk comes to its first window, whatever the stores and the box held.
 pub fn enter(
@@ -29,12 +26,12 @@ pub fn enter(
     balance_box: &mut [i16; 256],
     counts: &mut [u16],
     words: &mut [u64],
-    numbers: &mut [u32],
+    histogram: &mut [u32],
 ) -> Visit
-    requires { ⌜ (Fresh (now file) plan column row (now counts) (now words)) × (Blank (plan .levels) (now numbers)) ⌝ }
+    requires { ⌜ (Fresh (now file) plan column row (now counts) (now words)) × (Blank (plan .levels) (now histogram)) ⌝ }
     requires { ⌜ WeightRows plan (now weights) ⌝ }
     ensures { λ r. ⌜ JointVisited (frameOf (now (file .entry))) (arrive (frameOf (now (file .entry))) column row 0 0) r
-        (now (counts .entry)) (now (words .entry)) (now (counts .exit)) (now (words .exit)) (now («balance_box» .exit)) (now (numbers .exit)) ⌝ }
+        (now (counts .entry)) (now (words .entry)) (now (counts .exit)) (now (words .exit)) (now («balance_box» .exit)) (now (histogram .exit)) ⌝ }
 {
     store_start::build(
         file,
@@ -47,9 +44,18 @@ pub fn enter(
         words,
     );
     if plan.kind == 2 {
-        return guided::enter(file, plan, column, row, balance_box, counts, words, numbers);
+        return joint_guided::enter(
+            file,
+            plan,
+            column,
+            row,
+            balance_box,
+            counts,
+            words,
+            histogram,
+        );
     }
-    table::visit(
+    joint_table::visit(
         file,
         plan,
         weights,
@@ -74,14 +80,14 @@ pub fn slide(
     balance_box: &mut [i16; 256],
     counts: &mut [u16],
     words: &mut [u64],
-    numbers: &mut [u32],
+    histogram: &mut [u32],
 ) -> Visit
     requires { ⌜ (Held (now file) plan (from .column) (from .row) (from .cut .0) (now counts) (now words) (now «balance_box»))
         × (Adjacent plan (from .column) (from .row) column row)
-        × (Carried (frameOf (now file)) (from .column) (from .row) (from .cut .0) (from .running .sums) (from .running .below) (now numbers)) ⌝ }
+        × (GuidedCarried (frameOf (now file)) (from .column) (from .row) (from .cut .0) (from .running .sums) (from .running .below) (now histogram)) ⌝ }
     requires { ⌜ (WeightRows plan (now weights)) × (Within plan from) ⌝ }
     ensures { λ r. ⌜ JointVisited (frameOf (now (file .entry))) (arrive (frameOf (now (file .entry))) column row (from .cut .0) (from .shifts)) r
-        (now (counts .entry)) (now (words .entry)) (now (counts .exit)) (now (words .exit)) (now («balance_box» .exit)) (now (numbers .exit)) ⌝ }
+        (now (counts .entry)) (now (words .entry)) (now (counts .exit)) (now (words .exit)) (now («balance_box» .exit)) (now (histogram .exit)) ⌝ }
 {
     let step = line::step_to(plan, from.column, from.row, column, row);
     let mut entering = [0u16; 62];
@@ -103,8 +109,8 @@ pub fn slide(
         let known = running.sums;
         let below = running.below;
         let a = sums::moved(known, &entering[0..n], &leaving[0..k]);
-        histogram::exchange(&entering[0..n], &leaving[0..k], plan.levels, numbers);
-        return guided::arrive(
+        histogram::exchange(&entering[0..n], &leaving[0..k], plan.levels, histogram);
+        return joint_guided::arrive(
             file,
             plan,
             a,
@@ -118,10 +124,10 @@ pub fn slide(
             balance_box,
             counts,
             words,
-            numbers,
+            histogram,
         );
     }
-    table::visit(
+    joint_table::visit(
         file,
         plan,
         weights,

@@ -133,7 +133,10 @@ pub table-built : {b : List ℕ} {z : Plan} → Planned b z → z .weights ≡ 0
 table-built {b} {z} k n f g =
     subst (λ (q : Plan). q .weights ≡ 0 → table (frameOf b) f g ≡ builtIn f g) (sym (k .plan)) (own-built b f g (k .accepts)) n
 
--- ---- a plan's kind is 1 or 2
+-- ---- a plan's kind is the frame's, 1 or 2
+pub kind-of : {b : List ℕ} {z : Plan} → Planned b z → {k : ℕ} → z .kind ≡ k → frameOf b .set .kind ≡ k
+kind-of pl e = sym (facts pl .kind) ∙ e
+
 pub kind-table : {b : List ℕ} {z : Plan} → Planned b z → (z .kind ≡ 2 → ⊥) → z .kind ≡ 1
 kind-table {b} {z} pl n = go (facts pl .limits .sound .kinds)
   where

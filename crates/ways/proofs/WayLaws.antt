@@ -24,7 +24,7 @@ use Rattle.spec.specs.Calls.{roomOf, countsOf, wordsOf, NumbersOf, boxOf, zeros
 use Rattle.spec.proofs.First.{length-tabulate}
 use Rattle.spec.proofs.Plans.{facts}
 use Rattle.joint.specs.Window.{Fresh, Held}
-use Rattle.joint_visit.specs.Arrive as joint
+use Rattle.joint_visit.specs.Visit as joint
 use Rattle.columns.proofs.ContentLaws.{length-columns}
 use Rattle.chain.specs.Moves.{Listed}
 use Rattle.visit.specs.declared.Visit.{Visit}
@@ -105,7 +105,7 @@ module _ (way : Way) {b : List ℕ} {z : Plan} (k : Planned b z) (cs ws ns : Lis
   module _ (hs : List ℕ) (d : List ℤ) (v : Visit) where
     pub joint-at : way ≡ Joint → AtWindow way b (stores cs ws ns) hs d v → Within z v
         →
-        Held b z (v .column) (v .row) (v .cut .0) cs ws d × joint.Carried (frameOf b) (v .column) (v .row) (v .cut .0) (v .running .sums)
+        Held b z (v .column) (v .row) (v .cut .0) cs ws d × joint.GuidedCarried (frameOf b) (v .column) (v .row) (v .cut .0) (v .running .sums)
         (v .running .below) hs
     unfolding roomOf countsOf wordsOf boxOf Carried
     joint-at e h w =

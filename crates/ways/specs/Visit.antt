@@ -14,7 +14,7 @@ use Rattle.spec.specs.declared.Way.{Way}
 use Rattle.spec.specs.declared.Way.the-variants.{Joint, Columns, Chain}
 use Rattle.spec.specs.Frame.{Frame, planOf, frameOf}
 use Rattle.window.specs.Sums.{SumsAt}
-use Rattle.joint_visit.specs.Arrive as joint
+use Rattle.joint_visit.specs.Visit as joint
 use Rattle.levels.specs.Tally.{BelowAt}
 use Rattle.chain.specs.Moves.{Listed}
 use Rattle.spec.specs.Walk.{State}
@@ -63,7 +63,7 @@ pub record Kept (way : Way) (settings : Settings) (before after : Stores) : Type
 -- what the way carries to the next window of a file, beside the window's sums: columns the tally up to the cut point, joint that tally and the
 -- histogram of levels, the chain its free list in the numbers
 unfoldable pub Carried : Way → List ℕ → ℕ → ℕ → ℕ → (numbers histogram : List ℕ) → Running → Type 0
-Carried Joint b s t c numbers histogram r = joint.Carried (frameOf b) s t c (r .sums) (r .below) histogram
+Carried Joint b s t c numbers histogram r = joint.GuidedCarried (frameOf b) s t c (r .sums) (r .below) histogram
 Carried Columns b s t c numbers histogram r = SumsAt (frameOf b) s t (r .sums) × BelowAt (frameOf b) s t (c + 1) (r .below)
 Carried Chain b s t c numbers histogram r = SumsAt (frameOf b) s t (r .sums) × Listed b (planOf b) s t (r .free) numbers
 

@@ -2,7 +2,7 @@
 use native.Mathlib.Omega.{arith}
 use borrow.Author.Needs.{needs}
 use Rattle.visit.proofs.StartLaws.{levels-some}
-use Rattle.spec.proofs.Plans.{kind-table}
+use Rattle.spec.proofs.Plans.{kind-of, kind-table}
 use Rattle.joint_visit.proofs.VisitLaws.{counted-of, carried-none, joint-visited}
 use Rattle.joint_visit.proofs.enter.Statement.{statement}
 use Rattle.joint_visit.proofs.enter.Tie as tie
@@ -38,7 +38,7 @@ returns : tie.Need-returns
 returns c =
     let r = c .before .before in
     let k = (built (r .before .before .before .before .before .before)) .build .ensures in
-    let v = r .enter .ensures .same in
+    let v = r .enter .ensures in
     joint-visited _ _ _ _ _ _ _ _ _ _ _ _ (v .state) (record { counts = k .counts; words = k .words; box = v .box })
     (record { guided = λ _. r .enter .ensures .guided })
 
@@ -65,7 +65,7 @@ returns-2 c =
     let f = (begin b) .pre .0 .0 .planned in
     let k = b .build .ensures in
     let v = c .visit .ensures in
-    joint-visited _ _ _ _ _ _ _ _ _ _ _ _ (v .state) (record { counts = k .counts; words = k .words; box = v .box })
+    joint-visited _ _ _ _ _ _ _ _ _ _ _ _ (v .0) (record { counts = k .counts; words = k .words; box = v .1 })
     (carried-none f (kind-table f (i .if1 .left)))
 
 pub enter-spec : {M : Type 1} → statement M

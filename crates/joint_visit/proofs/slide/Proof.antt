@@ -13,8 +13,7 @@ use Rattle.joint.specs.Window.{JointAt}
 use Rattle.joint.proofs.PixelLaws as joint
 use Rattle.histogram.proofs.PixelLaws as histogram
 use Rattle.levels.proofs.ListTallyLaws.{carries-step}
-use Rattle.spec.proofs.Plans.{kind-table}
-use Rattle.joint_visit.proofs.ArriveLaws.{kind-is}
+use Rattle.spec.proofs.Plans.{kind-of, kind-table}
 use Rattle.joint_visit.proofs.VisitLaws.{counted-of, carried-none, joint-visited}
 use Rattle.joint_visit.proofs.slide.Statement.{statement}
 use Rattle.joint_visit.proofs.slide.Tie as tie
@@ -122,7 +121,7 @@ moved-requires c κs =
     let d = step (first r) in
     let at = begin d in
     let pl = at .pre .0 .0 .planned in
-    let was = at .pre .0 .2 .guided (kind-is pl (c .before .before .before .before .before .before .before .if1 .taken)) in (
+    let was = at .pre .0 .2 .guided (kind-of pl (c .before .before .before .before .before .before .before .if1 .taken)) in (
       (below-most pl (enters r .below), below-most pl (leaves r .below)),
       movable pl (at .pre .0 .1) (d .step-to .ensures) (enters r) (leaves r)
           (was .sums),
@@ -161,7 +160,7 @@ exchange-requires-2 c κs =
     let pl = at .pre .0 .0 .planned in
     let was =
     at .pre .0 .2 .guided
-    (kind-is pl (c .before .before .before .before .before .before .before .before .before .before .before .before .before .if1 .taken)) in
+    (kind-of pl (c .before .before .before .before .before .before .before .before .before .before .before .before .before .if1 .taken)) in
     histogram.exchange-asks pl (at .pre .0 .1) (d .step-to .ensures) (enters r) (leaves r) (was .histogram)
 
 sub-arrive : tie.Need-sub-arrive
@@ -202,7 +201,7 @@ arrive-requires c κs =
     let adj = at .pre .0 .1 in
     let ed = d .step-to .ensures in
     let q = both-in adj in
-    let was = at .pre .0 .2 .guided (kind-is pl (i .if1 .taken)) in (
+    let was = at .pre .0 .2 .guided (kind-of pl (i .if1 .taken)) in (
       (
         counted-of pl (q .2) (q .3) (moved x),
         i .if1 .taken,
@@ -233,7 +232,7 @@ returns c =
     moved
     (c .before .before .before .before .before .before .before .before .before .before .before .before .before .before .before .before .before
     .before .before .before .before .before .before .before .before .before .before .before .before .before .before) in
-    let v = c .arrive .ensures .same in
+    let v = c .arrive .ensures in
     joint-visited _ _ _ _ _ _ _ _ _ _ _ _ (v .state) (record { counts = k .counts; words = k .words; box = v .box })
     (record { guided = λ _. c .arrive .ensures .guided })
 
@@ -259,7 +258,7 @@ returns-2 c =
     let pl = begin (step (first (both x))) .pre .0 .0 .planned in
     let k = moved x in
     let v = c .visit .ensures in
-    joint-visited _ _ _ _ _ _ _ _ _ _ _ _ (v .state) (record { counts = k .counts; words = k .words; box = v .box })
+    joint-visited _ _ _ _ _ _ _ _ _ _ _ _ (v .0) (record { counts = k .counts; words = k .words; box = v .1 })
     (carried-none pl (kind-table pl (c .before .before .before .before .if1 .left)))
 
 pub slide-spec : {M : Type 1} → statement M

@@ -1,4 +1,4 @@
--- `table::arrive` meets its contract: the centre's guide chooses the row, and by the row the counts give the frame's answer. Assumes nothing.
+-- `arrive` meets its contract: the centre's guide chooses the row, and by the row the counts give the frame's answer. Assumes nothing.
 use borrow.Author.Needs.{needs}
 use mathlib.Core.Path.{_≡_, refl, _∙_}
 use native.Mathlib.Omega.{arith}
@@ -9,9 +9,9 @@ use Rattle.window.proofs.PixelLaws.{place-small}
 use Rattle.joint_search.specs.Window.{RowWeighs}
 use Rattle.joint_search.proofs.WindowLaws.{searchable, row-fits, box-of}
 use Rattle.joint_rows.proofs.RowLaws.{centre-place, centre-low, centre-small, mirror-weighs, row-weighs}
-use Rattle.joint_visit.proofs.ArriveLaws.{arrives-of}
-use Rattle.joint_visit.proofs.table.arrive.Statement.{statement}
-use Rattle.joint_visit.proofs.table.arrive.Tie as tie
+use Rattle.joint_table.proofs.ArriveLaws.{arrives-of}
+use Rattle.joint_table.proofs.arrive.Statement.{statement}
+use Rattle.joint_table.proofs.arrive.Tie as tie
 
 -- the places passed: the centre's guide read; and the start
 abbrev begin : tie.After-struct-known → tie.Start

@@ -1,9 +1,9 @@
-// Kind 1: a window's part in a walk, its stores and its box being made. A window without weight answers its centre's own level and keeps cut point
+// Way 1, joint, in kind 1: a window's part in a walk, its stores and its box being made. A window without weight answers its centre's own level and keeps cut point
 // and shifts.
 use chain_nodes::FreeList;
 use joint_rows::rows;
 use joint_search::Sizes;
-use joint_search::arrive;
+use joint_search::arrive as search;
 use joint_search::arrive::Arrival;
 use level_search::Tally;
 use spec::Answer;
@@ -17,9 +17,11 @@ ghost use mathlib.Core.Path.{_≡_};
 ghost use Prim.Native.Nat.{_<_, _≤_};
 ghost use Rattle.spec.specs.Frame.{frameOf};
 ghost use Rattle.spec.specs.Joint.{balanceBox};
+ghost use Rattle.spec.specs.Walk.{arrive};
 ghost use Rattle.joint_search.specs.Window.{Counted};
 ghost use Rattle.joint_rows.specs.Rows.{WeightRows};
-ghost use Rattle.joint_visit.specs.Arrive.{Arrives, AnswersAt};
+ghost use Rattle.visit.specs.Visit.{stateOf};
+ghost use Rattle.joint_table.specs.Arrive.{Arrives};
 
 // By the row of the centre's guide: a part of the built-in weights, or the file's own.
 pub fn arrive(
@@ -46,7 +48,7 @@ pub fn arrive(
     if plan.weights == 0 {
         let from = 255 - (centre.0 as usize);
         let end = from + 256;
-        return arrive::arrive(
+        return search::arrive(
             sizes,
             &weights[from..end],
             cut,
@@ -57,7 +59,7 @@ pub fn arrive(
         );
     }
     let row = rows::own_row(file, plan, centre);
-    arrive::arrive(sizes, &row, cut, shifts, balance_box, counts, words)
+    search::arrive(sizes, &row, cut, shifts, balance_box, counts, words)
 }
 
 // The visit. Nothing runs along.
@@ -75,7 +77,8 @@ pub fn visit(
 ) -> Visit
     requires { ⌜ (Counted (now file) plan column row (now counts) (now words)) × (WeightRows plan (now weights)) × (plan .kind ≡ 1) ⌝ }
     requires { ⌜ (cut .0 < plan .levels) × (shifts ≤ 4294967296) × (now «balance_box» ≡ balanceBox (frameOf (now file)) column row (cut .0)) ⌝ }
-    ensures { λ r. ⌜ AnswersAt (frameOf (now (file .entry))) column row (cut .0) shifts r (now («balance_box» .exit)) ⌝ }
+    ensures { λ r. ⌜ (stateOf r ≡ arrive (frameOf (now (file .entry))) column row (cut .0) shifts)
+        × (now («balance_box» .exit) ≡ balanceBox (frameOf (now (file .entry))) column row (r .cut .0)) ⌝ }
 {
     let sums = Sums {
         count: 0,

@@ -14,7 +14,7 @@ use Rattle.spec.specs.Weight.{monotone}
 use Rattle.spec.specs.Median.{weightless, median}
 use Rattle.spec.specs.Joint.{balanceBox}
 use Rattle.spec.specs.Walk.{State, arrive}
-use Rattle.spec.proofs.Plans.{facts}
+use Rattle.spec.proofs.Plans.{kind-of}
 use Rattle.spec.proofs.Totals.{median-low}
 use Rattle.spec.proofs.Walks.{arrive-weightless, arrive-full}
 use Rattle.joint_search.specs.declared.arrive.Arrival.{Arrival}
@@ -22,23 +22,16 @@ use Rattle.joint_search.specs.Search.{boxIn}
 use Rattle.joint_search.specs.Arrive.{hollowAt, answeredAt, arrivalIn}
 use Rattle.joint_search.specs.Window.{Counted, RowWeighs, sizesOf}
 use Rattle.joint_search.proofs.ArriveLaws.{arrival-hollow, arrival-answered}
-use Rattle.joint_search.proofs.WindowLaws.{spot, levels-eq, box-of, weightless-is, median-is}
-use Rattle.joint_visit.specs.Arrive.{Arrives}
+use Rattle.joint_search.proofs.WindowLaws.{spot, levels-eq, box-at, weightless-is, median-is}
+use Rattle.joint_table.specs.Arrive.{Arrives}
 
 -- ---- by the counts of a window, in kind 1, it is the frame's
-pub kind-is : {b : List ℕ} {plan : Plan} → Planned b plan → {k : ℕ} → plan .kind ≡ k → frameOf b .set .kind ≡ k
-kind-is pl e = sym (facts pl .kind) ∙ e
-
 table-monotone : {b : List ℕ} {plan : Plan} → Planned b plan → (s t : ℕ) → plan .kind ≡ 1 → monotone (frameOf b) s t ≡ true
 unfolding monotone
-table-monotone {b} pl s t e = rw (eq-eqb (frameOf b .set .kind) 1 (kind-is pl e)) refl
+table-monotone {b} pl s t e = rw (eq-eqb (frameOf b .set .kind) 1 (kind-of pl e)) refl
 
 module _ {b : List ℕ} {plan : Plan} {s t : ℕ} {cs ws row : List ℕ} (st : Counted b plan s t cs ws) (weighs : RowWeighs (frameOf b) s t row)
     (one : plan .kind ≡ 1) where
-  -- the box at a cut point k of the plan
-  box-at : {x k : ℕ} {bx : List ℤ} → bx ≡ boxIn (sizesOf plan) cs x → x ≡ k → k < plan .levels → bx ≡ balanceBox (frameOf b) s t x
-  box-at {k = k} eb e l = eb ∙ ap (boxIn (sizesOf plan) cs) e ∙ sym (box-of st k l) ∙ ap (balanceBox (frameOf b) s t) (sym e)
-
   module _ {c n : ℕ} {r : Arrival} {bx : List ℤ} (h : c < plan .levels) (er : r ≡ arrivalIn (sizesOf plan) cs row c n)
       (eb : bx ≡ boxIn (sizesOf plan) cs (r .cut .0)) where
     hollow-case : weightless (frameOf b) s t ≡ true → Arrives (frameOf b) s t c n r bx
@@ -50,7 +43,7 @@ module _ {b : List ℕ} {plan : Plan} {s t : ℕ} {cs ws row : List ℕ} (st : C
           hollow = ap (λ (x : Arrival). x .hollow) e ∙ sym z;
           cut = k ∙ ap (λ (x : State). x .cut) q;
           shifts = ap (λ (x : Arrival). x .shifts) e ∙ ap (λ (x : State). x .shifts) q;
-          box = box-at eb k h;
+          box = box-at st eb k h ∙ ap (balanceBox (frameOf b) s t) (sym k);
         }
 
     answered-case : weightless (frameOf b) s t ≡ false → Arrives (frameOf b) s t c n r bx
@@ -66,7 +59,7 @@ module _ {b : List ℕ} {plan : Plan} {s t : ℕ} {cs ws row : List ℕ} (st : C
           shifts =
               ap (λ (x : Arrival). x .shifts) e ∙ ap (λ (u : Bool). n + (if u then distance m c else m))
               (sym (table-monotone (st .planned) s t one)) ∙ ap (λ (x : State). x .shifts) q;
-          box = box-at eb k (rw (levels-eq st) (median-low (spot st)));
+          box = box-at st eb k (rw (levels-eq st) (median-low (spot st))) ∙ ap (balanceBox (frameOf b) s t) (sym k);
         }
 
     pub arrives-of : Arrives (frameOf b) s t c n r bx

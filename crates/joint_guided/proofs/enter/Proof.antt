@@ -6,9 +6,9 @@ use Rattle.spec.proofs.Plans.{pixel-of}
 use Rattle.levels.proofs.AnswerLaws.{level-cells, gathered}
 use Rattle.levels.proofs.ListTallyLaws.{carries-still}
 use Rattle.visit.proofs.StartLaws.{levels-some}
-use Rattle.joint_visit.proofs.VisitLaws.{numbers-long, profiled}
-use Rattle.joint_visit.proofs.guided.enter.Statement.{statement}
-use Rattle.joint_visit.proofs.guided.enter.Tie as tie
+use Rattle.joint_guided.proofs.GuidedLaws.{numbers-long, profiled}
+use Rattle.joint_guided.proofs.enter.Statement.{statement}
+use Rattle.joint_guided.proofs.enter.Tie as tie
 
 abbrev begin : tie.After-start → tie.Start
 begin h = h .before .before .before .before .before .before

@@ -1,4 +1,4 @@
--- `table::visit` meets its contract: the centre's own level where nothing weighs, else the new cut point. Assumes nothing.
+-- `visit` meets its contract: the centre's own level where nothing weighs, else the new cut point. Assumes nothing.
 use borrow.Author.Needs.{needs}
 use mathlib.Core.Path.{_≡_, sym, _∙_}
 use mathlib.Core.Bool.{true, false}
@@ -10,9 +10,9 @@ use Rattle.window.proofs.PixelLaws.{place-small}
 use Rattle.joint_rows.proofs.RowLaws.{centre-place}
 use Rattle.visit.proofs.Laws.{state-is}
 use Rattle.visit.specs.declared.Running.{Running}
-use Rattle.joint_visit.proofs.ArriveLaws.{own-answer, cut-answer}
-use Rattle.joint_visit.proofs.table.visit.Statement.{statement}
-use Rattle.joint_visit.proofs.table.visit.Tie as tie
+use Rattle.joint_table.proofs.ArriveLaws.{own-answer, cut-answer}
+use Rattle.joint_table.proofs.visit.Statement.{statement}
+use Rattle.joint_table.proofs.visit.Tie as tie
 
 abbrev start : tie.After-arrive → tie.Start
 start r = r .before .before .before .before .before .before
@@ -52,12 +52,11 @@ returns c =
     let t = at .args .row in
     let v = r .arrive .ensures in
     let z : weightless p s t ≡ true = sym (v .hollow) ∙ d .before .if1 .taken in
-    let own = c .level-at .ensures ∙ facts (at .pre .0 .0 .planned) .level-at s t ∙ own-answer p s t (at .args .cut .0) (at .args .shifts) z in
-    record {
-      state = state-is p s t (at .args .cut .0) (at .args .shifts) (r .arrive .result .cut) (r .arrive .result .shifts) (c .level-at .result) none
-          (v .cut) (v .shifts) own;
-      box = v .box;
-    }
+    let own = c .level-at .ensures ∙ facts (at .pre .0 .0 .planned) .level-at s t ∙ own-answer p s t (at .args .cut .0) (at .args .shifts) z in (
+      state-is p s t (at .args .cut .0) (at .args .shifts) (r .arrive .result .cut) (r .arrive .result .shifts) (c .level-at .result) none (v .cut)
+          (v .shifts) own,
+      v .box,
+    )
 
 answered-requires : tie.Need-answered-requires
 answered-requires c κs = search needs
@@ -72,12 +71,11 @@ returns-2 c =
     let t = at .args .row in
     let v = r .arrive .ensures in
     let z : weightless p s t ≡ false = sym (v .hollow) ∙ e .if1 .left in
-    rw (c .answered .ensures)
-    (record {
-      state = state-is p s t (at .args .cut .0) (at .args .shifts) (r .arrive .result .cut) (r .arrive .result .shifts) (r .arrive .result .cut) none
-          (v .cut) (v .shifts) (v .cut ∙ cut-answer p s t (at .args .cut .0) (at .args .shifts) z);
-      box = v .box;
-    })
+    rw (c .answered .ensures) (
+      state-is p s t (at .args .cut .0) (at .args .shifts) (r .arrive .result .cut) (r .arrive .result .shifts) (r .arrive .result .cut) none (v .cut)
+          (v .shifts) (v .cut ∙ cut-answer p s t (at .args .cut .0) (at .args .shifts) z),
+      v .box,
+    )
 
 pub visit-spec : {M : Type 1} → statement M
 visit-spec =

@@ -3,12 +3,12 @@ use mathlib.Core.Path.{refl}
 use native.Mathlib.Omega.{arith}
 use borrow.Author.Needs.{needs}
 use Prim.Native.Nat.{_≤_}
-use Rattle.joint_visit.proofs.VisitLaws.{first-part, second-part, counts-long}
-use Rattle.joint_visit.proofs.guided.tally_below.Statement.{statement}
-use Rattle.joint_visit.proofs.guided.tally_below.Tie as tie
+use Rattle.joint_guided.proofs.GuidedLaws.{first-part, second-part, counts-long}
+use Rattle.joint_guided.proofs.tally_below.Statement.{statement}
+use Rattle.joint_guided.proofs.tally_below.Tie as tie
 
 few : (at : tie.Start) → at .args .levels ≤ 1024
-few at = omega (arith, counts-long (at .args .levels) (at .args .numbers .now) (at .pre .0), at .pre .1 .levels)
+few at = omega (arith, counts-long (at .args .levels) (at .args .histogram .now) (at .pre .0), at .pre .1 .levels)
 
 add-last : tie.Need-add-last
 add-last c = omega (arith, few (c .before))
@@ -38,14 +38,14 @@ gather-requires : tie.Need-gather-requires
 gather-requires c κs =
     let at = c .before .before .before in
     let l = at .args .levels in
-    let ns = at .args .numbers .now in
+    let ns = at .args .histogram .now in
     rw (first-part l ns, second-part l _ ns refl) (at .pre .1, omega (arith, counts-long l ns (at .pre .0), at .pre .2))
 
 returns : tie.Need-returns
 returns c =
     let at = c .before .before .before .before in
     let l = at .args .levels in
-    let ns = at .args .numbers .now in
+    let ns = at .args .histogram .now in
     rw (first-part l ns, second-part l _ ns refl) at (c .gather .ensures)
 
 pub tally-below-spec : {M : Type 1} → statement M

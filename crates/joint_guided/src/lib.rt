@@ -1,5 +1,5 @@
-// Kind 2: a window's part in a walk. Its weights can be negative, so that most windows are searched from level 0: the search goes by the window's
-// histogram of levels, two numbers a level, and the box is moved to the answer once that is known.
+// Way 1, joint, in kind 2: a window's part in a walk. Its weights can be negative, so that most windows are searched from level 0: the search goes by
+// the window's histogram of levels, two numbers a level, and the box is moved to the answer once that is known.
 use chain_nodes::FreeList;
 use joint_search::Sizes;
 use joint_search::find;
@@ -24,16 +24,16 @@ ghost use Rattle.level_search.specs.Search.{LevelCells, TallyTo};
 ghost use Rattle.levels.specs.ListTally.{Carries};
 ghost use Rattle.histogram.specs.Histogram.{Blank, Histogram};
 ghost use Rattle.joint_search.specs.Window.{Counted};
-ghost use Rattle.joint_visit.specs.Arrive.{countsIn, guideSumsIn, Answers};
+ghost use Rattle.joint_guided.specs.Guided.{countsIn, guideSumsIn, GuidedVisited};
 
 // The tally of the levels below the end, by a histogram: the counts of its levels, and behind them the guide sums.
-pub fn tally_below(numbers: &[u32], levels: usize, end: usize) -> Tally
-    requires { ⌜ (levels + levels ≤ length (now numbers)) × (LevelCells (countsIn levels (now numbers)) (guideSumsIn levels (now numbers)))
+pub fn tally_below(histogram: &[u32], levels: usize, end: usize) -> Tally
+    requires { ⌜ (levels + levels ≤ length (now histogram)) × (LevelCells (countsIn levels (now histogram)) (guideSumsIn levels (now histogram)))
         × (end ≤ levels) ⌝ }
-    ensures { λ a. ⌜ TallyTo (countsIn levels (now (numbers .entry))) (guideSumsIn levels (now (numbers .entry))) end a ⌝ }
+    ensures { λ a. ⌜ TallyTo (countsIn levels (now (histogram .entry))) (guideSumsIn levels (now (histogram .entry))) end a ⌝ }
 {
     let last = levels + levels;
-    search::gather(&numbers[0..levels], &numbers[levels..last], end)
+    search::gather(&histogram[0..levels], &histogram[levels..last], end)
 }
 
 // The window's answer, and the box moved to it; before is the tally of the window that the two lists lead from. Only a monotone window needs it, and
@@ -52,12 +52,12 @@ pub fn arrive(
     balance_box: &mut [i16; 256],
     counts: &[u16],
     words: &[u64],
-    numbers: &[u32],
+    histogram: &[u32],
 ) -> Visit
-    requires { ⌜ (Counted (now file) plan s t (now counts) (now words)) × (plan .kind ≡ 2) × (Histogram (frameOf (now file)) s t (now numbers)) ⌝ }
+    requires { ⌜ (Counted (now file) plan s t (now counts) (now words)) × (plan .kind ≡ 2) × (Histogram (frameOf (now file)) s t (now histogram)) ⌝ }
     requires { ⌜ (SumsAt (frameOf (now file)) s t a) × (Carries (frameOf (now file)) (now entering) (now leaving) s t (cut .0 + 1) before) ⌝ }
     requires { ⌜ (cut .0 < plan .levels) × (shifts ≤ 4294967296) × (now «balance_box» ≡ balanceBox (frameOf (now file)) s t (cut .0)) ⌝ }
-    ensures { λ r. ⌜ Answers (frameOf (now (file .entry))) s t (cut .0) shifts r (now («balance_box» .exit)) (now (numbers .entry)) ⌝ }
+    ensures { λ r. ⌜ GuidedVisited (frameOf (now (file .entry))) s t (cut .0) shifts r (now («balance_box» .exit)) (now (histogram .entry)) ⌝ }
 {
     let l = plan.levels;
     let last = l + l;
@@ -65,8 +65,8 @@ pub fn arrive(
     let monotone = coefficients::monotone(plan, coefficients);
     let below = tally::carried_where(monotone, before, entering, leaving, cut.0 as usize + 1);
     let r = answer::answer(
-        &numbers[0..l],
-        &numbers[l..last],
+        &histogram[0..l],
+        &histogram[l..last],
         coefficients,
         plan.guides,
         monotone,
@@ -99,15 +99,15 @@ pub fn enter(
     balance_box: &mut [i16; 256],
     counts: &[u16],
     words: &[u64],
-    numbers: &mut [u32],
+    histogram: &mut [u32],
 ) -> Visit
-    requires { ⌜ (Counted (now file) plan s t (now counts) (now words)) × (plan .kind ≡ 2) × (Blank (plan .levels) (now numbers)) ⌝ }
+    requires { ⌜ (Counted (now file) plan s t (now counts) (now words)) × (plan .kind ≡ 2) × (Blank (plan .levels) (now histogram)) ⌝ }
     requires { ⌜ now «balance_box» ≡ balanceBox (frameOf (now file)) s t 0 ⌝ }
-    ensures { λ r. ⌜ Answers (frameOf (now (file .entry))) s t 0 0 r (now («balance_box» .exit)) (now (numbers .exit)) ⌝ }
+    ensures { λ r. ⌜ GuidedVisited (frameOf (now (file .entry))) s t 0 0 r (now («balance_box» .exit)) (now (histogram .exit)) ⌝ }
 {
-    histogram::start(file, plan, s, t, numbers);
+    histogram::start(file, plan, s, t, histogram);
     let a = sums::start(file, plan, s, t);
-    let below = tally_below(numbers, plan.levels, 1);
+    let below = tally_below(histogram, plan.levels, 1);
     let entering = [0u16; 2];
     let leaving = [0u16; 2];
     arrive(
@@ -124,6 +124,6 @@ pub fn enter(
         balance_box,
         counts,
         words,
-        numbers,
+        histogram,
     )
 }

@@ -8,13 +8,13 @@ use borrow.Author.Needs.{needs}
 use Rattle.spec.specs.Frame.{frameOf}
 use Rattle.levels.specs.Answer.{Answered}
 use Rattle.levels.proofs.AnswerLaws.{guides-range, answerable, answered-at}
-use Rattle.joint_search.proofs.WindowLaws.{searchable, box-of}
+use Rattle.joint_search.proofs.WindowLaws.{searchable, box-of, box-at}
 use Rattle.visit.proofs.Laws.{state-is}
-use Rattle.joint_visit.proofs.VisitLaws.{numbers-long, profiled-parts, answer-low, box-moved}
-use Rattle.joint_visit.proofs.guided.arrive.Statement.{statement}
-use Rattle.joint_visit.proofs.guided.arrive.Tie as tie
+use Rattle.joint_guided.proofs.GuidedLaws.{numbers-long, profiled-parts, answer-low}
+use Rattle.joint_guided.proofs.arrive.Statement.{statement}
+use Rattle.joint_guided.proofs.arrive.Tie as tie
 
-long : (at : tie.Start) → at .args .plan .levels + at .args .plan .levels ≤ length (at .args .numbers .now)
+long : (at : tie.Start) → at .args .plan .levels + at .args .plan .levels ≤ length (at .args .histogram .now)
 long at = numbers-long (at .pre .0 .0 .planned) (at .pre .0 .2) refl refl
 
 abbrev start : tie.After-carried-where → tie.Start
@@ -112,12 +112,10 @@ returns c =
     let f = r .answer .result in
     rw (c .answered .ensures)
     (record {
-      same = record {
-        state =
-            state-is (frameOf (at .args .file .now)) (at .args .s) (at .args .t) (at .args .cut .0) (at .args .shifts) (f .level) (f .shifts)
-            (f .level) (record { sums = at .args .a; below = f .tally; free = record { head = 0; count = 0 } }) (h .cut) (h .shifts) (h .answer);
-        box = box-moved k _ (f .level .0) (m .move-to .ensures) (omega arith) (answer-low (k .planned) (k .column) (k .row) (at .pre .0 .1) h);
-      };
+      state =
+          state-is (frameOf (at .args .file .now)) (at .args .s) (at .args .t) (at .args .cut .0) (at .args .shifts) (f .level) (f .shifts)
+          (f .level) (record { sums = at .args .a; below = f .tally; free = record { head = 0; count = 0 } }) (h .cut) (h .shifts) (h .answer);
+      box = box-at k (m .move-to .ensures) (omega arith) (answer-low (k .planned) (k .column) (k .row) (at .pre .0 .1) h);
       guided = record { sums = at .pre .1 .0 .0; below = h .below; histogram = at .pre .0 .2 };
     })
 

@@ -1,0 +1,69 @@
+-- Laws of kind 2's visit: the histogram as the search reads it, and the answer's place.
+-- Assumes nothing.
+use mathlib.Core.Path.{_≡_, refl, sym, ap, _∙_}
+use mathlib.Core.List.{List}
+use Prim.Native.Nat.{ℕ, _+_, _-_, _≤_, _<_}
+use native.Mathlib.Nat.{zero-add}
+use native.Mathlib.Omega.{arith}
+use lib.ListN.{length, getD, take, drop, length-drop}
+use lib.Seq.{getD-take, getD-drop, length-take-le}
+use Rattle.spec.specs.declared.Plan.{Plan}
+use Rattle.spec.specs.Frame.{frameOf}
+use Rattle.spec.specs.Checks.{Planned}
+use Rattle.spec.specs.Median.{median}
+use Rattle.spec.specs.Walk.{arrive}
+use Rattle.spec.proofs.Plans.{facts, kind-of, pixel-of}
+use Rattle.spec.proofs.Totals.{median-low}
+use Rattle.spec.proofs.Climb.{guided-full}
+use Rattle.level_search.specs.declared.search.Found.{Found}
+use Rattle.levels.specs.Answer.{Profiled, Answered}
+use Rattle.histogram.specs.Histogram.{Histogram}
+use Rattle.histogram.proofs.Laws.{count-at, sum-at}
+use Rattle.joint_guided.specs.Guided.{countsIn, guideSumsIn}
+
+-- ---- a part of a list
+part-long : (xs : List ℕ) (i n : ℕ) → i + n ≤ length xs → length (take n (drop i xs)) ≡ n
+part-long xs i n h = length-take-le n (drop i xs) (rw length-drop (omega arith))
+
+part-cell : (xs : List ℕ) (i n k : ℕ) → k < n → getD (take n (drop i xs)) k 0 ≡ getD xs (i + k) 0
+part-cell xs i n k h = getD-take n (drop i xs) k 0 h ∙ getD-drop i xs k 0
+
+-- a histogram's two lists, as they are lent
+pub first-part : (l : ℕ) (ns : List ℕ) → take (l - 0) (drop 0 ns) ≡ countsIn l ns
+first-part l ns = let e : l - 0 ≡ l = omega arith in ap (λ (n : ℕ). take n ns) e
+
+pub second-part : (l last : ℕ) (ns : List ℕ) → last ≡ l + l → take (last - l) (drop l ns) ≡ guideSumsIn l ns
+second-part l last ns h = let e : last - l ≡ l = omega arith in ap (λ (n : ℕ). take n (drop l ns)) e
+
+pub counts-long : (l : ℕ) (ns : List ℕ) → l + l ≤ length ns → length (countsIn l ns) ≡ l
+counts-long l ns h = length-take-le l ns (omega arith)
+
+module _ {b : List ℕ} {z : Plan} (pl : Planned b z) where
+  -- ---- the histogram, as the search reads it
+  module _ {s t : ℕ} {ns : List ℕ} (v : Histogram (frameOf b) s t ns) {l last : ℕ} (el : l ≡ z .levels) (ea : last ≡ l + l) where
+    pub numbers-long : last ≤ length ns
+    numbers-long = omega (arith, v .long, facts pl .levels)
+
+    pub profiled : Profiled (frameOf b) s t (countsIn l ns) (guideSumsIn l ns)
+    profiled =
+        let f = facts pl in
+        rw el
+        (record {
+          count-long = part-long ns 0 (z .levels) (omega (arith, numbers-long)) ∙ f .levels;
+          sum-long = part-long ns (z .levels) (z .levels) (omega (arith, numbers-long)) ∙ f .levels;
+          count-cell = λ i h. part-cell ns 0 (z .levels) i (rw (f .levels) h) ∙ ap (λ (j : ℕ). getD ns j 0) (zero-add i) ∙ count-at v i h;
+          sum-cell = λ i h. part-cell ns (z .levels) (z .levels) i (rw (f .levels) h) ∙ ap (λ (j : ℕ). getD ns (j + i) 0) (f .levels) ∙ sum-at v i h;
+        })
+
+    -- as they are lent to a search
+    pub profiled-parts : Profiled (frameOf b) s t (take (l - 0) (drop 0 ns)) (take (last - l) (drop l ns))
+    profiled-parts = rw (first-part l ns, second-part l last ns ea) profiled
+
+  -- ---- kind 2: the answer is a level
+  module _ {s t c n : ℕ} (hs : s < z .width) (ht : t < z .height) (two : z .kind ≡ 2) {f : Found} (h : Answered (frameOf b) s t c n f) where
+    cut-is : arrive (frameOf b) s t c n .cut ≡ median (frameOf b) s t
+    unfolding arrive
+    cut-is = rw (guided-full (pixel-of pl hs ht) (kind-of pl two) .1) refl
+
+    pub answer-low : f .level .0 < z .levels
+    answer-low = omega (arith, h .cut, cut-is, median-low (pixel-of pl hs ht), facts pl .levels)
