@@ -59,15 +59,15 @@ part-arrive-end c =
     let g = read c in
     omega (arith, small g, start g .pre .0 .1 .mirror (c .before .if1 .taken) .long)
 
--- the part of the constants weighs the window
-built : (c : tie.After-struct-known3) → let at = start (read c) in let from = 255 - read c .guide-at .result .0 in
-    RowWeighs (frameOf (at .args .file .now)) (at .args .s) (at .args .t) (take (from + 256 - from) (drop from (at .args .weights .now)))
-built c =
+-- the part of the constants weighs the window, where it has all 256 of the row
+built : (c : tie.After-struct-known3) {end : ℕ} → let at = start (read c) in let from = 255 - read c .guide-at .result .0 in
+    end ≡ from + 256 → RowWeighs (frameOf (at .args .file .now)) (at .args .s) (at .args .t) (take (end - from) (drop from (at .args .weights .now)))
+built c e =
     let g = read c in
     let at = start g in
     let k = at .pre .0 .0 in
     mirror-weighs (k .planned) (k .column) (k .row) (g .guide-at .ensures) (at .pre .0 .2) (c .before .if1 .taken)
-    (at .pre .0 .1 .mirror (c .before .if1 .taken)) refl refl
+    (at .pre .0 .1 .mirror (c .before .if1 .taken)) refl e
 
 arrive-requires : tie.Need-arrive-requires
 arrive-requires c κs =
@@ -75,20 +75,20 @@ arrive-requires c κs =
     let at = start (read d) in
     let k = at .pre .0 .0 in
     let p = at .pre .1 in
-    ((searchable k, row-fits k (built d)), (p .0, p .1, p .2 ∙ box-of k (at .args .cut .0) (p .0)))
+    ((searchable k, row-fits k (built d (omega arith))), (p .0, p .1, p .2 ∙ box-of k (at .args .cut .0) (p .0)))
 
 returns : tie.Need-returns
 returns c =
     let d = c .before .before .before in
     let at = start (read d) in
-    arrives-of (at .pre .0 .0) (built d) (at .pre .0 .2) (at .pre .1 .0) (c .arrive .ensures .0) (c .arrive .ensures .1)
+    arrives-of (at .pre .0 .0) (built d (omega arith)) (at .pre .0 .2) (at .pre .1 .0) (c .arrive .ensures .0) (c .arrive .ensures .1)
 
 -- the file's own
 own-row-requires : tie.Need-own-row-requires
 own-row-requires c κs =
     let g = c .before .before in
     let k = start g .pre .0 .0 in
-    (k .planned, centre-low (k .planned) (k .column) (k .row) (g .guide-at .ensures), c .if1 .left)
+    (k .planned, omega (arith, centre-low (k .planned) (k .column) (k .row) (g .guide-at .ensures)), c .if1 .left)
 
 slice-aggregate-arrive : tie.Need-slice-aggregate-arrive
 slice-aggregate-arrive c = search needs

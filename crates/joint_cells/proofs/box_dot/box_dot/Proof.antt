@@ -61,7 +61,7 @@ loop-again c =
     let p = c .before in
     let t = p .before in
     let h = t .before in (
-      t .loop-test .taken,
+      omega (arith, t .loop-test .taken),
       more (h .loop .f) 32 (h .loop .dot) (first h (h .loop .f + 32) (t .loop-test .taken)) (h .loop .inv .1) (after h 32 (p .part .ensures))
           (c .add .ok) (c .add .ensures),
     )
