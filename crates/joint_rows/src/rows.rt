@@ -51,19 +51,18 @@ fn exchanged(v: u16) -> u16
     (v % 256) * 256 + v / 256
 }
 
-// The file's own row of a guide. In two turns, because each is then done many numbers at a time.
-pub fn own_row(file: &[u8], plan: Plan, f: Guide) -> [u16; 256]
-    requires { ⌜ (Planned (now file) plan) × (f .0 < plan .guides) × (plan .weights ≡ 0 → ⊥) ⌝ }
-    ensures { λ r. ⌜ TableRow (frameOf (now (file .entry))) (plan .guides) (f .0) r ⌝ }
+// The file's own row of a guide, into an array that is lent: by value it would be copied once more. In two turns, because each is then done many
+// numbers at a time.
+pub fn own_row(file: &[u8], plan: Plan, f: Guide, row: &mut [u16; 256])
+    requires { ⌜ (Planned (now file) plan) × (f .0 < plan .guides) × (plan .weights ≡ 0 → ⊥) × (length (now row) ≡ 256) ⌝ }
+    ensures { λ _. ⌜ TableRow (frameOf (now (file .entry))) (plan .guides) (f .0) (now (row .exit)) ⌝ }
 {
     let m = plan.guides;
     let first = plan.table + 2 * ((f.0 as usize) * m);
-    let mut row = [0u16; 256];
-    copy_low_first(file, first, m, &mut row);
+    copy_low_first(file, first, m, row);
     let mut k = 0;
     while k < m {
         row[k] = exchanged(row[k]);
         k += 1;
     }
-    row
 }

@@ -58,7 +58,8 @@ pub fn arrive(
             words,
         );
     }
-    let row = rows::own_row(file, plan, centre);
+    let mut row = [0u16; 256];
+    rows::own_row(file, plan, centre, &mut row);
     search::arrive(sizes, &row, cut, shifts, balance_box, counts, words)
 }
 

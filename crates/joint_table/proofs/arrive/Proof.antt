@@ -3,7 +3,7 @@ use borrow.Author.Needs.{needs}
 use mathlib.Core.Path.{_≡_, refl, _∙_}
 use native.Mathlib.Omega.{arith}
 use Prim.Native.Nat.{ℕ, _+_, _-_, _≤_}
-use lib.ListN.{take, drop}
+use lib.ListN.{take, drop, length-replicate}
 use Rattle.spec.specs.Frame.{frameOf}
 use Rattle.window.proofs.PixelLaws.{place-small}
 use Rattle.joint_search.specs.Window.{RowWeighs}
@@ -86,17 +86,21 @@ returns c =
 -- the file's own
 own-row-requires : tie.Need-own-row-requires
 own-row-requires c κs =
-    let g = c .before .before in
-    let k = start g .pre .0 .0 in
-    (k .planned, omega (arith, centre-low (k .planned) (k .column) (k .row) (g .guide-at .ensures)), c .if1 .left)
+    let g = c .before .before .before in
+    let k = start g .pre .0 .0 in (
+      k .planned,
+      omega (arith, centre-low (k .planned) (k .column) (k .row) (g .guide-at .ensures)),
+      c .before .if1 .left,
+      length-replicate {A = ℕ} 256 0,
+    )
 
 slice-aggregate-arrive : tie.Need-slice-aggregate-arrive
 slice-aggregate-arrive c = search needs
 
-own : (o : tie.After-own-row) → let at = start (o .before .before .before) in
-    RowWeighs (frameOf (at .args .file .now)) (at .args .s) (at .args .t) (o .own-row .result)
+own : (o : tie.After-own-row) → let at = start (o .before .before .before .before) in
+    RowWeighs (frameOf (at .args .file .now)) (at .args .s) (at .args .t) (o .own-row .last .1 .1 .1 .0)
 own o =
-    let g = o .before .before .before in
+    let g = o .before .before .before .before in
     let at = start g in
     let k = at .pre .0 .0 in
     row-weighs (k .planned) (k .column) (k .row) (g .guide-at .ensures) (at .pre .0 .2) (o .own-row .ensures)
@@ -104,7 +108,7 @@ own o =
 arrive-requires-2 : tie.Need-arrive-requires-2
 arrive-requires-2 c κs =
     let o = c .before .before in
-    let at = start (o .before .before .before) in
+    let at = start (o .before .before .before .before) in
     let k = at .pre .0 .0 in
     let p = at .pre .1 in
     ((searchable k, row-fits k (own o)), (p .0, p .1, p .2 ∙ box-of k (at .args .cut .0) (p .0)))
@@ -112,7 +116,7 @@ arrive-requires-2 c κs =
 returns-2 : tie.Need-returns-2
 returns-2 c =
     let o = c .before .before .before in
-    let at = start (o .before .before .before) in
+    let at = start (o .before .before .before .before) in
     arrives-of (at .pre .0 .0) (own o) (at .pre .0 .2) (at .pre .1 .0) (c .arrive2 .ensures .0) (c .arrive2 .ensures .1)
 
 pub arrive-spec : {M : Type 1} → statement M

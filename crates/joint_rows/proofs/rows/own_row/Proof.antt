@@ -2,7 +2,7 @@
 use native.Mathlib.Omega.{arith}
 use borrow.Author.Needs.{needs}
 use Prim.Native.Nat.{ℕ, _+_, _*_, _-_, _≤_, _<_}
-use lib.ListN.{length, length-replicate}
+use lib.ListN.{length}
 use Rattle.spec.proofs.Plans.{facts}
 use Rattle.joint_rows.proofs.TableLaws.{guides-within, weight-place}
 use Rattle.joint_rows.proofs.RowLaws.{Exchanging, exchange-start, exchange-next, row-inside, row-exchanged}
@@ -10,10 +10,10 @@ use Rattle.joint_rows.proofs.rows.own_row.Statement.{statement}
 use Rattle.joint_rows.proofs.rows.own_row.Tie as tie
 
 abbrev Inv-loop : tie.InvT-loop
-Inv-loop file m first row₀ k₀ row k = (k ≤ m) × Exchanging file first m k row
+Inv-loop file row₀ m first k₀ row k = (k ≤ m) × Exchanging file first m k row
 
 abbrev μ-loop : tie.MeasureT-loop
-μ-loop file m first row₀ k₀ row k = m - k
+μ-loop file row₀ m first k₀ row k = m - k
 
 -- the row's place, small and in the file
 module _ (at : tie.Start Inv-loop μ-loop) where
@@ -25,6 +25,10 @@ module _ (at : tie.Start Inv-loop μ-loop) where
 
 abbrev begin : tie.At-loop Inv-loop μ-loop → tie.Start Inv-loop μ-loop
 begin h = h .before .before .before .before .before .before
+
+-- at most 256 guides
+few : (h : tie.At-loop Inv-loop μ-loop) → begin h .args .plan .guides ≤ 256
+few h = guides-within (begin h .pre .0) .1
 
 cast-first : tie.Need-cast-first Inv-loop μ-loop
 cast-first c = search needs
@@ -40,39 +44,37 @@ add-first c = let at = c .before .before .before in omega (arith, inside at, at 
 
 copy-low-first-requires : tie.Need-copy-low-first-requires Inv-loop μ-loop
 copy-low-first-requires c κs = let at =
-    c .before .before .before .before in (guides-within (at .pre .0) .1, omega (arith, inside at), length-replicate {A = ℕ} 256 0)
+    c .before .before .before .before in (guides-within (at .pre .0) .1, omega (arith, inside at), at .pre .3)
 
 loop-holds : tie.Need-loop-holds Inv-loop μ-loop
 loop-holds c = (omega arith, exchange-start (c .copy-low-first .ensures))
 
 mul-exchanged : tie.Need-mul-exchanged Inv-loop μ-loop
-mul-exchanged c = omega (arith, c .loop-test .taken, guides-within (begin (c .before) .pre .0) .1)
+mul-exchanged c = omega (arith, c .loop-test .taken, few (c .before))
 
-array-read-exchanged : tie.Need-array-read-exchanged Inv-loop μ-loop
-array-read-exchanged c = omega (arith, c .loop-test .taken, guides-within (begin (c .before) .pre .0) .1, c .before .loop .inv .1 .long)
+element-copy-out-exchanged : tie.Need-element-copy-out-exchanged Inv-loop μ-loop
+element-copy-out-exchanged c = omega (arith, c .loop-test .taken, few (c .before), c .before .loop .inv .1 .long)
 
 exchanged-requires : tie.Need-exchanged-requires Inv-loop μ-loop
 exchanged-requires c κs = search needs
 
 mul-row : tie.Need-mul-row Inv-loop μ-loop
-mul-row c = let t = c .before in omega (arith, t .loop-test .taken, guides-within (begin (t .before) .pre .0) .1)
+mul-row c = let t = c .before .before in omega (arith, t .loop-test .taken, few (t .before))
 
-array-write-row : tie.Need-array-write-row Inv-loop μ-loop
-array-write-row c = let t =
-    c .before in omega (arith, t .loop-test .taken, guides-within (begin (t .before) .pre .0) .1, t .before .loop .inv .1 .long)
+element-write-row : tie.Need-element-write-row Inv-loop μ-loop
+element-write-row c = let t = c .before .before in omega (arith, t .loop-test .taken, few (t .before), t .before .loop .inv .1 .long)
 
 add-k : tie.Need-add-k Inv-loop μ-loop
-add-k c = let t = c .before in omega (arith, t .loop-test .taken, guides-within (begin (t .before) .pre .0) .1)
+add-k c = let t = c .before .before in omega (arith, t .loop-test .taken, few (t .before))
 
 loop-less : tie.Need-loop-less Inv-loop μ-loop
-loop-less c = omega (arith, c .before .loop-test .taken)
+loop-less c = omega (arith, c .before .before .loop-test .taken)
 
 loop-again : tie.Need-loop-again Inv-loop μ-loop
 loop-again c =
-    let t = c .before in (
+    let t = c .before .before in (
       omega (arith, t .loop-test .taken),
-      exchange-next (guides-within (begin (t .before) .pre .0) .1) (t .loop-test .taken) (c .exchanged .ensures)
-          (t .before .loop .inv .1),
+      exchange-next (few (t .before)) (t .loop-test .taken) (c .exchanged .ensures) (t .before .loop .inv .1),
     )
 
 returns : tie.Need-returns Inv-loop μ-loop
@@ -94,10 +96,10 @@ own-row-spec =
     copy-low-first-requires
     loop-holds
     mul-exchanged
-    array-read-exchanged
+    element-copy-out-exchanged
     exchanged-requires
     mul-row
-    array-write-row
+    element-write-row
     add-k
     loop-less
     loop-again
