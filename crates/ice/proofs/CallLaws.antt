@@ -51,7 +51,7 @@ own-decides {b} {z} k own =
 
 -- ---- refused
 untouched : {v : Verdict} {r : Walked} (a : Stores) (out : List ℕ) → Zeroed v r → Untouched a a out out r
-untouched a out h = record { shifts = h .shifts; cut = h .cut; cells = h .cells; counts = refl; words = refl; numbers = refl; answers = refl }
+untouched a out h = record { shifts = h .shifts; cut = h .cut; balance-box = h .balance-box; counts = refl; words = refl; numbers = refl; answers = refl }
 
 module _ (v : Verdict) (r : Walked) (h : Zeroed v r) (f : fires (numbered v) ≡ true) (a : Stores) (out : List ℕ) where
   pub walks-refused : (b : List ℕ) (way s t : ℕ) (ms : List ℕ) → numbered v ≡ walkOutcome b way s t (length ms) (lent a) (length out) →
@@ -73,7 +73,7 @@ ended {way} {p} {x} {a} {z} due after h e =
     record {
       shifts = h .shifts;
       cut = h .cut;
-      cells = h .holds .cells;
+      balance-box = h .holds .balance-box;
       counts =
           whole (roomOf way (p .set) .counts) (countsOf way p (x .column) (x .row)) (z .counts) (a .counts) (h .holds .counts)
           (h .kept .counts .beyond);

@@ -39,7 +39,7 @@ held-first {b} k s t v hs ht e = subst (λ (q : State). Held (frameOf b) q 1) (s
 -- what a visit leaves, as a loop's result
 pub finished : {way : Way} {b : List ℕ} {x : State} {a z : Stores} {hs : List ℕ} {d : List ℤ} (v : Visit) (r : Walked) → Visited way b x a z hs d v →
     r .verdict ≡ Accepted
-    → r .shifts ≡ v .shifts → r .cut .0 ≡ v .cut .0 → r .cells ≡ d → Finished way (frameOf b) x a z r
+    → r .shifts ≡ v .shifts → r .cut .0 ≡ v .cut .0 → r .«balance_box» ≡ d → Finished way (frameOf b) x a z r
 finished {way} {b} {x} {a} {z} {hs} {d} v r h e s c k =
     subst (λ (w : State). Finished way (frameOf b) w a z r) (h .state)
     (record { verdict = e; shifts = s; cut = c; holds = rw k (h .here .holds); kept = h .kept })

@@ -72,7 +72,7 @@ module _ {o : Outcome} {way : Way} {p : Frame} {x : State} {a z : Stores} {due b
       record {
         shifts = refl;
         cut = refl;
-        cells = refl;
+        balance-box = refl;
         counts = h .counts;
         words = h .words;
         numbers = h .numbers;
@@ -86,15 +86,15 @@ module _ {o : Outcome} {way : Way} {p : Frame} {x : State} {a z : Stores} {due b
 
 module _ {b : List ℕ} {way s t : ℕ} {moves : List ℕ} {a z : Stores} {before after : List ℕ} {w : Walked}
     (h : Walks b way s t moves a z before after w) {r offset₀ offset : ℕ} (q : Reported (numbered (w .verdict)) r offset₀ offset)
-    {shifts₀ cut₀ : ℕ} {cells₀ : List ℤ} where
-  pub walk-called : {shifts cut : ℕ} {cells : List ℤ} → shifts ≡ byStatus r (w .shifts) shifts₀ → cut ≡ byStatus r (w .cut .0) cut₀
-      → cells ≡ byStatus r (w .cells) cells₀ → WalkCall b way s t moves a z before after r shifts₀ shifts cut₀ cut cells₀ cells offset₀ offset
+    {shifts₀ cut₀ : ℕ} {box₀ : List ℤ} where
+  pub walk-called : {shifts cut : ℕ} {box : List ℤ} → shifts ≡ byStatus r (w .shifts) shifts₀ → cut ≡ byStatus r (w .cut .0) cut₀
+      → box ≡ byStatus r (w .«balance_box») box₀ → WalkCall b way s t moves a z before after r shifts₀ shifts cut₀ cut box₀ box offset₀ offset
   walk-called es ec eb =
       record {
         reported = reported (w .verdict) (h .verdict) q;
         called = called (h .refused) (h .walked) (lends (w .verdict) (h .verdict) q _ es (λ e. h .walked e .shifts));
         cut-is = lends (w .verdict) (h .verdict) q _ ec (λ e. h .walked e .cut);
-        cells-is = lends (w .verdict) (h .verdict) q _ eb (λ e. h .walked e .cells);
+        box-is = lends (w .verdict) (h .verdict) q _ eb (λ e. h .walked e .balance-box);
       }
 
 module _ {b : List ℕ} {way : ℕ} {a z : Stores} {before after : List ℕ} {w : Walked} (h : Filters b way a z before after w)

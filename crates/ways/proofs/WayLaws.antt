@@ -117,7 +117,7 @@ module _ (way : Way) {b : List ℕ} {z : Plan} (k : Planned b z) (cs ws ns : Lis
             joint = record {
               counts = joined (roomOf Joint (frameOf b .set) .counts) (jointCounts (frameOf b) (v .column) (v .row)) cs (g .holds .counts);
               words = joined (roomOf Joint (frameOf b .set) .words) (occupancyWords (frameOf b) (v .column) (v .row)) ws (g .holds .words);
-              box = g .holds .cells;
+              box = g .holds .balance-box;
             };
           },
           g .carried,
@@ -142,7 +142,7 @@ module _ (way : Way) {b : List ℕ} {z : Plan} (k : Planned b z) (cs ws ns : Lis
               counts = front-of (p .set .levels * p .set .guides) (jointCounts p s t) cs cs′ cells (h .joint .counts);
               words = front-of (p .set .levels * wordsPerLevel (p .set)) (occupancyWords p s t) ws ws′ words (h .joint .words);
               numbers = tt;
-              cells = h .joint .box;
+              balance-box = h .joint .box;
             };
             carried = h .carried;
           };
@@ -162,7 +162,7 @@ module _ (way : Way) {b : List ℕ} {z : Plan} (k : Planned b z) (cs ws ns : Lis
             below = g .carried .1;
             store = joined (roomOf Columns (frameOf b .set) .numbers) (columnStore (frameOf b) (v .column) (v .row)) ns (g .holds .numbers);
           },
-          g .holds .cells,
+          g .holds .balance-box,
         )
 
     pub columns-visited : (x : State) (ns′ : List ℕ) → way ≡ Columns → ColumnsVisited (frameOf b) x ns v ns′ → d ≡ zeros
@@ -179,7 +179,7 @@ module _ (way : Way) {b : List ℕ} {z : Plan} (k : Planned b z) (cs ws ns : Lis
               counts = refl;
               words = refl;
               numbers = front-of (roomOf Columns (p .set) .numbers) (columnStore p (v .column) (v .row)) ns ns′ front (h .store);
-              cells = q;
+              balance-box = q;
             };
             carried = (h .sums, h .below);
           };
@@ -199,7 +199,7 @@ module _ (way : Way) {b : List ℕ} {z : Plan} (k : Planned b z) (cs ws ns : Lis
             listed =
                 subst (λ (q : Plan). Listed b q (v .column) (v .row) (v .running .free) ns) (sym (k .plan)) (g .carried .1);
           },
-          g .holds .cells,
+          g .holds .balance-box,
         )
 
     pub chain-visited : (x : State) (ns′ : List ℕ) → way ≡ Chain → ChainVisited b z x ns v ns′ → d ≡ zeros →
@@ -210,7 +210,7 @@ module _ (way : Way) {b : List ℕ} {z : Plan} (k : Planned b z) (cs ws ns : Lis
         (record {
           state = h .state;
           here = record {
-            holds = record { counts = refl; words = refl; numbers = h .stored .store; cells = q };
+            holds = record { counts = refl; words = refl; numbers = h .stored .store; balance-box = q };
             carried = (h .sums, subst (λ (q : Plan). Listed b q (v .column) (v .row) (v .running .free) ns′) (k .plan) (h .stored .listed));
           };
           kept =

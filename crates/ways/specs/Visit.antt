@@ -47,7 +47,7 @@ pub record Holds (way : Way) (p : Frame) (s t c : ℕ) (held : Stores) (box : Li
   pub counts : take (roomOf way (p .set) .counts) (held .counts) ≡ countsOf way p s t
   pub words : take (roomOf way (p .set) .words) (held .words) ≡ wordsOf way p s t
   pub numbers : NumbersOf way p s t (held .numbers)
-  pub cells : box ≡ boxOf way p s t c
+  pub balance-box : box ≡ boxOf way p s t c
 
 -- a list keeps its length, and all that lies beyond its first n numbers
 pub record KeptBeyond (n : ℕ) (before after : List ℕ) : Type 0 where
