@@ -25,7 +25,7 @@ use Rattle.pixels.specs.Pixels.{countOf, pixelFold, columnsFold, PixelsBelow, L
 use Rattle.pixels.proofs.AdditiveLaws.{stepped}
 use Rattle.pixels.proofs.SumLaws.{below-most}
 use Rattle.chain_nodes.specs.declared.FreeList.{FreeList}
-use Rattle.chain_list.specs.Chain.{sumBelow, Beyond, Cleared, Size, ListOf}
+use Rattle.chain_list.specs.Chain.{sumBelow, Beyond, ChainCleared, Size, ListOf}
 use Rattle.chain.specs.Lines.{nodesOf, sizeOf, counted, guided, lineCount, lineGuides, withCounts, withGuides, MergeableLine, MergedLine}
 use Rattle.chain.specs.Moves.{levelCounts, levelGuides, Listed, storeSize, Stored, Slides, Slid}
 use Rattle.chain_list.proofs.SumLaws.{sum-ext}
@@ -145,7 +145,7 @@ module _ {b : List ℕ} {z : Plan} (pl : Planned b z) where
         let q : columnsTo b z s t h (k + (n - k)) ≡ columnsTo b z s t h n = ap (columnsTo b z s t h) e in
         omega (arith, q, columns-all h, fold-parts _+_ 0 natSums (λ x. lineFold _+_ 0 b (columnLine z x t) h) (s - z .radius) k (n - k))
 
-    pub columns-empty : {m₀ : List ℕ} {m : List ℕ} (free : FreeList) → Cleared (nodesOf z) m₀ (free .head) (free .count) m →
+    pub columns-empty : {m₀ : List ℕ} {m : List ℕ} (free : FreeList) → ChainCleared (nodesOf z) m₀ (free .head) (free .count) m →
         ColumnsListed b z s t 0 free m
     unfolding sizeOf
     columns-empty free c =

@@ -92,7 +92,7 @@ pub record Swap (l : ℕ) (D E : ℕ → ℕ → ℕ) (xs ys : List ℕ) : Type 
   pub cells : (m i : ℕ) → i < l → getD ys (m * l + i) 0 + E m i ≡ getD xs (m * l + i) 0 + D m i
 
 -- block a has room for F, and then enough to take G out
-pub record Ready (l a : ℕ) (F G : ℕ → ℕ) (xs : List ℕ) : Type 0 where
+pub record BlockReady (l a : ℕ) (F G : ℕ → ℕ) (xs : List ℕ) : Type 0 where
   pub room : (i : ℕ) → i < l → getD xs (a * l + i) 0 + F i < 4294967296
   pub enough : (i : ℕ) → i < l → G i ≤ getD xs (a * l + i) 0 + F i
 
@@ -113,5 +113,5 @@ pub record InWidth (w : ℕ) (d : Exchange) : Type 0 where
 
 -- the window's two blocks have room for the column that enters, and then enough to lose the one that leaves
 pub record SideReady (w l : ℕ) (d : Exchange) (xs : List ℕ) : Type 0 where
-  pub counts : Ready l (2 * w) (cellOf (d .enters) l (d .entering) xs) (cellOf (d .leaves) l (d .leaving) xs) xs
-  pub guides : Ready l (2 * w + 1) (cellOf (d .enters) l (w + d .entering) xs) (cellOf (d .leaves) l (w + d .leaving) xs) xs
+  pub counts : BlockReady l (2 * w) (cellOf (d .enters) l (d .entering) xs) (cellOf (d .leaves) l (d .leaving) xs) xs
+  pub guides : BlockReady l (2 * w + 1) (cellOf (d .enters) l (w + d .entering) xs) (cellOf (d .leaves) l (w + d .leaving) xs) xs

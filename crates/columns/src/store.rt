@@ -12,7 +12,7 @@ ghost use Rattle.spec.specs.Checks.{Planned};
 ghost use Rattle.spec.specs.Columns.{columnStore};
 ghost use Rattle.spec.specs.Frame.{frameOf};
 ghost use Rattle.window.specs.Line.{Adjacent};
-ghost use Rattle.columns.specs.Blocks.{when, Put, Able, Cleared, Swap, Ready, Neighbours, InWidth, SideReady};
+ghost use Rattle.columns.specs.Blocks.{when, Put, Able, Cleared, Swap, BlockReady, Neighbours, InWidth, SideReady};
 ghost use Rattle.columns.specs.Blocks.{block, cellOf, pixelD, stripD, rowD, pairD, exchangeOf, storeSize};
 
 // Which column or row enters and which one leaves as the centre moves by one, and whether it is in the picture.
@@ -230,7 +230,7 @@ pub fn update_block(
 )
     requires { ⌜ (l ≤ 1024) × (at ≤ 4096) × (more ≤ 4096) × (less ≤ 4096) × (at * l + l ≤ length (now numbers)) ⌝ }
     requires { ⌜ (gain ≡ true → more < at) × (lose ≡ true → less < at) ⌝ }
-    requires { ⌜ Ready l at (cellOf gain l more (now numbers)) (cellOf lose l less (now numbers)) (now numbers) ⌝ }
+    requires { ⌜ BlockReady l at (cellOf gain l more (now numbers)) (cellOf lose l less (now numbers)) (now numbers) ⌝ }
     ensures { λ _. ⌜ Swap l (block at (cellOf gain l more (now (numbers .entry)))) (block at (cellOf lose l less (now (numbers .entry))))
         (now (numbers .entry)) (now (numbers .exit)) ⌝ }
 {

@@ -12,7 +12,7 @@ ghost use lib.ListN.{length, getD};
 ghost use Rattle.spec.specs.Frame.{frameOf};
 ghost use Rattle.spec.specs.Checks.{Planned};
 ghost use Rattle.pixels.specs.Pixels.{countOf, PixelsBelow};
-ghost use Rattle.pixels.specs.Additive.{changed, Fits, PassedTo, Exchanged, Exchangeable};
+ghost use Rattle.pixels.specs.Additive.{changed, Fits, PassedTo, Exchanged, SharesExchangeable};
 ghost use Rattle.histogram.specs.Places.{shareAt, numberAt, RoomFor};
 ghost use Rattle.histogram.specs.Histogram.{Changed, Blank, Histogram};
 
@@ -49,7 +49,7 @@ pub fn change_pixels(p: &[u16], l: usize, enters: bool, numbers: &mut [u32])
 // One list in, another out. The entering one goes in first, so that no number lacks what it is to lose.
 pub fn exchange(entering: &[u16], leaving: &[u16], l: usize, numbers: &mut [u32])
     requires { ⌜ (l ≤ 1024) × (l + l ≤ length (now numbers)) × (PixelsBelow l 256 (now entering)) × (PixelsBelow l 256 (now leaving)) ⌝ }
-    requires { ⌜ Exchangeable (shareAt l) 4294967296 (now entering) (now leaving) (numberAt l (now numbers)) ⌝ }
+    requires { ⌜ SharesExchangeable (shareAt l) 4294967296 (now entering) (now leaving) (numberAt l (now numbers)) ⌝ }
     ensures { λ _. ⌜ Exchanged _+_ 0 (shareAt l) (now (entering .entry)) (now (leaving .entry)) (numberAt l (now (numbers .entry)))
         (numberAt l (now (numbers .exit))) ⌝ }
 {

@@ -20,7 +20,7 @@ use Rattle.spec.specs.Filter.{filtered, filterEnd}
 use Rattle.spec.specs.Median.{balance}
 use Rattle.spec.specs.Calls.{wayOf, roomOf, countsOf, wordsOf, walkOutcome, filterOutcome, balanceOutcome}
 use Rattle.spec.proofs.Plans.{facts}
-use Rattle.spec.proofs.Calls.{way-serves, Fits, walk-accepted, filter-accepted, balance-accepted}
+use Rattle.spec.proofs.Calls.{way-serves, RoomFits, walk-accepted, filter-accepted, balance-accepted}
 use Rattle.frame.specs.declared.plan.Opened.{Opened}
 use Rattle.frame.specs.Plan.{openedPlan}
 use Rattle.ice_walk.specs.declared.Walked.{Walked}
@@ -117,11 +117,11 @@ module _ {b : List ℕ} {z : Plan} (k : Planned b z) (way : ℕ) (y : Way) (ey :
   serves-by (inl e) = inl (ey ∙ e)
   serves-by (inr e) = inr (facts k .kind ∙ ap (λ (s : Settings). s .kind) (set-of b) ∙ e)
 
-  fits-by : (a : Stores) → Fits (roomOf (wayOf way) (settingsOf b)) (lent a) → Fit y (settingsIn z) a
+  fits-by : (a : Stores) → RoomFits (roomOf (wayOf way) (settingsOf b)) (lent a) → Fit y (settingsIn z) a
   fits-by a f =
       let e : settingsOf b ≡ settingsIn z = sym (settings-same k ∙ set-of b) in
-      let g : Fits (roomOf y (settingsIn z)) (lent a) =
-      subst (λ (q : Way). Fits (roomOf q (settingsIn z)) (lent a)) (sym ey) (subst (λ (s : Settings). Fits (roomOf (wayOf way) s) (lent a)) e f)
+      let g : RoomFits (roomOf y (settingsIn z)) (lent a) =
+      subst (λ (q : Way). RoomFits (roomOf q (settingsIn z)) (lent a)) (sym ey) (subst (λ (s : Settings). RoomFits (roomOf (wayOf way) s) (lent a)) e f)
       in
       record { counts = g .counts; words = g .words; numbers = g .numbers }
 

@@ -40,7 +40,7 @@ use Rattle.window.proofs.CoefficientLaws.{ends-monotone}
 use Rattle.level_search.specs.declared.Tally.{Tally}
 use Rattle.level_search.specs.declared.search.Found.{Found}
 use Rattle.levels.specs.Tally.{belowSum, BelowAt}
-use Rattle.level_search.specs.Search.{sumTo, TallyTo, passes, firstLevel, LevelCells, Searchable, Rising, FoundAt}
+use Rattle.level_search.specs.Search.{sumTo, TallyTo, passes, firstLevel, LevelCells, ListsSearchable, Rising, FoundAt}
 use Rattle.level_search.specs.Block.{EndsBelow, Heaviest}
 use Rattle.levels.specs.Answer.{Profiled, Answerable, Answered}
 use Rattle.level_search.proofs.SearchLaws.{sumTo-none, sumTo-more}
@@ -139,7 +139,7 @@ module _ {p : Frame} {s t : ℕ} (q : Pixel p s t) {counts sums : List ℕ} (c :
           before = λ j h. passes-is j (omega arith) ∙ m .before j h;
         })
 
-    pub searchable : CoefficientsSmall k → Searchable k counts sums
+    pub searchable : CoefficientsSmall k → ListsSearchable k counts sums
     searchable m = record { cells = level-cells; small = m; some = omega (arith, median-is, median-low q, c .count-long) }
 
     pub rising : monotone p s t ≡ true → Rising k counts sums

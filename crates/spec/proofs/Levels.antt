@@ -19,7 +19,7 @@ use Rattle.spec.specs.Weight.{scaledVariance, guidedWeight, weight, vari
 use Rattle.spec.specs.Median.{totalWeight, cumulative, balance}
 use Rattle.spec.specs.Joint.{balanceBox}
 use Rattle.spec.specs.Window.{levelSum}
-use Rattle.spec.proofs.Ranges.{Sums, fold-same, intSums}
+use Rattle.spec.proofs.Ranges.{AdditionLaws, fold-same, intSums}
 use Rattle.spec.proofs.Histogram.{times, pick-inner, fold-pick, over-fold, over-count}
 use Rattle.spec.proofs.First.{getD-tabulate}
 use Rattle.spec.proofs.Sums.{over-inWindow, over-add, over-scale, over-pos}

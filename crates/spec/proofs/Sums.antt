@@ -15,7 +15,7 @@ use Rattle.spec.specs.Base.{fold, foldRect, sum, sumℤ}
 use Rattle.spec.specs.declared.Settings.{Settings}
 use Rattle.spec.specs.Frame.{Frame}
 use Rattle.spec.specs.Window.{span, over, Σ, Σℤ, pixelCount, InWindow}
-use Rattle.spec.proofs.Ranges.{Sums, fold-both, fold-same, natSums, intSums}
+use Rattle.spec.proofs.Ranges.{AdditionLaws, fold-both, fold-same, natSums, intSums}
 
 -- ---- ranges
 pub sum-scale : (c : ℤ) (f : ℕ → ℤ) (a n : ℕ) → sumℤ (λ k. c *ℤ f k) a n ≡ c *ℤ sumℤ f a n
@@ -97,7 +97,7 @@ unfolding span
 inWindow-bottom h = omega arith
 
 -- ---- the same over the window
-module _ {A : Type 0} (_⊕_ : A → A → A) (z : A) (laws : Sums _⊕_ z) (p : Frame) (s t : ℕ) where
+module _ {A : Type 0} (_⊕_ : A → A → A) (z : A) (laws : AdditionLaws _⊕_ z) (p : Frame) (s t : ℕ) where
   infixl 6 _⊕_
   pub over-inWindow : (f g : ℕ → ℕ → A) → ((x y : ℕ) → InWindow p s t x y → f x y ≡ g x y) → over _⊕_ z p s t f ≡ over _⊕_ z p s t g
   unfolding over foldRect

@@ -8,13 +8,13 @@ use Rattle.window.proofs.PixelLaws.{plan-limits}
 use Rattle.window.proofs.LineLaws.{column-in, span-in, span-high}
 use Rattle.pixels.specs.Pixels.{LinePixels}
 use Rattle.pixels.proofs.Laws.{line-part}
-use Rattle.histogram.specs.Histogram.{Filled}
+use Rattle.histogram.specs.Histogram.{HistogramFilled}
 use Rattle.histogram.proofs.PixelLaws.{filled-start, fill-asks, filled-next, filled-end}
 use Rattle.histogram.proofs.start.Statement.{statement}
 use Rattle.histogram.proofs.start.Tie as tie
 
 abbrev Inv-loop : tie.InvT-loop
-Inv-loop file plan s t numbers₀ x n k₀ numbers k = (k ≤ n) × Filled file plan x t k numbers × (length numbers ≡ length numbers₀)
+Inv-loop file plan s t numbers₀ x n k₀ numbers k = (k ≤ n) × HistogramFilled file plan x t k numbers × (length numbers ≡ length numbers₀)
 
 abbrev μ-loop : tie.MeasureT-loop
 μ-loop file plan s t numbers₀ x n k₀ numbers k = n - k

@@ -5,13 +5,13 @@ use native.Mathlib.Omega.{arith}
 use native.Mathlib.Nat.{mul-le-mul}
 use lib.Arith.{digits-lt}
 use Rattle.columns.specs.Blocks.{cellOf}
-use Rattle.columns.proofs.SideLaws.{Slid, slid-none, slid-here, slid-pick, slid-next, slid-all}
+use Rattle.columns.proofs.SideLaws.{BlockSlid, slid-none, slid-here, slid-pick, slid-next, slid-all}
 use Rattle.columns.proofs.store.update_block.Statement.{statement}
 use Rattle.columns.proofs.store.update_block.Tie as tie
 
 abbrev Inv-loop : tie.InvT-loop
 Inv-loop numbers₀ l at more gain less lose a b c i₀ numbers i =
-    (i ≤ l) × Slid l at (cellOf gain l more numbers₀) (cellOf lose l less numbers₀) i numbers₀ numbers
+    (i ≤ l) × BlockSlid l at (cellOf gain l more numbers₀) (cellOf lose l less numbers₀) i numbers₀ numbers
 
 abbrev μ-loop : tie.MeasureT-loop
 μ-loop numbers₀ l at more gain less lose a b c i₀ numbers i = l - i
