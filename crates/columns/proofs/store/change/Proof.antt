@@ -11,14 +11,14 @@ mul-n c = search needs
 slice-read-n : tie.Need-slice-read-n
 slice-read-n c = search needs
 
-add-numbers : tie.Need-add-numbers
-add-numbers c = let k = c .before .before .pre .1 .0 (c .if1 .taken) in omega arith
+add-blocks : tie.Need-add-blocks
+add-blocks c = let k = c .before .before .pre .1 .0 (c .if1 .taken) in omega arith
 
-mul-numbers : tie.Need-mul-numbers
-mul-numbers c = search needs
+mul-blocks : tie.Need-mul-blocks
+mul-blocks c = search needs
 
-slice-write-numbers : tie.Need-slice-write-numbers
-slice-write-numbers c = search needs
+slice-write-blocks : tie.Need-slice-write-blocks
+slice-write-blocks c = search needs
 
 same-length : tie.Need-same-length
 same-length c = search needs
@@ -26,14 +26,14 @@ same-length c = search needs
 returns : tie.Need-returns
 returns c = rw (c .if1 .taken) refl
 
-sub-numbers : tie.Need-sub-numbers
-sub-numbers c = c .before .before .pre .1 .1 (c .if1 .left)
+sub-blocks : tie.Need-sub-blocks
+sub-blocks c = c .before .before .pre .1 .1 (c .if1 .left)
 
-mul-numbers-2 : tie.Need-mul-numbers-2
-mul-numbers-2 c = search needs
+mul-blocks-2 : tie.Need-mul-blocks-2
+mul-blocks-2 c = search needs
 
-slice-write-numbers-2 : tie.Need-slice-write-numbers-2
-slice-write-numbers-2 c = search needs
+slice-write-blocks-2 : tie.Need-slice-write-blocks-2
+slice-write-blocks-2 c = search needs
 
 same-length-2 : tie.Need-same-length-2
 same-length-2 c = search needs
@@ -47,13 +47,13 @@ change-spec =
     (tie.spec
     mul-n
     slice-read-n
-    add-numbers
-    mul-numbers
-    slice-write-numbers
+    add-blocks
+    mul-blocks
+    slice-write-blocks
     same-length
     returns
-    sub-numbers
-    mul-numbers-2
-    slice-write-numbers-2
+    sub-blocks
+    mul-blocks-2
+    slice-write-blocks-2
     same-length-2
     returns-2)

@@ -18,7 +18,7 @@ place : (c : tie.Start) → c .args .y * c .args .plan .width + c .args .x < c .
 place c = place-low (c .args .plan) (c .args .x) (c .args .y) (c .pre .1 .0 .0) (c .pre .1 .0 .1)
 
 first-able : (c : tie.Start) →
-    Able (c .args .add) (c .args .plan .levels) (block (c .args .a) (hit (frame c) (λ u v. 1) (c .args .x) (c .args .y))) (c .args .numbers .now)
+    Able (c .args .add) (c .args .plan .levels) (block (c .args .a) (hit (frame c) (λ u v. 1) (c .args .x) (c .args .y))) (c .args .blocks .now)
 first-able c = able-first (frame c) (c .args .x) (c .args .y) (c .args .add) (c .args .a) (c .args .b) (c .pre .1 .1 .1)
 
 -- the pixel's level and guide
@@ -72,7 +72,7 @@ counted : (c : tie.After-change) →
     (hit (frame (c .before .before .before .before .before .before .before .before)) (λ u v. 1)
     (c .before .before .before .before .before .before .before .before .args .x)
     (c .before .before .before .before .before .before .before .before .args .y)))
-    (c .before .before .before .before .before .before .before .before .args .numbers .now) (c .change .last .0)
+    (c .before .before .before .before .before .before .before .before .args .blocks .now) (c .change .last .0)
 counted c =
     changed (frame (c .before .before .before .before .before .before .before .before))
     (c .before .before .before .before .before .before .before .before .args .x)

@@ -9,11 +9,11 @@ use Rattle.columns.proofs.store.count_strip.Statement.{statement}
 use Rattle.columns.proofs.store.count_strip.Tie as tie
 
 abbrev Inv-loop : tie.InvT-loop
-Inv-loop file z numbers₀ y a b apart first count add k₀ numbers k =
-    Piled add (z .levels) (λ x. pixelD (frameOf file) (a + x * apart) (b + x * apart) x y) first count numbers₀ numbers k
+Inv-loop file z blocks₀ y a b apart first count add k₀ blocks k =
+    Piled add (z .levels) (λ x. pixelD (frameOf file) (a + x * apart) (b + x * apart) x y) first count blocks₀ blocks k
 
 abbrev μ-loop : tie.MeasureT-loop
-μ-loop file z numbers₀ y a b apart first count add k₀ numbers k = count - k
+μ-loop file z blocks₀ y a b apart first count add k₀ blocks k = count - k
 
 in-width : (c : tie.In-loop Inv-loop μ-loop) →
     c .before .before .before .before .args .first + c .before .loop .k < c .before .before .before .before .args .plan .width
