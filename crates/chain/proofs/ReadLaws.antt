@@ -9,13 +9,14 @@ use native.Mathlib.Omega.{arith}
 use lib.ListN.{length, getD, drop, length-drop}
 use lib.Seq.{ext-getD, getD-drop}
 use borrow.Author.Tests.{eq-eqb, ne-eqb}
+use Rattle.ints.specs.Order.{lt-or-le}
 use Rattle.spec.specs.Frame.{Frame, guide}
 use Rattle.spec.specs.Window.{levelSum}
 use Rattle.spec.specs.Chain.{Entry, entryOf, entries, Reads}
 use Rattle.spec.proofs.Climb.{entriesFrom, entries-from}
 use Rattle.chain_nodes.specs.Nodes.{levelIn, nextIn}
 use Rattle.chain_list.specs.Chain.{Used, floor, Live, Chain, Beyond}
-use Rattle.chain_list.proofs.SumLaws.{zero-or-pos, lt-or-ge}
+use Rattle.chain_list.proofs.SumLaws.{zero-or-pos}
 use Rattle.chain_list.proofs.ChainLaws.{floor-pos, floor-zero}
 
 module _ (p : Frame) (s t cap l head free : ℕ) (m : List ℕ) (ch : Chain cap l (levelSum p s t (λ x y. 1)) (levelSum p s t (guide p)) head free m)
@@ -36,7 +37,7 @@ module _ (p : Frame) (s t cap l head free : ℕ) (m : List ℕ) (ch : Chain cap 
         let w = g .is (r .0) in (
           w,
           ⊎-elim (λ h. absurd (omega (arith, gap (levelIn m (nextIn m y)) (g .from (r .0)) h, ch .counts (nextIn m y) w, w .some)))
-              (λ h. omega (arith, r .1, k .2)) (lt-or-ge (levelIn m (nextIn m y)) a),
+              (λ h. omega (arith, r .1, k .2)) (lt-or-le (levelIn m (nextIn m y)) a),
         )
 
     from : (n a y : ℕ) → Live cap m y → floor m y ≤ a → a + n ≡ l → ((j : ℕ) → floor m y ≤ j → j < a → cnt j ≡ 0) →
@@ -54,7 +55,7 @@ module _ (p : Frame) (s t cap l head free : ℕ) (m : List ℕ) (ch : Chain cap 
     from (suc n) a y v u e gap =
         ⊎-elim
         (λ z. rw (eq-eqb (cnt a) 0 z)
-        (from n (suc a) y v (omega arith) (omega arith) (λ j h k. ⊎-elim (λ w. gap j h w) (λ w. ap cnt (omega arith) ∙ z) (lt-or-ge j a))))
+        (from n (suc a) y v (omega arith) (omega arith) (λ j h k. ⊎-elim (λ w. gap j h w) (λ w. ap cnt (omega arith) ∙ z) (lt-or-le j a))))
         (λ q. rw (ne-eqb (cnt a) 0 (λ z. omega arith)) (
         let t = at-level a y v u gap q in
         let w = t .0 in

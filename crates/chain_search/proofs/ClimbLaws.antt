@@ -9,6 +9,7 @@ use native.Mathlib.Omega.{arith}
 use lib.ListN.{length, getD}
 use lib.IntN.{ℤ, pos, _+ℤ_, _*ℤ_}
 use lib.Signed.{_<ℤ_, leZ}
+use Rattle.ints.specs.Order.{lt-or-le}
 use Rattle.ints.specs.Auto.{quote, ring! }
 use Rattle.spec.specs.Base.{first}
 use Rattle.spec.specs.Frame.{Frame, guide}
@@ -16,13 +17,14 @@ use Rattle.spec.specs.Window.{levelSum}
 use Rattle.spec.specs.Median.{totalWeight, cumulative, median}
 use Rattle.spec.proofs.First.{first-is, first-unique}
 use Rattle.spec.specs.Weight.{slope, offset}
-use Rattle.spec.proofs.Levels.{cumulative-zero, cumulative-next, level-linear}
+use Rattle.spec.proofs.Levels.{cumulative-linear}
 use Rattle.spec.proofs.Totals.{lt-leZ, median-first}
+use Rattle.spec.proofs.Sums.{sum-none, sum-suc}
 use Rattle.window.specs.declared.coefficients.Coefficients.{Coefficients}
 use Rattle.window.specs.Coefficients.{WeighsAt, reachesHalf}
 use Rattle.chain_nodes.specs.Nodes.{levelIn, countIn, guidesIn, nextIn}
 use Rattle.chain_list.specs.Chain.{Used, floor, Live, Successor, sumBelow}
-use Rattle.chain_list.proofs.SumLaws.{zero-or-pos, lt-or-ge, sum-none, sum-suc, sum-mono, sum-flat}
+use Rattle.chain_list.proofs.SumLaws.{zero-or-pos, sum-mono, sum-flat}
 use Rattle.chain_list.proofs.ChainLaws.{floor-pos, floor-zero}
 use Rattle.chain_search.specs.Climb.{reachesAt, Climbs}
 
@@ -95,7 +97,7 @@ module _ (l : ℕ) (m : List ℕ) (w : Coefficients) (a : Climbs l w m) where
     before j q =
         ⊎-elim (s .under j)
         (λ h. let f = flat (suc j) (omega arith) (λ w. omega (arith, q w)) in ap₂ (reachesHalf w) (f .0) (f .1) ∙ s .short)
-        (lt-or-ge j (floor m (s .y)))
+        (lt-or-le j (floor m (s .y)))
 
     -- some level reaches it, so the list does not end before one that does
     pub climb-goes : 0 < cur
@@ -151,7 +153,7 @@ module _ (l : ℕ) (m : List ℕ) (w : Coefficients) (a : Climbs l w m) where
         counted = count-next ∙ ap (sumBelow (a .cnt)) (sym above);
         summed = sum-next ∙ ap (sumBelow (a .sm)) (sym above);
         short = e;
-        under = λ j h. ⊎-elim (λ w. before j (λ q. w)) (λ w. at-cur j (omega (arith, above))) (lt-or-ge j (levelIn m cur));
+        under = λ j h. ⊎-elim (λ w. before j (λ q. w)) (λ w. at-cur j (omega (arith, above))) (lt-or-le j (levelIn m cur));
       }
         where
           at-cur : (j : ℕ) → j ≡ levelIn m cur → reachesAt (a .cnt) (a .sm) w j ≡ false
@@ -237,10 +239,7 @@ module _ {l : ℕ} {m : List ℕ} {w : Coefficients} {a : Climbs l w m} where
           pub node-less : (most : ℕ) → l ≤ most → ahead most m (getD m at′ 0) < ahead most m next
           node-less most h = rw g (ahead-less l m w a _ _ _ after (climb-goes l m w a _ _ _ after) most h)
 
--- ---- the weight of the levels up to i is linear in their count and their guide sum
-join-weights : (c d f g f′ g′ : ℤ) → (c *ℤ g +ℤ d *ℤ f) +ℤ (c *ℤ g′ +ℤ d *ℤ f′) ≡ c *ℤ (g +ℤ g′) +ℤ d *ℤ (f +ℤ f′)
-join-weights c d f g f′ g′ = ring! (c ∷ d ∷ f ∷ g ∷ f′ ∷ g′ ∷ []) (search quote depth 12) (search quote depth 12) refl
-
+-- ---- the weight of the levels up to i, by their count and their guide sum
 module _ (p : Frame) (s t : ℕ) (two : p .set .kind ≡ 2) where
   abbrev cnt : ℕ → ℕ
   cnt = levelSum p s t (λ x y. 1)
@@ -248,19 +247,9 @@ module _ (p : Frame) (s t : ℕ) (two : p .set .kind ≡ 2) where
   abbrev sm : ℕ → ℕ
   sm = levelSum p s t (guide p)
 
-  cumulative-linear : (i : ℕ) → cumulative p s t i ≡ slope p s t *ℤ pos (sumBelow sm (suc i)) +ℤ offset p s t *ℤ pos (sumBelow cnt (suc i))
-  cumulative-linear zero =
-      let f : cnt 0 ≡ sumBelow cnt 1 = omega (arith, sum-suc cnt 0, sum-none cnt) in
-      let g : sm 0 ≡ sumBelow sm 1 = omega (arith, sum-suc sm 0, sum-none sm) in
-      cumulative-zero p s t ∙ level-linear p s t 0 two ∙ ap₂ (λ (x y : ℕ). slope p s t *ℤ pos x +ℤ offset p s t *ℤ pos y) g f
-  cumulative-linear (suc i) =
-      cumulative-next p s t i ∙ ap₂ _+ℤ_ (cumulative-linear i) (level-linear p s t (suc i) two)
-      ∙ join-weights (slope p s t) (offset p s t) (pos (sumBelow cnt (suc i))) (pos (sumBelow sm (suc i))) (pos (cnt (suc i))) (pos (sm (suc i)))
-      ∙ sym (ap₂ (λ (x y : ℕ). slope p s t *ℤ pos x +ℤ offset p s t *ℤ pos y) (sum-suc sm (suc i)) (sum-suc cnt (suc i)))
-
   same-test : (w : Coefficients) → WeighsAt p s t w → (i : ℕ) → leZ (totalWeight p s t) (pos 2 *ℤ cumulative p s t i) ≡ reachesAt cnt sm w i
   unfolding reachesHalf
-  same-test w v i = rw (v .total, v .slope, v .offset) (ap (λ (u : ℤ). leZ (totalWeight p s t) (pos 2 *ℤ u)) (cumulative-linear i))
+  same-test w v i = rw (v .total, v .slope, v .offset) (ap (λ (u : ℤ). leZ (totalWeight p s t) (pos 2 *ℤ u)) (cumulative-linear p s t two i))
 
   -- where the climb ends is the median
   pub climb-median : (w : Coefficients) → WeighsAt p s t w → first (reachesAt cnt sm w) (p .set .levels) ≡ median p s t

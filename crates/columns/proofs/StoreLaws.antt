@@ -20,6 +20,7 @@ use Rattle.spec.specs.Columns.{columnStore}
 use Rattle.spec.proofs.Ranges.{natSums, window-right, lost, gained}
 use Rattle.spec.proofs.Sums.{sum-le, sum-const}
 use Rattle.spec.proofs.Limits.{FrameLimits}
+use Rattle.spec.proofs.Bounds.{if-high}
 use Rattle.spec.proofs.Plans.{facts}
 use Rattle.window.proofs.LineLaws.{span-high}
 use Rattle.columns.specs.declared.store.Exchange.{Exchange}
@@ -105,10 +106,6 @@ module _ {c c′ size : ℕ} (r : ℕ) (k : Neighbours c c′ size) where
       go (inr e) = rw (is-back e) (λ h. ltb-true _ _ h)
 
 -- ---- bounds
-if-high : (b : Bool) (n B : ℕ) → n ≤ B → (if b then n else 0) ≤ B
-if-high true n B h = h
-if-high false n B h = omega arith
-
 in-span : (r c n k : ℕ) → k < c - r + span r c n → c - r ≤ k → k < n
 unfolding span
 in-span r c n k h l = omega arith

@@ -1,13 +1,13 @@
 // The column store: its start, and its moves. Its length is storeSize; what lies beyond stays as it was.
+use pixels::store::change;
 use spec::Plan;
 use window::line;
 use window::pixel;
 ghost use mathlib.Core.Path.{_≡_};
-ghost use mathlib.Core.Bool.{true, false};
+ghost use mathlib.Core.Bool.{true};
 ghost use mathlib.Core.List.{_++_};
-ghost use Prim.Native.Nat.{ℕ, _+_, _-_, _*_, _<_, _≤_};
-ghost use lib.ListN.{length, getD, set, drop};
-ghost use Rattle.spec.specs.Base.{if_then_else_};
+ghost use Prim.Native.Nat.{ℕ, _+_, _*_, _<_, _≤_};
+ghost use lib.ListN.{length, getD, drop};
 ghost use Rattle.spec.specs.Checks.{Planned};
 ghost use Rattle.spec.specs.Columns.{columnStore};
 ghost use Rattle.spec.specs.Frame.{frameOf};
@@ -21,22 +21,6 @@ pub struct Exchange {
     pub enters: bool,
     pub leaving: usize,
     pub leaves: bool,
-}
-
-// A number raised or lowered.
-pub fn change(blocks: &mut [u32], at: usize, v: u32, add: bool)
-    requires { ⌜ at < length (now blocks) ⌝ }
-    requires { ⌜ (add ≡ true → getD (now blocks) at 0 + v < 4294967296) ⌝ }
-    requires { ⌜ (add ≡ false → v ≤ getD (now blocks) at 0) ⌝ }
-    ensures { λ _. ⌜ now (blocks .exit) ≡ set (now (blocks .entry)) at (if add then getD (now (blocks .entry)) at 0 + v
-        else getD (now (blocks .entry)) at 0 - v) ⌝ }
-{
-    let n = blocks[at];
-    if add {
-        blocks[at] = n + v;
-        return;
-    }
-    blocks[at] = n - v;
 }
 
 // One pixel, into or out of the counts of block a and the guide sums of block b.

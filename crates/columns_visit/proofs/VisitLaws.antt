@@ -5,8 +5,7 @@ use mathlib.Core.List.{List, _++_}
 use Prim.Native.Nat.{ℕ, _+_, _-_, _*_, _≤_, _<_}
 use native.Mathlib.Nat.{add-mul, mul-assoc, mul-le-mul}
 use native.Mathlib.Omega.{arith}
-use lib.ListN.{length, getD, take, drop, length-drop}
-use lib.Seq.{getD-take, getD-drop, length-take-le}
+use lib.ListN.{length, getD, take, drop}
 use Rattle.spec.specs.declared.Plan.{Plan}
 use Rattle.spec.specs.declared.Way.the-variants.{Columns}
 use Rattle.spec.specs.Frame.{Frame, frameOf}
@@ -14,6 +13,7 @@ use Rattle.spec.specs.Checks.{Planned}
 use Rattle.spec.specs.Calls.{roomOf}
 use Rattle.spec.specs.Columns.{columnStore}
 use Rattle.spec.specs.Walk.{arrive}
+use Rattle.spec.proofs.Lists.{part-long, part-cell}
 use Rattle.spec.proofs.Plans.{facts}
 use Rattle.window.specs.declared.sums.Sums.{Sums}
 use Rattle.window.specs.Sums.{SumsAt}
@@ -82,12 +82,6 @@ module _ {b : List ℕ} {z : Plan} (pl : Planned b z) (s t : ℕ) (xs : List ℕ
   part-end : at + z .levels + z .levels ≤ length xs
   part-end = places-in (z .width) (z .levels) (store-places .0) (store-places .1) (length xs) (store-places .2)
 
-  part-long : (i n : ℕ) → i + n ≤ length xs → length (take n (drop i xs)) ≡ n
-  part-long i n h = length-take-le n (drop i xs) (rw length-drop (omega arith))
-
-  part-cell : (i n k : ℕ) → k < n → getD (take n (drop i xs)) k 0 ≡ getD xs (i + k) 0
-  part-cell i n k h = getD-take n (drop i xs) k 0 h ∙ getD-drop i xs k 0
-
   abbrev p : Frame
   p = frameOf b
 
@@ -105,13 +99,13 @@ module _ {b : List ℕ} {z : Plan} (pl : Planned b z) (s t : ℕ) (xs : List ℕ
   window-cells =
       let f = facts pl in
       record {
-        count-long = part-long at (z .levels) (omega (arith, part-end)) ∙ f .levels;
-        sum-long = part-long (at + z .levels) (z .levels) part-end ∙ f .levels;
+        count-long = part-long xs at (z .levels) (omega (arith, part-end)) ∙ f .levels;
+        sum-long = part-long xs (at + z .levels) (z .levels) part-end ∙ f .levels;
         count-cell = λ i h.
-            part-cell at (z .levels) i (rw (f .levels) h) ∙ ap (λ (j : ℕ). getD xs j 0) (first-place i)
+            part-cell xs at (z .levels) i (rw (f .levels) h) ∙ ap (λ (j : ℕ). getD xs j 0) (first-place i)
             ∙ holds-cell (frameOf b) s t xs held (2 * frameOf b .set .width) i (omega arith) h ∙ content-window (frameOf b) s t i;
         sum-cell = λ i h.
-            part-cell (at + z .levels) (z .levels) i (rw (f .levels) h) ∙ ap (λ (j : ℕ). getD xs j 0) (second-place i)
+            part-cell xs (at + z .levels) (z .levels) i (rw (f .levels) h) ∙ ap (λ (j : ℕ). getD xs j 0) (second-place i)
             ∙ holds-cell (frameOf b) s t xs held (2 * frameOf b .set .width + 1) i (omega arith) h ∙ content-window-guide (frameOf b) s t i;
       }
 

@@ -60,7 +60,7 @@ pub extern "C" fn icemedian_walk(
     let status = report(v, offset);
     let last_box = walked.balance_box;
     give_walk(
-        status,
+        v,
         walked.shifts,
         walked.cut.0,
         last_box,

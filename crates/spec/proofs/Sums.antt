@@ -3,7 +3,7 @@
 use mathlib.Core.Path.{_≡_, refl, sym, ap, _∙_, subst}
 use mathlib.Core.Logic.{_⊎_, inl, inr}
 use Prim.Native.Nat.{ℕ, zero, suc, _+_, _-_, _*_, _≤_, _<_}
-use native.Mathlib.Nat.{le-trans}
+use native.Mathlib.Nat.{le-trans, zero-add}
 use native.Mathlib.Omega.{arith}
 use lib.IntN.{ℤ, pos, natAbs, _+ℤ_, _*ℤ_, *ℤ-zero}
 use lib.Signed.{_≤ℤ_, ≤ℤ-refl}
@@ -18,6 +18,14 @@ use Rattle.spec.specs.Window.{span, over, Σ, Σℤ, pixelCount, InWindo
 use Rattle.spec.proofs.Ranges.{AdditionLaws, fold-both, fold-same, natSums, intSums}
 
 -- ---- ranges
+pub sum-none : (f : ℕ → ℕ) → sum f 0 0 ≡ 0
+unfolding fold
+sum-none f = refl
+
+pub sum-suc : (f : ℕ → ℕ) (n : ℕ) → sum f 0 (suc n) ≡ sum f 0 n + f n
+unfolding fold
+sum-suc f n = ap (λ (k : ℕ). sum f 0 n + f k) (zero-add n)
+
 pub sum-scale : (c : ℤ) (f : ℕ → ℤ) (a n : ℕ) → sumℤ (λ k. c *ℤ f k) a n ≡ c *ℤ sumℤ f a n
 unfolding fold
 sum-scale c f a zero = sym (*ℤ-zero c)

@@ -158,6 +158,7 @@ module _ (way : Way) {b : List ℕ} {z : Plan} (k : Planned b z) (cs ws ns : Lis
     columns-at e h =
         let g : AtWindow Columns b (stores cs ws ns) hs d v = rw e at h in (
           record {
+            state = refl;
             sums = g .carried .0;
             below = g .carried .1;
             store = joined (roomOf Columns (frameOf b .set) .numbers) (columnStore (frameOf b) (v .column) (v .row)) ns (g .holds .numbers);

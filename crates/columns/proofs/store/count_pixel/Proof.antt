@@ -6,7 +6,7 @@ use Rattle.spec.specs.Frame.{frameOf, level, guide}
 use Rattle.spec.proofs.Plans.{facts, place-low}
 use Rattle.window.proofs.PixelLaws.{level-low, guide-low, guides-high, place-small}
 use Rattle.columns.specs.Blocks.{Put, Able, block, hit}
-use Rattle.columns.proofs.BlockLaws.{in-store, able-first, able-second, asks, changed, put-pixel}
+use Rattle.columns.proofs.BlockLaws.{in-store, able-first, able-second, asks, count-put, put-pixel}
 use borrow.Author.Needs.{needs}
 use Rattle.columns.proofs.store.count_pixel.Statement.{statement}
 use Rattle.columns.proofs.store.count_pixel.Tie as tie
@@ -74,7 +74,7 @@ counted : (c : tie.After-change) →
     (c .before .before .before .before .before .before .before .before .args .y)))
     (c .before .before .before .before .before .before .before .before .args .blocks .now) (c .change .last .0)
 counted c =
-    changed (frame (c .before .before .before .before .before .before .before .before))
+    count-put (frame (c .before .before .before .before .before .before .before .before))
     (c .before .before .before .before .before .before .before .before .args .x)
     (c .before .before .before .before .before .before .before .before .args .y) (λ u v. 1)
     (c .before .before .before .before .before .before .before .before .args .add)
@@ -200,7 +200,7 @@ returns c =
     (c .before .before .before .before .before .before .before .before .before .before .before .before .before .before .before .args .a)
     (c .before .before .before .before .before .before .before .before .before .before .before .before .before .before .before .args .b)
     (counted (c .before .before .before .before .before .before .before))
-    (changed (frame (c .before .before .before .before .before .before .before .before .before .before .before .before .before .before .before))
+    (count-put (frame (c .before .before .before .before .before .before .before .before .before .before .before .before .before .before .before))
     (c .before .before .before .before .before .before .before .before .before .before .before .before .before .before .before .args .x)
     (c .before .before .before .before .before .before .before .before .before .before .before .before .before .before .before .args .y)
     (guide (frame (c .before .before .before .before .before .before .before .before .before .before .before .before .before .before .before)))
