@@ -68,7 +68,8 @@ module _ {b : List ℕ} {z : Plan} (pl : Planned b z) where
     cells = λ q l. o .zeros q l ∙ sym (columns-none _+_ 0 b z x t (share (z .levels) q));
   }
 
-  module _ {x t n : ℕ} {xs : List ℕ} (v : HistogramFilled b z x t n xs) {d : Line} (ed : d ≡ columnLine z (x + n) t) {p : List ℕ} (r : LinePixels b z d p)
+  module _ {x t n : ℕ} {xs : List ℕ} (v : HistogramFilled b z x t n xs) {d : Line} (ed : d ≡ columnLine z (x + n) t)
+      {p : List ℕ} (r : LinePixels b z d p)
     where
       pub fill-asks : n < 31 →
           ((z .levels ≤ 1024) × (z .levels + z .levels ≤ length xs) × PixelsBelow (z .levels) 256 p) × RoomFor true (z .levels) p xs
@@ -83,7 +84,9 @@ module _ {b : List ℕ} {z : Plan} (pl : Planned b z) where
       unfolding changed
       filled-next e g = record {
         long = rw e (v .long);
-        low = λ q l. let a : HistogramPlace (z .levels) = record { at = q; low = l } in omega (arith, g .cells a, v .low q l, list-high (below pl (r .below)) a);
+        low = λ q l.
+            let a : HistogramPlace (z .levels) = record { at = q; low = l } in
+            omega (arith, g .cells a, v .low q l, list-high (below pl (r .below)) a);
         cells = λ q l. let h =
             share (z .levels) q in omega (arith, g .cells (record { at = q; low = l }), v .cells q l, columns-more _+_ 0 b z x t h n p ed (r .sum h));
       }

@@ -51,7 +51,8 @@ own-decides {b} {z} k own =
 
 -- ---- refused
 untouched : {v : Verdict} {r : Walked} (a : Stores) (out : List ℕ) → Zeroed v r → Untouched a a out out r
-untouched a out h = record { shifts = h .shifts; cut = h .cut; balance-box = h .balance-box; counts = refl; words = refl; numbers = refl; answers = refl }
+untouched a out h =
+    record { shifts = h .shifts; cut = h .cut; balance-box = h .balance-box; counts = refl; words = refl; numbers = refl; answers = refl }
 
 module _ (v : Verdict) (r : Walked) (h : Zeroed v r) (f : fires (numbered v) ≡ true) (a : Stores) (out : List ℕ) where
   pub walks-refused : (b : List ℕ) (way s t : ℕ) (ms : List ℕ) → numbered v ≡ walkOutcome b way s t (length ms) (lent a) (length out) →
@@ -121,7 +122,8 @@ module _ {b : List ℕ} {z : Plan} (k : Planned b z) (way : ℕ) (y : Way) (ey :
   fits-by a f =
       let e : settingsOf b ≡ settingsIn z = sym (settings-same k ∙ set-of b) in
       let g : RoomFits (roomOf y (settingsIn z)) (lent a) =
-      subst (λ (q : Way). RoomFits (roomOf q (settingsIn z)) (lent a)) (sym ey) (subst (λ (s : Settings). RoomFits (roomOf (wayOf way) s) (lent a)) e f)
+      subst (λ (q : Way). RoomFits (roomOf q (settingsIn z)) (lent a)) (sym ey)
+      (subst (λ (s : Settings). RoomFits (roomOf (wayOf way) s) (lent a)) e f)
       in
       record { counts = g .counts; words = g .words; numbers = g .numbers }
 

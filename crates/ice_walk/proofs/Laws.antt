@@ -157,7 +157,8 @@ module _ (way : Way) (b ms : List ℕ) where
       record {
         most = omega arith;
         visited = rw e (record { state = h .state; here = h .here; kept = kept-trans way _ a z z′ (w .visited .kept) (h .kept) });
-        held = subst (λ (n : ℕ). StateBounded p (stateOf v′) n) j (subst (λ (q : State). StateBounded p q (suc (1 + i))) (sym (h .state)) (bounded-step (w .held) byte));
+        held = subst (λ (n : ℕ). StateBounded p (stateOf v′) n) j
+            (subst (λ (q : State). StateBounded p q (suc (1 + i))) (sym (h .state)) (bounded-step (w .held) byte));
       }
 
   pub going-end : (x y : State) (a₀ a z : Stores) (hs : List ℕ) (d : List ℤ) (v : Visit) (i : ℕ) → Going way b ms y a z hs d v i → length ms ≤ i →

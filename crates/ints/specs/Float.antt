@@ -325,7 +325,8 @@ withSign-mul false true a b = sym (mul-neg (pos a) (pos b))
 withSign-mul true false a b = sym (neg-mul (pos a) (pos b))
 withSign-mul true true a b = sym (neg-mul (pos a) (negℤ (pos b)) ∙ ap negℤ (mul-neg (pos a) (pos b)) ∙ negℤ-negℤ (pos (a * b)))
 
-mul-worth : (f : Format) (x y : Float) (s t : Bool) (a b : ℕ) → HasValue x s a 1 → HasValue y t b 1 → FloatOf f (mul f x y) (withSign s a *ℤ withSign t b)
+mul-worth : (f : Format) (x y : Float) (s t : Bool) (a b : ℕ) → HasValue x s a 1 → HasValue y t b 1 →
+    FloatOf f (mul f x y) (withSign s a *ℤ withSign t b)
 unfolding mul
 mul-worth f x y s t a b =
     on-finite (λ (x y : Float). FloatOf f (mul f x y) (withSign s a *ℤ withSign t b)) s t a b
@@ -389,7 +390,8 @@ lt-worth x y s t a b =
     x y
 
 -- `x < y` of two floats that stand for integers is the integers' order
-pub rep-lt : {f : Format} {x y : Float} {a b : ℤ} → FloatOf f x a → FloatOf f y b → natAbs a ≤ 2 ^ prec f → natAbs b ≤ 2 ^ prec f → Ieee.lt x y ≡ ltZ a b
+pub rep-lt : {f : Format} {x y : Float} {a b : ℤ} → FloatOf f x a → FloatOf f y b → natAbs a ≤ 2 ^ prec f → natAbs b ≤ 2 ^ prec f →
+    Ieee.lt x y ≡ ltZ a b
 rep-lt {f} {x} {y} {a} {b} r q h k =
     lt-worth x y (r .sign) (q .sign) (r .size) (q .size) (has-value r h) (has-value q k) ∙ ap₂ ltZ (r .value) (q .value)
 

@@ -239,7 +239,8 @@ solve1 f p a = solve (a ∷ []) (f (var 0)) p
 pub solve2 : (f : Expr → Expr → Equation) → EquationHolds (f (var 0) (var 1)) → (a b : ℤ) → Says (a ∷ b ∷ []) (f (var 0) (var 1))
 solve2 f p a b = solve (a ∷ b ∷ []) (f (var 0) (var 1)) p
 
-pub solve3 : (f : Expr → Expr → Expr → Equation) → EquationHolds (f (var 0) (var 1) (var 2)) → (a b c : ℤ) → Says (a ∷ b ∷ c ∷ []) (f (var 0) (var 1) (var 2))
+pub solve3 : (f : Expr → Expr → Expr → Equation) → EquationHolds (f (var 0) (var 1) (var 2)) → (a b c : ℤ) →
+    Says (a ∷ b ∷ c ∷ []) (f (var 0) (var 1) (var 2))
 solve3 f p a b c = solve (a ∷ b ∷ c ∷ []) (f (var 0) (var 1) (var 2)) p
 
 pub solve4 : (f : Expr → Expr → Expr → Expr → Equation) → EquationHolds (f (var 0) (var 1) (var 2) (var 3)) → (a b c d : ℤ) →

@@ -52,8 +52,8 @@ count-pixel-requires c κs = let st = c .before .before .before .before .before 
         (
           (places (c .before) .0, places (c .before) .1, omega (arith, v .put .len, st .pre .1 .0 .2)),
           pile-able v (c .before .loop-test .taken)
-              (strip-able (frameOf (st .args .file .now)) (st .args .add) (st .args .y) (st .args .a) (st .args .b) (st .args .apart) (st .args .first)
-              (st .args .count) (st .pre .1 .1 .1)),
+              (strip-able (frameOf (st .args .file .now)) (st .args .add) (st .args .y) (st .args .a) (st .args .b) (st .args .apart)
+              (st .args .first) (st .args .count) (st .pre .1 .1 .1)),
         ),
       ),
     )
