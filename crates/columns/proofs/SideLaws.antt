@@ -19,7 +19,7 @@ use Rattle.spec.specs.Window.{levelSum}
 use Rattle.spec.proofs.Moves.{levelSum-columns}
 use Rattle.spec.proofs.Limits.{FrameLimits}
 use Rattle.columns.specs.declared.store.Exchange.{Exchange}
-use Rattle.columns.specs.Blocks.{when, block, contentD, storeSize, Swap, BlockReady, cellOf, pairD, exchangeOf, Neighbours}
+use Rattle.columns.specs.Blocks.{when, block, contentD, blocksSize, Swap, BlockReady, cellOf, pairD, exchangeOf, Neighbours}
 use Rattle.columns.proofs.ContentLaws.{
   Which,
   counts,
@@ -150,7 +150,7 @@ module _ (w : ℕ) (on : Bool) (l x : ℕ) (xs : List ℕ) (i : ℕ) where
   unfolding pairD
   pair-second m e = rw (eq-eqb m (2 * w + 1) e, ne-eqb m (2 * w) (λ d. omega arith)) (native.Mathlib.Nat.zero-add _)
 
-module _ {p : Frame} (g : FrameLimits p) (c t : ℕ) (xs : List ℕ) (e : xs ≡ columnStore p c t ++ drop (storeSize p) xs) where
+module _ {p : Frame} (g : FrameLimits p) (c t : ℕ) (xs : List ℕ) (e : xs ≡ columnStore p c t ++ drop (blocksSize p) xs) where
   pub cell-count : (on : Bool) (x i : ℕ) → (on ≡ true → x < p .set .width) → i < p .set .levels →
       cellOf on (p .set .levels) x xs i ≡ when on (columnSum p t (λ u v. 1) x i)
   cell-count true x i low h = let lx = low refl in holds-cell p c t xs e x i (omega arith) h ∙ content-count p c t i x lx
@@ -227,7 +227,7 @@ module _ {p : Frame} (g : FrameLimits p) (c t : ℕ) (xs : List ℕ) (e : xs ≡
 
 -- ---- what the two passes ask, and what they give
 module _ {p : Frame} (g : FrameLimits p) {s s′ : ℕ} (t : ℕ) (k : Neighbours s s′ (p .set .width)) (xs : List ℕ)
-    (e : xs ≡ columnStore p s t ++ drop (storeSize p) xs) where
+    (e : xs ≡ columnStore p s t ++ drop (blocksSize p) xs) where
   abbrev gain : Bool
   gain = exchangeOf s s′ (p .set .radius) (p .set .width) .enters
 
@@ -282,7 +282,7 @@ module _ {p : Frame} (g : FrameLimits p) {s s′ : ℕ} (t : ℕ) (k : Neighbour
 
   pub across-holds : (zs : List ℕ) →
       Swap (p .set .levels) (pairD (p .set .width) gain (p .set .levels) more xs) (pairD (p .set .width) lose (p .set .levels) less xs) xs zs
-      → zs ≡ columnStore p s′ t ++ drop (storeSize p) xs
+      → zs ≡ columnStore p s′ t ++ drop (blocksSize p) xs
   across-holds zs q =
       moved-cells g s t s′ t (pairD (p .set .width) gain (p .set .levels) more xs) (pairD (p .set .width) lose (p .set .levels) less xs) law
       (λ m i h. pair-none (p .set .width) gain (p .set .levels) more xs i m (λ o. omega arith) (λ o. omega arith))

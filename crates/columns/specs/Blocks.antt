@@ -17,8 +17,8 @@ abbrev pub when : Bool → ℕ → ℕ
 when b n = if b then n else 0
 
 -- the store's length
-abbrev pub storeSize : Frame → ℕ
-storeSize p = 2 * (p .set .width * p .set .levels) + 2 * p .set .levels
+abbrev pub blocksSize : Frame → ℕ
+blocksSize p = 2 * (p .set .width * p .set .levels) + 2 * p .set .levels
 
 -- ys is xs with D put in, or taken out
 pub record Put (add : Bool) (l : ℕ) (D : ℕ → ℕ → ℕ) (xs ys : List ℕ) : Type 0 where
@@ -38,8 +38,8 @@ pub record Cleared (n : ℕ) (xs ys : List ℕ) : Type 0 where
 
 -- ---- pixels and rows
 -- f at the pixel, where its level is i
-abbrev pub hit : Frame → (ℕ → ℕ → ℕ) → ℕ → ℕ → ℕ → ℕ
-hit p f x y i = if eqb (level p x y) i then f x y else 0
+abbrev pub atLevel : Frame → (ℕ → ℕ → ℕ) → ℕ → ℕ → ℕ → ℕ
+atLevel p f x y i = if eqb (level p x y) i then f x y else 0
 
 -- F in block a
 abbrev pub block : ℕ → (ℕ → ℕ) → ℕ → ℕ → ℕ
@@ -47,7 +47,7 @@ block a F m i = if eqb m a then F i else 0
 
 -- a pixel in the counts of block a and the guide sums of block b
 unfoldable pub pixelD : Frame → ℕ → ℕ → ℕ → ℕ → ℕ → ℕ → ℕ
-pixelD p a b x y m i = block a (hit p (λ u v. 1) x y) m i + block b (hit p (guide p) x y) m i
+pixelD p a b x y m i = block a (atLevel p (λ u v. 1) x y) m i + block b (atLevel p (guide p) x y) m i
 
 -- n pixels of row y from column first on, that of column x in the blocks a + x · apart and b + x · apart
 unfoldable pub stripD : Frame → ℕ → ℕ → ℕ → ℕ → ℕ → ℕ → ℕ → ℕ → ℕ

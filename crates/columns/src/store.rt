@@ -13,7 +13,7 @@ ghost use Rattle.spec.specs.Columns.{columnStore};
 ghost use Rattle.spec.specs.Frame.{frameOf};
 ghost use Rattle.window.specs.Line.{Adjacent};
 ghost use Rattle.columns.specs.Blocks.{when, Put, Able, Cleared, Swap, BlockReady, Neighbours, InWidth, SideReady};
-ghost use Rattle.columns.specs.Blocks.{block, cellOf, pixelD, stripD, rowD, pairD, exchangeOf, storeSize};
+ghost use Rattle.columns.specs.Blocks.{block, cellOf, pixelD, stripD, rowD, pairD, exchangeOf, blocksSize};
 
 // Which column or row enters and which one leaves as the centre moves by one, and whether it is in the picture.
 pub struct Exchange {
@@ -119,9 +119,9 @@ pub fn clear(blocks: &mut [u32], n: usize)
 // The store of the window at (s, t), whatever was there before.
 pub fn start(file: &[u8], plan: Plan, blocks: &mut [u32], s: usize, t: usize)
     requires { ⌜ Planned (now file) plan ⌝ }
-    requires { ⌜ (s < plan .width) × (t < plan .height) × (storeSize (frameOf (now file)) ≤ length (now blocks)) ⌝ }
+    requires { ⌜ (s < plan .width) × (t < plan .height) × (blocksSize (frameOf (now file)) ≤ length (now blocks)) ⌝ }
     ensures { λ _. ⌜ now (blocks .exit) ≡ columnStore (frameOf (now (file .entry))) s t
-        ++ drop (storeSize (frameOf (now (file .entry)))) (now (blocks .entry)) ⌝ }
+        ++ drop (blocksSize (frameOf (now (file .entry)))) (now (blocks .entry)) ⌝ }
 {
     let n = 2 * (plan.width * plan.levels) + 2 * plan.levels;
     clear(blocks, n);
@@ -182,9 +182,9 @@ pub fn count_row_if(
 pub fn vertical(file: &[u8], plan: Plan, blocks: &mut [u32], s: usize, t: usize, t2: usize)
     requires { ⌜ Planned (now file) plan ⌝ }
     requires { ⌜ (s < plan .width) × Neighbours t t2 (plan .height) ⌝ }
-    requires { ⌜ now blocks ≡ columnStore (frameOf (now file)) s t ++ drop (storeSize (frameOf (now file))) (now blocks) ⌝ }
+    requires { ⌜ now blocks ≡ columnStore (frameOf (now file)) s t ++ drop (blocksSize (frameOf (now file))) (now blocks) ⌝ }
     ensures { λ _. ⌜ now (blocks .exit) ≡ columnStore (frameOf (now (file .entry))) s t2
-        ++ drop (storeSize (frameOf (now (file .entry)))) (now (blocks .entry)) ⌝ }
+        ++ drop (blocksSize (frameOf (now (file .entry)))) (now (blocks .entry)) ⌝ }
 {
     let d = exchange_of(t, t2, plan.radius, plan.height);
     count_row_if(file, plan, blocks, s, d.entering, d.enters, true);
@@ -253,9 +253,9 @@ pub fn sideways(blocks: &mut [u32], w: usize, l: usize, d: Exchange)
 pub fn slide(file: &[u8], plan: Plan, blocks: &mut [u32], s: usize, t: usize, s2: usize, t2: usize)
     requires { ⌜ Planned (now file) plan ⌝ }
     requires { ⌜ Adjacent plan s t s2 t2 ⌝ }
-    requires { ⌜ now blocks ≡ columnStore (frameOf (now file)) s t ++ drop (storeSize (frameOf (now file))) (now blocks) ⌝ }
+    requires { ⌜ now blocks ≡ columnStore (frameOf (now file)) s t ++ drop (blocksSize (frameOf (now file))) (now blocks) ⌝ }
     ensures { λ _. ⌜ now (blocks .exit) ≡ columnStore (frameOf (now (file .entry))) s2 t2
-        ++ drop (storeSize (frameOf (now (file .entry)))) (now (blocks .entry)) ⌝ }
+        ++ drop (blocksSize (frameOf (now (file .entry)))) (now (blocks .entry)) ⌝ }
 {
     if s == s2 {
         vertical(file, plan, blocks, s, t, t2);

@@ -20,7 +20,7 @@ use Rattle.window.specs.Sums.{SumsAt}
 use Rattle.window.proofs.PixelLaws.{plan-limits, levels-high}
 use Rattle.level_search.specs.declared.search.Found.{Found}
 use Rattle.levels.specs.Answer.{Profiled, Answered}
-use Rattle.columns.specs.Blocks.{storeSize}
+use Rattle.columns.specs.Blocks.{blocksSize}
 use Rattle.columns.proofs.ContentLaws.{holds-cell, holds-self, content-window, content-window-guide}
 use Rattle.columns.proofs.MoveLaws.{held-long}
 use Rattle.visit.specs.declared.Running.{Running}
@@ -52,25 +52,25 @@ lent-blocks z xs P h =
 
 module _ (p : Frame) (s t : ℕ) (xs ys : List ℕ) where
   -- the store's length and the room for it are one number
-  pub made : ys ≡ columnStore p s t ++ drop (storeSize p) xs → ys ≡ storeAt p s t xs
+  pub made : ys ≡ columnStore p s t ++ drop (blocksSize p) xs → ys ≡ storeAt p s t xs
   unfolding roomOf
   made e = e
 
-  pub as-made : ys ≡ storeAt p s t xs → ys ≡ columnStore p s t ++ drop (storeSize p) xs
+  pub as-made : ys ≡ storeAt p s t xs → ys ≡ columnStore p s t ++ drop (blocksSize p) xs
   unfolding roomOf
   as-made e = e
 
-  pub made-self : ys ≡ columnStore p s t ++ drop (storeSize p) xs → ys ≡ storeAt p s t ys
+  pub made-self : ys ≡ columnStore p s t ++ drop (blocksSize p) xs → ys ≡ storeAt p s t ys
   unfolding roomOf
   made-self e = holds-self p s t xs ys e
 
-pub room-long : (p : Frame) {n : ℕ} → roomOf Columns (p .set) .numbers ≤ n → storeSize p ≤ n
+pub room-long : (p : Frame) {n : ℕ} → roomOf Columns (p .set) .numbers ≤ n → blocksSize p ≤ n
 unfolding roomOf
 room-long p h = h
 
 -- ---- what they hold
 module _ {b : List ℕ} {z : Plan} (pl : Planned b z) (s t : ℕ) (xs : List ℕ) (e : xs ≡ storeAt (frameOf b) s t xs) where
-  held : xs ≡ columnStore (frameOf b) s t ++ drop (storeSize (frameOf b)) xs
+  held : xs ≡ columnStore (frameOf b) s t ++ drop (blocksSize (frameOf b)) xs
   held = as-made (frameOf b) s t xs xs e
 
   pub store-places : (z .width ≤ 1024) × (z .levels ≤ 1024) × (2 * (z .width * z .levels) + 2 * z .levels ≤ length xs)
@@ -115,7 +115,7 @@ running a f = record { sums = a; below = f .tally; free = record { head = 0; cou
 
 pub visited : (p : Frame) (s t c n : ℕ) (a : Sums) (f : Found) (v : Visit) (xs ys : List ℕ) → v ≡ answered s t (f .level) (f .shifts) (running a f) →
     SumsAt p s t a
-    → Answered p s t c n f → ys ≡ columnStore p s t ++ drop (storeSize p) xs → ColumnsVisited p (arrive p s t c n) xs v ys
+    → Answered p s t c n f → ys ≡ columnStore p s t ++ drop (blocksSize p) xs → ColumnsVisited p (arrive p s t c n) xs v ys
 visited p s t c n a f v xs ys e q h m =
     subst (λ (v : Visit). ColumnsVisited p (arrive p s t c n) xs v ys) (sym e)
     (record {

@@ -19,7 +19,7 @@ use mir.Syntax.{Width}
 use mir.Val.{SFits, hbits}
 use Rattle.ints.specs.Polynomial.{Expr, var, lit, _⊕_, _⊖_, _⊗_, opposite, eval, normalize, ring}
 use Rattle.ints.specs.Computation.{Variable, Operations, values, bounds, computed, allBelow}
-use Rattle.ints.specs.Machine.{Cell, stored, signedOps, beforeStore, need, computes}
+use Rattle.ints.specs.Machine.{Cell, readBack, signedOps, beforeStore, need, computes}
 use Rattle.ints.specs.Float.{FloatOf, FloatCell, floatOps, rep-at, rep-computed}
 
 -- ---- a value: one rule for each operation, for a literal, and for each place in the list of variables
@@ -147,22 +147,22 @@ pub record BeforeStore (w : Width) (xs : List Cell) (x : ℤ) : Type 0 where
   pub is : beforeStore w xs expr ≡ x
 
 abbrev pub has-add : (w : Width) (xs : List Cell) (x y : ℤ) → Computed (signedOps w) xs x → Computed (signedOps w) xs y →
-    Computed (signedOps w) xs (stored w (x +ℤ y))
-has-add w xs x y p q = record { expr = p .expr ⊕ q .expr; is = ap₂ (λ (a b : ℤ). stored w (a +ℤ b)) (p .is) (q .is) }
+    Computed (signedOps w) xs (readBack w (x +ℤ y))
+has-add w xs x y p q = record { expr = p .expr ⊕ q .expr; is = ap₂ (λ (a b : ℤ). readBack w (a +ℤ b)) (p .is) (q .is) }
 
 abbrev pub before-add : (w : Width) (xs : List Cell) (x y : ℤ) → Computed (signedOps w) xs x → Computed (signedOps w) xs y → BeforeStore w xs (x +ℤ y)
 before-add w xs x y p q = record { expr = p .expr ⊕ q .expr; is = ap₂ (λ (a b : ℤ). a +ℤ b) (p .is) (q .is) }
 
 abbrev pub has-sub : (w : Width) (xs : List Cell) (x y : ℤ) → Computed (signedOps w) xs x → Computed (signedOps w) xs y →
-    Computed (signedOps w) xs (stored w (x -ℤ y))
-has-sub w xs x y p q = record { expr = p .expr ⊖ q .expr; is = ap₂ (λ (a b : ℤ). stored w (a -ℤ b)) (p .is) (q .is) }
+    Computed (signedOps w) xs (readBack w (x -ℤ y))
+has-sub w xs x y p q = record { expr = p .expr ⊖ q .expr; is = ap₂ (λ (a b : ℤ). readBack w (a -ℤ b)) (p .is) (q .is) }
 
 abbrev pub before-sub : (w : Width) (xs : List Cell) (x y : ℤ) → Computed (signedOps w) xs x → Computed (signedOps w) xs y → BeforeStore w xs (x -ℤ y)
 before-sub w xs x y p q = record { expr = p .expr ⊖ q .expr; is = ap₂ (λ (a b : ℤ). a -ℤ b) (p .is) (q .is) }
 
 abbrev pub has-mul : (w : Width) (xs : List Cell) (x y : ℤ) → Computed (signedOps w) xs x → Computed (signedOps w) xs y →
-    Computed (signedOps w) xs (stored w (x *ℤ y))
-has-mul w xs x y p q = record { expr = p .expr ⊗ q .expr; is = ap₂ (λ (a b : ℤ). stored w (a *ℤ b)) (p .is) (q .is) }
+    Computed (signedOps w) xs (readBack w (x *ℤ y))
+has-mul w xs x y p q = record { expr = p .expr ⊗ q .expr; is = ap₂ (λ (a b : ℤ). readBack w (a *ℤ b)) (p .is) (q .is) }
 
 abbrev pub before-mul : (w : Width) (xs : List Cell) (x y : ℤ) → Computed (signedOps w) xs x → Computed (signedOps w) xs y → BeforeStore w xs (x *ℤ y)
 before-mul w xs x y p q = record { expr = p .expr ⊗ q .expr; is = ap₂ (λ (a b : ℤ). a *ℤ b) (p .is) (q .is) }

@@ -53,7 +53,7 @@ use Rattle.ints.specs.Order.{nat-eq, add-parts, posPart-neg, negPart-neg
 use Rattle.ints.specs.Polynomial.{Expr, eval}
 use Rattle.ints.specs.Bound.{abs-neg}
 use Rattle.ints.specs.Computation.{Variable, Operations, Exact, values, bounds, computed, allBelow, eval-below, computed-means}
-use Rattle.ints.specs.Machine.{stored, read-bounded}
+use Rattle.ints.specs.Machine.{readBack, read-bounded}
 
 -- ±n, which is -n where the sign is set
 abbrev pub withSign : Bool → ℕ → ℤ
@@ -402,7 +402,8 @@ in-float f (pos n) h = le→leb n (2 ^ prec f) h
 in-float f (negsuc n) h = lt→ltb n (2 ^ prec f) h
 
 -- `int-to-float-..` of a signed number: `float-need binary64 w64 z B h tt`
-pub float-need : (f : Format) (w : Width) (z : ℤ) (B : ℕ) → natAbs z ≤ B → T (ltb B (2 ^ hbits w) && leb B (2 ^ prec f)) → T (inFloat f (stored w z))
+pub float-need : (f : Format) (w : Width) (z : ℤ) (B : ℕ) → natAbs z ≤ B → T (ltb B (2 ^ hbits w) && leb B (2 ^ prec f)) →
+    T (inFloat f (readBack w z))
 float-need f w z B h t =
     let both = and-yes (ltb B (2 ^ hbits w)) (leb B (2 ^ prec f)) t in
     subst (λ (i : ℤ). T (inFloat f i)) (sym (read-bounded w B h (both .0))) (in-float f z (le-trans h (leb→le B (2 ^ prec f) (both .1))))
@@ -422,7 +423,7 @@ knownFloat x z B r h = record { has = x; is = z; bound = B; same = r; small = h 
 
 -- a signed number that was cast: `signedFloat binary64 w64 z B h tt`
 abbrev pub signedFloat : (f : Format) (w : Width) (z : ℤ) (B : ℕ) → natAbs z ≤ B → T (ltb B (2 ^ hbits w)) → FloatCell f
-signedFloat f w z B h t = knownFloat (ofInt f (stored w z)) z B (rep-at (read-bounded w B h t) (rep-ofInt f (stored w z))) h
+signedFloat f w z B h t = knownFloat (ofInt f (readBack w z)) z B (rep-at (read-bounded w B h t) (rep-ofInt f (readBack w z))) h
 
 -- an unsigned number that was cast: `unsignedFloat binary64 n B h`
 abbrev pub unsignedFloat : (f : Format) (n B : ℕ) → n ≤ B → FloatCell f
