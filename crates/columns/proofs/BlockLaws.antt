@@ -12,11 +12,11 @@ use lib.Dec.{eqb}
 use lib.ListN.{length, getD, set, length-set}
 use lib.Seq.{getD-set-same, getD-set-other}
 use borrow.Author.Tests.{eq-eqb, ne-eqb}
-use Rattle.spec.specs.Base.{if_then_else_, sum}
+use Rattle.spec.specs.Base.{if_then_else_, sum, when}
 use Rattle.spec.specs.Frame.{Frame, level, guide}
 use Rattle.spec.specs.Window.{span}
 use Rattle.spec.proofs.Ranges.{natSums, fold-parts}
-use Rattle.columns.specs.Blocks.{when, Put, Able, block, atLevel, pixelD, stripD, rowD, Cleared}
+use Rattle.columns.specs.Blocks.{Put, Able, block, atLevel, pixelD, stripD, rowD, Cleared}
 use Rattle.window.proofs.LineLaws.{fold-none, fold-more}
 use Rattle.pixels.specs.Additive.{changed, Fits}
 use Rattle.pixels.proofs.AdditiveLaws.{fits-down}

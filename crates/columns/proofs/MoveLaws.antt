@@ -8,6 +8,7 @@ use Prim.Native.Nat.{ℕ, _+_, _-_, _*_, _≤_, _<_}
 use native.Mathlib.Nat.{mul-le-mul}
 use native.Mathlib.Omega.{arith}
 use lib.ListN.{length, getD, drop}
+use Rattle.spec.specs.Base.{when}
 use Rattle.spec.specs.declared.Plan.{Plan}
 use Rattle.spec.specs.Frame.{frameOf}
 use Rattle.spec.specs.Checks.{Planned}
@@ -16,7 +17,7 @@ use Rattle.spec.proofs.Plans.{facts}
 use Rattle.window.specs.Line.{Adjacent, right, left, down, up}
 use Rattle.window.proofs.PixelLaws.{plan-limits, levels-high}
 use Rattle.columns.specs.declared.store.Exchange.{Exchange}
-use Rattle.columns.specs.Blocks.{when, Put, Able, Swap, pairD, rowD, blocksSize, exchangeOf, Neighbours, enterD, leaveD, InWidth, SideReady}
+use Rattle.columns.specs.Blocks.{Put, Able, Swap, pairD, rowD, blocksSize, exchangeOf, Neighbours, enterD, leaveD, InWidth, SideReady}
 use Rattle.columns.proofs.ContentLaws.{holds-long}
 use Rattle.columns.proofs.StoreLaws.{exchange-small, entering-low, leaving-low, enter-able, leave-able, rows-moved}
 use Rattle.columns.proofs.SideLaws.{ready-counts, ready-guides, across-holds}

@@ -12,7 +12,7 @@ use lib.Dec.{leb, ltb, eqb}
 use lib.ListN.{length, getD, drop}
 use borrow.Author.Tests.{ltb-true, lt-ltb, le-ltb}
 use Rattle.spec.specs.declared.Plan.{Plan}
-use Rattle.spec.specs.Base.{if_then_else_, sum}
+use Rattle.spec.specs.Base.{if_then_else_, sum, when}
 use Rattle.spec.specs.Frame.{Frame, frameOf, level, guide}
 use Rattle.spec.specs.Checks.{Planned}
 use Rattle.spec.specs.Window.{span, inRow}
@@ -24,7 +24,7 @@ use Rattle.spec.proofs.Bounds.{if-high}
 use Rattle.spec.proofs.Plans.{facts}
 use Rattle.window.proofs.LineLaws.{span-high}
 use Rattle.columns.specs.declared.store.Exchange.{Exchange}
-use Rattle.columns.specs.Blocks.{when, Put, Able, Cleared, Neighbours}
+use Rattle.columns.specs.Blocks.{Put, Able, Cleared, Neighbours}
 use Rattle.columns.specs.Blocks.{atLevel, rowD, contentD, blocksSize, ahead, back, exchangeOf, enterD, leaveD}
 use Rattle.columns.proofs.BlockLaws.{store-size, in-store}
 use Rattle.columns.proofs.ContentLaws.{

@@ -8,13 +8,10 @@ use mathlib.Core.Logic.{_⊎_}
 use Prim.Native.Nat.{ℕ, _+_, _-_, _*_, _≤_, _<_}
 use lib.Dec.{leb, ltb, eqb}
 use lib.ListN.{length, getD}
-use Rattle.spec.specs.Base.{if_then_else_, sum}
+use Rattle.spec.specs.Base.{if_then_else_, sum, when}
 use Rattle.spec.specs.Frame.{Frame, level, guide}
 use Rattle.spec.specs.Window.{span}
 use Rattle.columns.specs.declared.store.Exchange.{Exchange}
-
-abbrev pub when : Bool → ℕ → ℕ
-when b n = if b then n else 0
 
 -- the store's length
 abbrev pub blocksSize : Frame → ℕ

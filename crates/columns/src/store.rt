@@ -8,11 +8,12 @@ ghost use mathlib.Core.Bool.{true};
 ghost use mathlib.Core.List.{_++_};
 ghost use Prim.Native.Nat.{ℕ, _+_, _*_, _<_, _≤_};
 ghost use lib.ListN.{length, getD, drop};
+ghost use Rattle.spec.specs.Base.{when};
 ghost use Rattle.spec.specs.Checks.{Planned};
 ghost use Rattle.spec.specs.Columns.{columnStore};
 ghost use Rattle.spec.specs.Frame.{frameOf};
 ghost use Rattle.window.specs.Line.{Adjacent};
-ghost use Rattle.columns.specs.Blocks.{when, Put, Able, Cleared, Swap, BlockReady, Neighbours, InWidth, SideReady};
+ghost use Rattle.columns.specs.Blocks.{Put, Able, Cleared, Swap, BlockReady, Neighbours, InWidth, SideReady};
 ghost use Rattle.columns.specs.Blocks.{block, cellOf, pixelD, stripD, rowD, pairD, exchangeOf, blocksSize};
 
 // Which column or row enters and which one leaves as the centre moves by one, and whether it is in the picture.
