@@ -6,7 +6,7 @@ ghost use mathlib.Core.Path.{_≡_};
 ghost use mathlib.Core.Bool.{true, false};
 ghost use Prim.Native.Nat.{_+_, _*_, _<_, _≤_};
 ghost use lib.ListN.{length};
-ghost use Rattle.chain_nodes.specs.Nodes.{nodeLevel, nodeCount, nodeGuides, raised, lowered, linked, unlinked, freed};
+ghost use Rattle.chain_nodes.specs.Nodes.{nodeLevel, nodePixels, nodeGuides, raised, lowered, linked, unlinked, freed};
 
 // The free list: its head and its length.
 pub struct FreeList {
@@ -37,7 +37,7 @@ pub fn holds(nodes: &[u32], node: u32, level: Level) -> bool
 // One pixel more at the node.
 pub fn raise(nodes: &mut [u32], node: u32, guide: Guide)
     requires { ⌜ (0 < node) × (4 * node < length (now nodes)) ⌝ }
-    requires { ⌜ (nodeCount (now nodes) node < 4294967295) × (nodeGuides (now nodes) node + guide .0 < 4294967296) ⌝ }
+    requires { ⌜ (nodePixels (now nodes) node < 4294967295) × (nodeGuides (now nodes) node + guide .0 < 4294967296) ⌝ }
     ensures { λ _. ⌜ now (nodes .exit) ≡ raised node (guide .0) (now (nodes .entry)) ⌝ }
 {
     let at = place(node);
@@ -50,7 +50,7 @@ pub fn raise(nodes: &mut [u32], node: u32, guide: Guide)
 // One pixel less at the node.
 pub fn lower(nodes: &mut [u32], node: u32, guide: Guide)
     requires { ⌜ (0 < node) × (4 * node < length (now nodes)) ⌝ }
-    requires { ⌜ (0 < nodeCount (now nodes) node) × (guide .0 ≤ nodeGuides (now nodes) node) ⌝ }
+    requires { ⌜ (0 < nodePixels (now nodes) node) × (guide .0 ≤ nodeGuides (now nodes) node) ⌝ }
     ensures { λ _. ⌜ now (nodes .exit) ≡ lowered node (guide .0) (now (nodes .entry)) ⌝ }
 {
     let at = place(node);

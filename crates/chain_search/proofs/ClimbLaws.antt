@@ -22,7 +22,7 @@ use Rattle.spec.proofs.Totals.{lt-leZ, median-first}
 use Rattle.spec.proofs.Sums.{sum-none, sum-suc}
 use Rattle.window.specs.declared.coefficients.Coefficients.{Coefficients}
 use Rattle.window.specs.Coefficients.{WeighsAt, reachesHalf}
-use Rattle.chain_nodes.specs.Nodes.{nodeLevel, nodeCount, nodeGuides, nodeNext}
+use Rattle.chain_nodes.specs.Nodes.{nodeLevel, nodePixels, nodeGuides, nodeNext}
 use Rattle.chain_list.specs.Chain.{Used, floor, Live, Successor, sumBelow}
 use Rattle.chain_list.proofs.SumLaws.{zero-or-pos, sum-mono, sum-flat}
 use Rattle.chain_list.proofs.ChainLaws.{floor-pos, floor-zero}
@@ -119,7 +119,7 @@ module _ (l : ℕ) (m : List ℕ) (w : Coefficients) (a : Climbs l w m) where
       pub cur-level : nodeLevel m cur < l
       cur-level = a .chain .below (nodeLevel m cur) (omega (arith, a .chain .counts cur used, used .some))
 
-      count-next : count + nodeCount m cur ≡ sumBelow (a .cnt) (suc (nodeLevel m cur))
+      count-next : count + nodePixels m cur ≡ sumBelow (a .cnt) (suc (nodeLevel m cur))
       count-next =
           omega (arith, flat (nodeLevel m cur) (goes .from p) (λ w. omega arith) .0, a .chain .counts cur used, sum-suc (a .cnt) (nodeLevel m cur))
 
@@ -127,16 +127,17 @@ module _ (l : ℕ) (m : List ℕ) (w : Coefficients) (a : Climbs l w m) where
       sum-next =
           omega (arith, flat (nodeLevel m cur) (goes .from p) (λ w. omega arith) .1, a .chain .sums cur used, sum-suc (a .sm) (nodeLevel m cur))
 
-      pub count-small : count + nodeCount m cur ≤ 961
+      pub count-small : count + nodePixels m cur ≤ 961
       count-small = omega (arith, count-next, sum-mono (a .cnt) (suc (nodeLevel m cur)) l cur-level, a .few)
 
       pub sum-small : sum + nodeGuides m cur ≤ 245055
       sum-small = omega (arith, sum-next, sum-mono (a .sm) (suc (nodeLevel m cur)) l cur-level, a .light)
 
-      at-node : (b : Bool) → reachesHalf w (count + nodeCount m cur) (sum + nodeGuides m cur) ≡ b → reachesAt (a .cnt) (a .sm) w (nodeLevel m cur) ≡ b
+      at-node : (b : Bool) → reachesHalf w (count + nodePixels m cur) (sum + nodeGuides m cur) ≡ b →
+          reachesAt (a .cnt) (a .sm) w (nodeLevel m cur) ≡ b
       at-node b e = ap₂ (reachesHalf w) (sym count-next) (sym sum-next) ∙ e
 
-      pub climb-here : reachesHalf w (count + nodeCount m cur) (sum + nodeGuides m cur) ≡ true →
+      pub climb-here : reachesHalf w (count + nodePixels m cur) (sum + nodeGuides m cur) ≡ true →
           nodeLevel m cur ≡ first (reachesAt (a .cnt) (a .sm) w) l
       climb-here e =
           sym
@@ -146,8 +147,8 @@ module _ (l : ℕ) (m : List ℕ) (w : Coefficients) (a : Climbs l w m) where
       above : floor m cur ≡ suc (nodeLevel m cur)
       above = floor-pos m cur p
 
-      pub climb-next : reachesHalf w (count + nodeCount m cur) (sum + nodeGuides m cur) ≡ false →
-          Climbing l m w a (count + nodeCount m cur) (sum + nodeGuides m cur) (nodeNext m cur)
+      pub climb-next : reachesHalf w (count + nodePixels m cur) (sum + nodeGuides m cur) ≡ false →
+          Climbing l m w a (count + nodePixels m cur) (sum + nodeGuides m cur) (nodeNext m cur)
       climb-next e = record {
         y = cur;
         live = λ q. used;
@@ -179,9 +180,9 @@ module _ (l : ℕ) (m : List ℕ) (w : Coefficients) (a : Climbs l w m) where
   -- the last node: none before it reaches it, so it does
   pub climb-last : (count sum cur : ℕ) → Climbing l m w a count sum cur → 0 < cur → nodeNext m cur ≡ 0 →
       nodeLevel m cur ≡ first (reachesAt (a .cnt) (a .sm) w) l
-  climb-last count sum cur s p z = go (reachesHalf w (count + nodeCount m cur) (sum + nodeGuides m cur)) refl
+  climb-last count sum cur s p z = go (reachesHalf w (count + nodePixels m cur) (sum + nodeGuides m cur)) refl
     where
-      go : (b : Bool) → reachesHalf w (count + nodeCount m cur) (sum + nodeGuides m cur) ≡ b →
+      go : (b : Bool) → reachesHalf w (count + nodePixels m cur) (sum + nodeGuides m cur) ≡ b →
           nodeLevel m cur ≡ first (reachesAt (a .cnt) (a .sm) w) l
       go true e = climb-here count sum cur s p e
       go false e = absurd (omega (arith, climb-goes _ _ _ (climb-next count sum cur s p e)))
@@ -223,7 +224,7 @@ module _ {l : ℕ} {m : List ℕ} {w : Coefficients} {a : Climbs l w m} where
     node-last z = rw (s .place) (climb-last l m w a _ _ _ (s .state) there (sym (s .goes) ∙ z))
 
     module _ {b : Bool} (e : reachesHalf w (count + getD m (at - 2) 0) (sum + getD m (at - 1) 0) ≡ b) where
-      tested : reachesHalf w (count + nodeCount m (s .cur)) (sum + nodeGuides m (s .cur)) ≡ b
+      tested : reachesHalf w (count + nodePixels m (s .cur)) (sum + nodeGuides m (s .cur)) ≡ b
       tested = rw (s .place) at e
 
       pub node-here : b ≡ true → getD m (at - 3) 0 ≡ first (reachesAt (a .cnt) (a .sm) w) l
