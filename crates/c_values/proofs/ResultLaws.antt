@@ -1,4 +1,4 @@
--- The status and the offset of a verdict, and the lent results told by the status.
+-- The status and the offset of a verdict.
 -- Assumes nothing.
 use Prim.Native.Nat.{ℕ, _<_}
 use mathlib.Core.Path.{_≡_, refl, sym, _∙_}
@@ -9,7 +9,7 @@ use Rattle.spec.specs.declared.Refusal.the-variants as refusal
 use Rattle.spec.specs.declared.Verdict.{Verdict}
 use Rattle.spec.specs.declared.Verdict.the-variants.{Accepted, Refused}
 use Rattle.spec.specs.Refusal.{accepted, numbered, number, offsetOf}
-use Rattle.c_values.specs.Results.{statusOf, given, byStatus, Reported}
+use Rattle.c_values.specs.Results.{statusOf, Reported}
 
 -- ---- the report of a refusal r: n is its number
 module _ {v : Verdict} {r : Refusal} (e : v ≡ Refused r) {n : ℕ} (is : n ≡ number r) {status : ℕ} (status-is : status ≡ n) {old : ℕ} where
@@ -38,8 +38,3 @@ positive refusal.Program = omega arith
 pub passes : (v : Verdict) → statusOf (numbered v) ≡ 0 → numbered v ≡ accepted
 passes Accepted e = refl
 passes (Refused r) e = let h = positive r in absurd (omega arith)
-
--- so it tells which content a lent result has
-pub by-status : {A : Type 0} (v : Verdict) {r old new : ℕ} → Reported (numbered v) r old new → (x y : A) → byStatus r x y ≡ given (numbered v) x y
-by-status Accepted {r} q x y = rw (eq-eqb r 0 (q .status-is)) refl
-by-status (Refused e) {r} q x y = let h = positive e in rw (ne-eqb r 0 (λ z. omega (arith, q .status-is))) refl

@@ -17,10 +17,6 @@ abbrev pub given : {A : Type 0} → Outcome → A → A → A
 given accepted new old = new
 given (refused n l) new old = old
 
--- the same, told by the status
-abbrev pub byStatus : {A : Type 0} → ℕ → A → A → A
-byStatus r new old = if eqb r 0 then new else old
-
 -- the first of some values, or the old content where there are none
 abbrev pub firstOr : ℕ → List ℕ → ℕ
 firstOr old [] = old

@@ -5,7 +5,7 @@ use spec::Verdict;
 ghost use mathlib.Core.Path.{_≡_};
 ghost use Prim.Native.Nat.{min};
 ghost use Rattle.spec.specs.Refusal.{numbered};
-ghost use Rattle.c_values.specs.Results.{Reported, byStatus};
+ghost use Rattle.c_values.specs.Results.{given, Reported};
 ghost use Rattle.c_values.specs.Settings.{Narrowed, settingsFrom};
 
 // A verdict as a status, and the offset of number 7.
@@ -27,7 +27,7 @@ pub fn report(verdict: Verdict, offset: &mut u64) -> u32
 
 // The lent results of a walk: its shift count, cut point and balance box where it is accepted.
 pub fn give_walk(
-    status: u32,
+    verdict: Verdict,
     shifts: u64,
     cut: u16,
     balance_box: [i16; 256],
@@ -35,11 +35,11 @@ pub fn give_walk(
     lent_cut: &mut u16,
     lent_box: &mut [i16; 256],
 )
-    ensures { λ _. ⌜ (now («lent_shifts» .exit) ≡ byStatus status shifts (now («lent_shifts» .entry)))
-        × (now («lent_cut» .exit) ≡ byStatus status cut (now («lent_cut» .entry)))
-        × (now («lent_box» .exit) ≡ byStatus status «balance_box» (now («lent_box» .entry))) ⌝ }
+    ensures { λ _. ⌜ (now («lent_shifts» .exit) ≡ given (numbered verdict) shifts (now («lent_shifts» .entry)))
+        × (now («lent_cut» .exit) ≡ given (numbered verdict) cut (now («lent_cut» .entry)))
+        × (now («lent_box» .exit) ≡ given (numbered verdict) «balance_box» (now («lent_box» .entry))) ⌝ }
 {
-    if status == 0 {
+    if let Verdict::Accepted = verdict {
         *lent_shifts = shifts;
         *lent_cut = cut;
         *lent_box = balance_box;

@@ -25,8 +25,8 @@ use Rattle.pixels.specs.Pixels.{countOf, pixelFold, columnsFold, PixelsBelow, L
 use Rattle.pixels.proofs.AdditiveLaws.{stepped}
 use Rattle.pixels.proofs.SumLaws.{below-most}
 use Rattle.chain_nodes.specs.declared.FreeList.{FreeList}
-use Rattle.chain_list.specs.Chain.{sumBelow, Beyond, Cleared, Size, ListOf}
-use Rattle.chain.specs.Lines.{nodesOf, sizeOf, counted, guided, lineCount, lineGuides, withCounts, withGuides, MergeableLine, MergedLine}
+use Rattle.chain_list.specs.Chain.{sumBelow, Beyond, ChainCleared, Size, ListOf}
+use Rattle.chain.specs.Lines.{nodesOf, listSize, counted, guided, lineCount, lineGuides, withCounts, withGuides, MergeableLine, MergedLine}
 use Rattle.chain.specs.Moves.{levelCounts, levelGuides, Listed, storeSize, Stored, Slides, Slid}
 use Rattle.chain_list.proofs.SumLaws.{sum-ext}
 use Rattle.chain.proofs.MergeLaws.{chain-ext}
@@ -74,7 +74,7 @@ columnsTo b z s t h k = columnsFold _+_ 0 b z (s - z .radius) t h k
 
 -- their list
 abbrev pub ColumnsListed : List ℕ → Plan → ℕ → ℕ → ℕ → FreeList → List ℕ → Type 0
-ColumnsListed b z s t k free m = ListOf (sizeOf z) (λ i. columnsTo b z s t (counted i) k) (λ i. columnsTo b z s t (guided i) k) free m
+ColumnsListed b z s t k free m = ListOf (listSize z) (λ i. columnsTo b z s t (counted i) k) (λ i. columnsTo b z s t (guided i) k) free m
 
 module _ {b : List ℕ} {z : Plan} (pl : Planned b z) where
   -- a node for each pixel of a window
@@ -88,7 +88,7 @@ module _ {b : List ℕ} {z : Plan} (pl : Planned b z) where
   -- what the definition asks of the store
   pub listed-stored : {s t : ℕ} (m : List ℕ) (free : FreeList) (m′ : List ℕ) → length m′ ≡ length m → Beyond (nodesOf z) m m′ →
       Listed b z s t free m′ → Stored b z s t m free m′
-  unfolding sizeOf ChainStore
+  unfolding listSize ChainStore
   listed-stored {s} {t} m free m′ e k c = record {
     store =
         let f = facts pl in
@@ -120,10 +120,10 @@ module _ {b : List ℕ} {z : Plan} (pl : Planned b z) where
   guides-high hs ht i = guidesOf-high (pixel-of pl hs ht) i
 
   -- a plan's pixels are pixels of its list
-  line-below : {p : List ℕ} → PixelsBelow (z .levels) (z .guides) p → PixelsBelow (sizeOf z .levels) 256 p
+  line-below : {p : List ℕ} → PixelsBelow (z .levels) (z .guides) p → PixelsBelow (listSize z .levels) 256 p
   line-below v = rw (levels-is pl) (record { few = v .few; level = v .level; guide = below-most pl v .guide })
 
-  small : sizeOf z .cap < 4294967296
+  small : listSize z .cap < 4294967296
   small = omega (arith, cap-few pl)
 
   -- ---- column by column
@@ -145,15 +145,15 @@ module _ {b : List ℕ} {z : Plan} (pl : Planned b z) where
         let q : columnsTo b z s t h (k + (n - k)) ≡ columnsTo b z s t h n = ap (columnsTo b z s t h) e in
         omega (arith, q, columns-all h, fold-parts _+_ 0 natSums (λ x. lineFold _+_ 0 b (columnLine z x t) h) (s - z .radius) k (n - k))
 
-    pub columns-empty : {m₀ : List ℕ} {m : List ℕ} (free : FreeList) → Cleared (nodesOf z) m₀ (free .head) (free .count) m →
+    pub columns-empty : {m₀ : List ℕ} {m : List ℕ} (free : FreeList) → ChainCleared (nodesOf z) m₀ (free .head) (free .count) m →
         ColumnsListed b z s t 0 free m
-    unfolding sizeOf
+    unfolding listSize
     columns-empty free c =
-        list-ext (sizeOf z) _ _ _ _ free _ (c .chain (sizeOf z .levels)) (λ i. columns-none (counted i)) (λ i. columns-none (guided i))
+        list-ext (listSize z) _ _ _ _ free _ (c .chain (listSize z .levels)) (λ i. columns-none (counted i)) (λ i. columns-none (guided i))
 
     pub columns-listed : {free : FreeList} {m : List ℕ} → ColumnsListed b z s t (span (z .radius) s (z .width)) free m → Listed b z s t free m
     columns-listed {free} {m} c =
-        list-ext (sizeOf z) _ _ _ _ free m c (λ i. columns-all (counted i) ∙ sym (counts-is s t i))
+        list-ext (listSize z) _ _ _ _ free m c (λ i. columns-all (counted i) ∙ sym (counts-is s t i))
         (λ i. columns-all (guided i) ∙ sym (guides-is s t i))
 
     -- the next column, read into the list p
@@ -178,7 +178,7 @@ module _ {b : List ℕ} {z : Plan} (pl : Planned b z) where
 
       pub columns-insertable : MergeableLine true p free m
       columns-insertable = record {
-        size = sizeOf z;
+        size = listSize z;
         small = small;
         below = line-below (r .below);
         cnt = λ i. columnsTo b z s t (counted i) k;
@@ -186,7 +186,7 @@ module _ {b : List ℕ} {z : Plan} (pl : Planned b z) where
         chain = c;
         ready = record {
           space =
-              let q : sumBelow (λ i. columnsTo b z s t (counted i) k) (sizeOf z .levels) ≡ sumBelow (λ i. columnsTo b z s t (counted i) k)
+              let q : sumBelow (λ i. columnsTo b z s t (counted i) k) (listSize z .levels) ≡ sumBelow (λ i. columnsTo b z s t (counted i) k)
               (z .levels) = ap (sumBelow (λ i. columnsTo b z s t (counted i) k)) (levels-is pl) in
               omega (arith, q, columns-few, cap-is pl);
           fits = λ i. omega (arith, columns-part (guided i) k (omega arith), guides-is s t i, guides-high hs ht i);
@@ -194,13 +194,13 @@ module _ {b : List ℕ} {z : Plan} (pl : Planned b z) where
       }
 
       pub columns-beyond : {free′ : FreeList} {m′ : List ℕ} → MergedLine true p free m free′ m′ → Beyond (nodesOf z) m m′
-      unfolding columns-insertable sizeOf
+      unfolding columns-insertable listSize
       columns-beyond i = i .beyond columns-insertable
 
       pub columns-inserted : {free′ : FreeList} {m′ : List ℕ} → MergedLine true p free m free′ m′ → ColumnsListed b z s t (k + 1) free′ m′
       unfolding columns-insertable
       columns-inserted {free′} {m′} i =
-          list-ext (sizeOf z) _ _ _ _ free′ m′ (i .chain columns-insertable) (λ j. column-more (counted j)) (λ j. column-more (guided j))
+          list-ext (listSize z) _ _ _ _ free′ m′ (i .chain columns-insertable) (λ j. column-more (counted j)) (λ j. column-more (guided j))
 
   -- ---- to a neighbour: e and l are the lists of the entering and the leaving line
   module _ {s t s′ t′ : ℕ} (adj : Adjacent z s t s′ t′) {d : Step} (ed : d ≡ stepOf z s t s′ t′) {e l : List ℕ} (re : LinePixels b z (d .entering) e)
@@ -261,17 +261,17 @@ module _ {b : List ℕ} {z : Plan} (pl : Planned b z) where
 
     pub slides : Slides e l free m
     slides = record {
-      size = sizeOf z;
+      size = listSize z;
       small = small;
       entering = line-below (re .below);
       leaving = line-below (rl .below);
       cnt = stayCounts;
       sm = stayGuides;
-      chain = list-ext (sizeOf z) _ _ _ _ free m c counts-out guides-out;
+      chain = list-ext (listSize z) _ _ _ _ free m c counts-out guides-out;
       none-left = stay-none;
       ready = record {
         space =
-            let q : sumBelow stayCounts (sizeOf z .levels) ≡ sumBelow stayCounts (z .levels) = ap (sumBelow stayCounts) (levels-is pl) in
+            let q : sumBelow stayCounts (listSize z .levels) ≡ sumBelow stayCounts (z .levels) = ap (sumBelow stayCounts) (levels-is pl) in
             omega (arith, q, stay-total, cap-is pl);
         fits = λ i. let k = both-in adj in omega (arith, guides-out i, guides-high (k .0) (k .1) i);
       };
@@ -282,4 +282,4 @@ module _ {b : List ℕ} {z : Plan} (pl : Planned b z) where
     unfolding slides
     slid-stored {free′} {m′} n r =
         listed-stored m free′ m′ n (subst (λ (k : ℕ). Beyond k m m′) (cap-is pl) (r .beyond slides))
-        (list-ext (sizeOf z) _ _ _ _ free′ m′ (r .chain slides) counts-in guides-in)
+        (list-ext (listSize z) _ _ _ _ free′ m′ (r .chain slides) counts-in guides-in)

@@ -9,13 +9,14 @@ use native.Mathlib.Omega.{arith}
 use lib.ListN.{length, getD, drop, length-drop}
 use lib.Seq.{ext-getD, getD-drop}
 use borrow.Author.Tests.{eq-eqb, ne-eqb}
+use Rattle.ints.specs.Order.{lt-or-le}
 use Rattle.spec.specs.Frame.{Frame, guide}
 use Rattle.spec.specs.Window.{levelSum}
 use Rattle.spec.specs.Chain.{Entry, entryOf, entries, Reads}
 use Rattle.spec.proofs.Climb.{entriesFrom, entries-from}
-use Rattle.chain_nodes.specs.Nodes.{levelIn, nextIn}
+use Rattle.chain_nodes.specs.Nodes.{nodeLevel, nodeNext}
 use Rattle.chain_list.specs.Chain.{Used, floor, Live, Chain, Beyond}
-use Rattle.chain_list.proofs.SumLaws.{zero-or-pos, lt-or-ge}
+use Rattle.chain_list.proofs.SumLaws.{zero-or-pos}
 use Rattle.chain_list.proofs.ChainLaws.{floor-pos, floor-zero}
 
 module _ (p : Frame) (s t cap l head free : ℕ) (m : List ℕ) (ch : Chain cap l (levelSum p s t (λ x y. 1)) (levelSum p s t (guide p)) head free m)
@@ -28,43 +29,43 @@ module _ (p : Frame) (s t cap l head free : ℕ) (m : List ℕ) (ch : Chain cap 
 
     -- the node after one that is before level a, with no level between
     at-level : (a y : ℕ) → Live cap m y → floor m y ≤ a → ((j : ℕ) → floor m y ≤ j → j < a → cnt j ≡ 0) → 0 < cnt a
-        → Used cap m (nextIn m y) × (levelIn m (nextIn m y) ≡ a)
+        → Used cap m (nodeNext m y) × (nodeLevel m (nodeNext m y) ≡ a)
     at-level a y v u gap p =
         let g = ch .shape .next y v in
         let k = ch .found a p in
         let r = g .least (k .0) (k .1) (omega (arith, k .2)) in
         let w = g .is (r .0) in (
           w,
-          ⊎-elim (λ h. absurd (omega (arith, gap (levelIn m (nextIn m y)) (g .from (r .0)) h, ch .counts (nextIn m y) w, w .some)))
-              (λ h. omega (arith, r .1, k .2)) (lt-or-ge (levelIn m (nextIn m y)) a),
+          ⊎-elim (λ h. absurd (omega (arith, gap (nodeLevel m (nodeNext m y)) (g .from (r .0)) h, ch .counts (nodeNext m y) w, w .some)))
+              (λ h. omega (arith, r .1, k .2)) (lt-or-le (nodeLevel m (nodeNext m y)) a),
         )
 
     from : (n a y : ℕ) → Live cap m y → floor m y ≤ a → a + n ≡ l → ((j : ℕ) → floor m y ≤ j → j < a → cnt j ≡ 0) →
-        Reads cap m (nextIn m y) (entriesFrom p s t a n)
+        Reads cap m (nodeNext m y) (entriesFrom p s t a n)
     unfolding entriesFrom entryOf Reads
     from zero a y v u e gap =
         ⊎-elim (λ z. z)
         (λ p. absurd (
         let g = ch .shape .next y v in
         let w = g .is p in
-        let c = ch .counts (nextIn m y) w in
-        let b = ch .below (levelIn m (nextIn m y)) (omega (arith, w .some)) in
-        omega (arith, gap (levelIn m (nextIn m y)) (g .from p) (omega arith), w .some)))
-        (zero-or-pos (nextIn m y))
+        let c = ch .counts (nodeNext m y) w in
+        let b = ch .below (nodeLevel m (nodeNext m y)) (omega (arith, w .some)) in
+        omega (arith, gap (nodeLevel m (nodeNext m y)) (g .from p) (omega arith), w .some)))
+        (zero-or-pos (nodeNext m y))
     from (suc n) a y v u e gap =
         ⊎-elim
         (λ z. rw (eq-eqb (cnt a) 0 z)
-        (from n (suc a) y v (omega arith) (omega arith) (λ j h k. ⊎-elim (λ w. gap j h w) (λ w. ap cnt (omega arith) ∙ z) (lt-or-ge j a))))
+        (from n (suc a) y v (omega arith) (omega arith) (λ j h k. ⊎-elim (λ w. gap j h w) (λ w. ap cnt (omega arith) ∙ z) (lt-or-le j a))))
         (λ q. rw (ne-eqb (cnt a) 0 (λ z. omega arith)) (
         let t = at-level a y v u gap q in
         let w = t .0 in
-        let f = floor-pos m (nextIn m y) (w .from) in (
+        let f = floor-pos m (nodeNext m y) (w .from) in (
           w .from,
           w .to,
           t .1,
-          ch .counts (nextIn m y) w ∙ ap cnt (t .1),
-          ch .sums (nextIn m y) w ∙ ap sm (t .1),
-          from n (suc a) (nextIn m y) (λ q. w)
+          ch .counts (nodeNext m y) w ∙ ap cnt (t .1),
+          ch .sums (nodeNext m y) w ∙ ap sm (t .1),
+          from n (suc a) (nodeNext m y) (λ q. w)
               (omega (arith, t .1)) (omega arith) (λ j h k. absurd (omega (arith, t .1))),
         )))
         (zero-or-pos (cnt a))

@@ -15,8 +15,8 @@ use Rattle.chain_list.specs.Chain.{sumBelow, Beyond, Size, ListOf}
 abbrev pub nodesOf : Plan → ℕ
 nodesOf plan = (2 * plan .radius + 1) * (2 * plan .radius + 1)
 
-unfoldable pub sizeOf : Plan → Size
-sizeOf plan = record { cap = nodesOf plan; levels = plan .levels }
+unfoldable pub listSize : Plan → Size
+listSize plan = record { cap = nodesOf plan; levels = plan .levels }
 
 -- what a pixel of level i′ and guide f′ adds to level i's count, and to its guide sum
 abbrev pub counted : ℕ → ℕ → ℕ → ℕ

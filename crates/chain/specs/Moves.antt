@@ -15,7 +15,7 @@ use Rattle.pixels.specs.Pixels.{PixelsBelow}
 use Rattle.chain_nodes.specs.declared.FreeList.{FreeList}
 use Rattle.chain_list.specs.Chain.{Beyond, Size, ListOf}
 use Rattle.chain.specs.Keys.{NoneLeft}
-use Rattle.chain.specs.Lines.{sizeOf, withCounts, withGuides, InsertLineReady}
+use Rattle.chain.specs.Lines.{listSize, withCounts, withGuides, InsertLineReady}
 
 -- the pixels of level i in the window at (s, t), and the sum of their guides
 abbrev pub levelCounts : List ℕ → ℕ → ℕ → ℕ → ℕ
@@ -26,7 +26,7 @@ levelGuides b s t = levelSum (frameOf b) s t (guide (frameOf b))
 
 -- the nodes of m hold the window's levels, and the others are in the free list
 abbrev pub Listed : List ℕ → Plan → ℕ → ℕ → FreeList → List ℕ → Type 0
-Listed b plan s t free m = ListOf (sizeOf plan) (levelCounts b s t) (levelGuides b s t) free m
+Listed b plan s t free m = ListOf (listSize plan) (levelCounts b s t) (levelGuides b s t) free m
 
 -- how many numbers of a store are the way's
 abbrev pub storeSize : List ℕ → ℕ

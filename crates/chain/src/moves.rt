@@ -10,22 +10,22 @@ ghost use Rattle.spec.specs.Checks.{Planned};
 ghost use Rattle.chain.specs.Moves.{storeSize, Stored, Slides, Slid};
 
 // The list of the window at (s, t), column by column.
-pub fn start(file: &[u8], plan: Plan, s: usize, t: usize, numbers: &mut [u32]) -> FreeList
+pub fn start(file: &[u8], plan: Plan, s: usize, t: usize, nodes: &mut [u32]) -> FreeList
     requires { ⌜ Planned (now file) plan ⌝ }
     requires { ⌜ (s < plan .width) × (t < plan .height) ⌝ }
-    requires { ⌜ storeSize (now file) ≤ length (now numbers) ⌝ }
-    ensures { λ r. ⌜ Stored (now (file .entry)) plan s t (now (numbers .entry)) r (now (numbers .exit)) ⌝ }
+    requires { ⌜ storeSize (now file) ≤ length (now nodes) ⌝ }
+    ensures { λ r. ⌜ Stored (now (file .entry)) plan s t (now (nodes .entry)) r (now (nodes .exit)) ⌝ }
 {
     let cap = line::node_count(plan);
     let left = window::line::low(s, plan.radius);
     let columns = window::line::span_of(s, plan.radius, plan.width);
-    let mut free = clear(numbers, cap);
+    let mut free = clear(nodes, cap);
     let mut k: usize = 0;
     while k < columns {
         let mut places = [0u16; 62];
         let d = window::line::column_line(plan, left + k, t);
         let p = pixels::read(file, plan, d, &mut places);
-        let next = line::merge_line(&places[0..p], free, true, numbers);
+        let next = line::merge_line(&places[0..p], free, true, nodes);
         free = next;
         k += 1;
     }
@@ -33,10 +33,10 @@ pub fn start(file: &[u8], plan: Plan, s: usize, t: usize, numbers: &mut [u32]) -
 }
 
 // From a window to its neighbour: the leaving pixels out, then the entering ones in.
-pub fn slide(entering: &[u16], leaving: &[u16], free: FreeList, numbers: &mut [u32]) -> FreeList
-    requires { ⌜ Slides (now entering) (now leaving) free (now numbers) ⌝ }
-    ensures { λ r. ⌜ Slid (now (entering .entry)) (now (leaving .entry)) free (now (numbers .entry)) r (now (numbers .exit)) ⌝ }
+pub fn slide(entering: &[u16], leaving: &[u16], free: FreeList, nodes: &mut [u32]) -> FreeList
+    requires { ⌜ Slides (now entering) (now leaving) free (now nodes) ⌝ }
+    ensures { λ r. ⌜ Slid (now (entering .entry)) (now (leaving .entry)) free (now (nodes .entry)) r (now (nodes .exit)) ⌝ }
 {
-    let kept = line::merge_line(leaving, free, false, numbers);
-    line::merge_line(entering, kept, true, numbers)
+    let kept = line::merge_line(leaving, free, false, nodes);
+    line::merge_line(entering, kept, true, nodes)
 }

@@ -9,6 +9,7 @@ use native.Mathlib.Omega.{arith}
 use lib.ListN.{length, getD}
 use lib.IntN.{ℤ, pos, _+ℤ_, _*ℤ_}
 use lib.Signed.{_<ℤ_, leZ}
+use Rattle.ints.specs.Order.{lt-or-le}
 use Rattle.ints.specs.Auto.{quote, ring! }
 use Rattle.spec.specs.Base.{first}
 use Rattle.spec.specs.Frame.{Frame, guide}
@@ -16,13 +17,14 @@ use Rattle.spec.specs.Window.{levelSum}
 use Rattle.spec.specs.Median.{totalWeight, cumulative, median}
 use Rattle.spec.proofs.First.{first-is, first-unique}
 use Rattle.spec.specs.Weight.{slope, offset}
-use Rattle.spec.proofs.Levels.{cumulative-zero, cumulative-next, level-linear}
+use Rattle.spec.proofs.Levels.{cumulative-linear}
 use Rattle.spec.proofs.Totals.{lt-leZ, median-first}
+use Rattle.spec.proofs.Sums.{sum-none, sum-suc}
 use Rattle.window.specs.declared.coefficients.Coefficients.{Coefficients}
 use Rattle.window.specs.Coefficients.{WeighsAt, reachesHalf}
-use Rattle.chain_nodes.specs.Nodes.{levelIn, countIn, guidesIn, nextIn}
+use Rattle.chain_nodes.specs.Nodes.{nodeLevel, nodePixels, nodeGuides, nodeNext}
 use Rattle.chain_list.specs.Chain.{Used, floor, Live, Successor, sumBelow}
-use Rattle.chain_list.proofs.SumLaws.{zero-or-pos, lt-or-ge, sum-none, sum-suc, sum-mono, sum-flat}
+use Rattle.chain_list.proofs.SumLaws.{zero-or-pos, sum-mono, sum-flat}
 use Rattle.chain_list.proofs.ChainLaws.{floor-pos, floor-zero}
 use Rattle.chain_search.specs.Climb.{reachesAt, Climbs}
 
@@ -37,9 +39,9 @@ reach-none w h = ap (leZ (w .total)) (nothing (w .slope) (w .offset)) ∙ lt-leZ
 -- ---- the measure: how many levels are ahead
 pub ahead : ℕ → List ℕ → ℕ → ℕ
 ahead l m zero = 0
-ahead l m (suc k) = l - levelIn m (suc k)
+ahead l m (suc k) = l - nodeLevel m (suc k)
 
-ahead-pos : (l : ℕ) (m : List ℕ) (k : ℕ) → 0 < k → ahead l m k ≡ l - levelIn m k
+ahead-pos : (l : ℕ) (m : List ℕ) (k : ℕ) → 0 < k → ahead l m k ≡ l - nodeLevel m k
 unfolding ahead
 ahead-pos l m zero p = absurd (omega arith)
 ahead-pos l m (suc k) p = refl
@@ -52,14 +54,14 @@ ahead-zero l m = refl
 pub record Climbing (l : ℕ) (m : List ℕ) (w : Coefficients) (a : Climbs l w m) (count sum cur : ℕ) : Type 0 where
   pub y : ℕ
   pub live : Live (a .cap) m y
-  pub next : cur ≡ nextIn m y
+  pub next : cur ≡ nodeNext m y
   pub counted : count ≡ sumBelow (a .cnt) (floor m y)
   pub summed : sum ≡ sumBelow (a .sm) (floor m y)
   pub short : reachesHalf w count sum ≡ false
   pub under : (j : ℕ) → j < floor m y → reachesAt (a .cnt) (a .sm) w j ≡ false
 
 module _ (l : ℕ) (m : List ℕ) (w : Coefficients) (a : Climbs l w m) where
-  pub climb-start : pos 0 <ℤ w .total → Climbing l m w a 0 0 (nextIn m 0)
+  pub climb-start : pos 0 <ℤ w .total → Climbing l m w a 0 0 (nodeNext m 0)
   climb-start h = record {
     y = 0;
     live = λ p. absurd (omega arith);
@@ -75,7 +77,7 @@ module _ (l : ℕ) (m : List ℕ) (w : Coefficients) (a : Climbs l w m) where
     goes = rw (s .next) (a .chain .shape .next (s .y) (s .live))
 
     -- no level between
-    gap : (j : ℕ) → floor m (s .y) ≤ j → (0 < cur → j < levelIn m cur) → (a .cnt) j ≡ 0
+    gap : (j : ℕ) → floor m (s .y) ≤ j → (0 < cur → j < nodeLevel m cur) → (a .cnt) j ≡ 0
     gap j h n =
         ⊎-elim (λ e. e)
         (λ p. absurd (
@@ -84,18 +86,18 @@ module _ (l : ℕ) (m : List ℕ) (w : Coefficients) (a : Climbs l w m) where
         omega (arith, r .1, n (r .0), k .2)))
         (zero-or-pos ((a .cnt) j))
 
-    flat : (n : ℕ) → floor m (s .y) ≤ n → (0 < cur → n ≤ levelIn m cur) → (sumBelow (a .cnt) n ≡ count) × (sumBelow (a .sm) n ≡ sum)
+    flat : (n : ℕ) → floor m (s .y) ≤ n → (0 < cur → n ≤ nodeLevel m cur) → (sumBelow (a .cnt) n ≡ count) × (sumBelow (a .sm) n ≡ sum)
     flat n h q = (
       sum-flat (a .cnt) (floor m (s .y)) n h (λ j p r. gap j p (λ w. omega (arith, q w))) ∙ sym (s .counted),
       sum-flat (a .sm) (floor m (s .y)) n h (λ j p r. a .chain .empty j (gap j p (λ w. omega (arith, q w)))) ∙ sym (s .summed),
     )
 
     -- up to the node nothing reaches it
-    before : (j : ℕ) → (0 < cur → j < levelIn m cur) → reachesAt (a .cnt) (a .sm) w j ≡ false
+    before : (j : ℕ) → (0 < cur → j < nodeLevel m cur) → reachesAt (a .cnt) (a .sm) w j ≡ false
     before j q =
         ⊎-elim (s .under j)
         (λ h. let f = flat (suc j) (omega arith) (λ w. omega (arith, q w)) in ap₂ (reachesHalf w) (f .0) (f .1) ∙ s .short)
-        (lt-or-ge j (floor m (s .y)))
+        (lt-or-le j (floor m (s .y)))
 
     -- some level reaches it, so the list does not end before one that does
     pub climb-goes : 0 < cur
@@ -114,36 +116,39 @@ module _ (l : ℕ) (m : List ℕ) (w : Coefficients) (a : Climbs l w m) where
       used : Used (a .cap) m cur
       used = goes .is p
 
-      pub cur-level : levelIn m cur < l
-      cur-level = a .chain .below (levelIn m cur) (omega (arith, a .chain .counts cur used, used .some))
+      pub cur-level : nodeLevel m cur < l
+      cur-level = a .chain .below (nodeLevel m cur) (omega (arith, a .chain .counts cur used, used .some))
 
-      count-next : count + countIn m cur ≡ sumBelow (a .cnt) (suc (levelIn m cur))
+      count-next : count + nodePixels m cur ≡ sumBelow (a .cnt) (suc (nodeLevel m cur))
       count-next =
-          omega (arith, flat (levelIn m cur) (goes .from p) (λ w. omega arith) .0, a .chain .counts cur used, sum-suc (a .cnt) (levelIn m cur))
+          omega (arith, flat (nodeLevel m cur) (goes .from p) (λ w. omega arith) .0, a .chain .counts cur used, sum-suc (a .cnt) (nodeLevel m cur))
 
-      sum-next : sum + guidesIn m cur ≡ sumBelow (a .sm) (suc (levelIn m cur))
-      sum-next = omega (arith, flat (levelIn m cur) (goes .from p) (λ w. omega arith) .1, a .chain .sums cur used, sum-suc (a .sm) (levelIn m cur))
+      sum-next : sum + nodeGuides m cur ≡ sumBelow (a .sm) (suc (nodeLevel m cur))
+      sum-next =
+          omega (arith, flat (nodeLevel m cur) (goes .from p) (λ w. omega arith) .1, a .chain .sums cur used, sum-suc (a .sm) (nodeLevel m cur))
 
-      pub count-small : count + countIn m cur ≤ 961
-      count-small = omega (arith, count-next, sum-mono (a .cnt) (suc (levelIn m cur)) l cur-level, a .few)
+      pub count-small : count + nodePixels m cur ≤ 961
+      count-small = omega (arith, count-next, sum-mono (a .cnt) (suc (nodeLevel m cur)) l cur-level, a .few)
 
-      pub sum-small : sum + guidesIn m cur ≤ 245055
-      sum-small = omega (arith, sum-next, sum-mono (a .sm) (suc (levelIn m cur)) l cur-level, a .light)
+      pub sum-small : sum + nodeGuides m cur ≤ 245055
+      sum-small = omega (arith, sum-next, sum-mono (a .sm) (suc (nodeLevel m cur)) l cur-level, a .light)
 
-      at-node : (b : Bool) → reachesHalf w (count + countIn m cur) (sum + guidesIn m cur) ≡ b → reachesAt (a .cnt) (a .sm) w (levelIn m cur) ≡ b
+      at-node : (b : Bool) → reachesHalf w (count + nodePixels m cur) (sum + nodeGuides m cur) ≡ b →
+          reachesAt (a .cnt) (a .sm) w (nodeLevel m cur) ≡ b
       at-node b e = ap₂ (reachesHalf w) (sym count-next) (sym sum-next) ∙ e
 
-      pub climb-here : reachesHalf w (count + countIn m cur) (sum + guidesIn m cur) ≡ true → levelIn m cur ≡ first (reachesAt (a .cnt) (a .sm) w) l
+      pub climb-here : reachesHalf w (count + nodePixels m cur) (sum + nodeGuides m cur) ≡ true →
+          nodeLevel m cur ≡ first (reachesAt (a .cnt) (a .sm) w) l
       climb-here e =
           sym
-          (first-unique (reachesAt (a .cnt) (a .sm) w) l (levelIn m cur)
+          (first-unique (reachesAt (a .cnt) (a .sm) w) l (nodeLevel m cur)
           (record { within = omega (arith, cur-level); passes = λ h. at-node true e; before = λ j h. before j (λ w. h) }))
 
-      above : floor m cur ≡ suc (levelIn m cur)
+      above : floor m cur ≡ suc (nodeLevel m cur)
       above = floor-pos m cur p
 
-      pub climb-next : reachesHalf w (count + countIn m cur) (sum + guidesIn m cur) ≡ false →
-          Climbing l m w a (count + countIn m cur) (sum + guidesIn m cur) (nextIn m cur)
+      pub climb-next : reachesHalf w (count + nodePixels m cur) (sum + nodeGuides m cur) ≡ false →
+          Climbing l m w a (count + nodePixels m cur) (sum + nodeGuides m cur) (nodeNext m cur)
       climb-next e = record {
         y = cur;
         live = λ q. used;
@@ -151,32 +156,34 @@ module _ (l : ℕ) (m : List ℕ) (w : Coefficients) (a : Climbs l w m) where
         counted = count-next ∙ ap (sumBelow (a .cnt)) (sym above);
         summed = sum-next ∙ ap (sumBelow (a .sm)) (sym above);
         short = e;
-        under = λ j h. ⊎-elim (λ w. before j (λ q. w)) (λ w. at-cur j (omega (arith, above))) (lt-or-ge j (levelIn m cur));
+        under = λ j h. ⊎-elim (λ w. before j (λ q. w)) (λ w. at-cur j (omega (arith, above))) (lt-or-le j (nodeLevel m cur));
       }
         where
-          at-cur : (j : ℕ) → j ≡ levelIn m cur → reachesAt (a .cnt) (a .sm) w j ≡ false
+          at-cur : (j : ℕ) → j ≡ nodeLevel m cur → reachesAt (a .cnt) (a .sm) w j ≡ false
           at-cur j z = rw z (at-node false e)
 
-      pub ahead-less : (most : ℕ) → l ≤ most → ahead most m (nextIn m cur) < ahead most m cur
+      pub ahead-less : (most : ℕ) → l ≤ most → ahead most m (nodeNext m cur) < ahead most m cur
       ahead-less most h =
           ⊎-elim
-          (λ z. let w : ahead most m (nextIn m cur) ≡ 0 = ap (ahead most m) z ∙ ahead-zero most m in omega (arith, ahead-pos most m cur p, cur-level))
+          (λ z. let w : ahead most m (nodeNext m cur) ≡ 0 = ap (ahead most m) z ∙ ahead-zero most m in
+          omega (arith, ahead-pos most m cur p, cur-level))
           (λ q. omega (
             arith,
             ahead-pos most m cur p,
-            ahead-pos most m (nextIn m cur) q,
+            ahead-pos most m (nodeNext m cur) q,
             cur-level,
             above,
             a .chain .shape .next cur (λ w. used) .from q,
           ))
-          (zero-or-pos (nextIn m cur))
+          (zero-or-pos (nodeNext m cur))
 
   -- the last node: none before it reaches it, so it does
-  pub climb-last : (count sum cur : ℕ) → Climbing l m w a count sum cur → 0 < cur → nextIn m cur ≡ 0 →
-      levelIn m cur ≡ first (reachesAt (a .cnt) (a .sm) w) l
-  climb-last count sum cur s p z = go (reachesHalf w (count + countIn m cur) (sum + guidesIn m cur)) refl
+  pub climb-last : (count sum cur : ℕ) → Climbing l m w a count sum cur → 0 < cur → nodeNext m cur ≡ 0 →
+      nodeLevel m cur ≡ first (reachesAt (a .cnt) (a .sm) w) l
+  climb-last count sum cur s p z = go (reachesHalf w (count + nodePixels m cur) (sum + nodeGuides m cur)) refl
     where
-      go : (b : Bool) → reachesHalf w (count + countIn m cur) (sum + guidesIn m cur) ≡ b → levelIn m cur ≡ first (reachesAt (a .cnt) (a .sm) w) l
+      go : (b : Bool) → reachesHalf w (count + nodePixels m cur) (sum + nodeGuides m cur) ≡ b →
+          nodeLevel m cur ≡ first (reachesAt (a .cnt) (a .sm) w) l
       go true e = climb-here count sum cur s p e
       go false e = absurd (omega (arith, climb-goes _ _ _ (climb-next count sum cur s p e)))
 
@@ -185,14 +192,14 @@ pub record AtNode (l : ℕ) (m : List ℕ) (w : Coefficients) (a : Climbs l w m)
   pub cur : ℕ
   pub state : Climbing l m w a count sum cur
   pub place : at ≡ 4 * cur
-  pub goes : next ≡ nextIn m cur
+  pub goes : next ≡ nodeNext m cur
 
-pub first-in : {l : ℕ} {m : List ℕ} {w : Coefficients} (a : Climbs l w m) → pos 0 <ℤ w .total → 4 * nextIn m 0 < length m
+pub first-in : {l : ℕ} {m : List ℕ} {w : Coefficients} (a : Climbs l w m) → pos 0 <ℤ w .total → 4 * nodeNext m 0 < length m
 first-in {l} {m} {w} a h = cur-in l m w a _ _ _ (climb-start l m w a h)
 
 module _ {l : ℕ} {m : List ℕ} {w : Coefficients} {a : Climbs l w m} where
-  pub node-start : pos 0 <ℤ w .total → {at : ℕ} → at ≡ 4 * nextIn m 0 → AtNode l m w a 0 0 at (getD m at 0)
-  node-start h e = record { cur = nextIn m 0; state = climb-start l m w a h; place = e; goes = ap (λ (x : ℕ). getD m x 0) e }
+  pub node-start : pos 0 <ℤ w .total → {at : ℕ} → at ≡ 4 * nodeNext m 0 → AtNode l m w a 0 0 at (getD m at 0)
+  node-start h e = record { cur = nodeNext m 0; state = climb-start l m w a h; place = e; goes = ap (λ (x : ℕ). getD m x 0) e }
 
   module _ {count sum at next : ℕ} (s : AtNode l m w a count sum at next) where
     there : 0 < s .cur
@@ -217,7 +224,7 @@ module _ {l : ℕ} {m : List ℕ} {w : Coefficients} {a : Climbs l w m} where
     node-last z = rw (s .place) (climb-last l m w a _ _ _ (s .state) there (sym (s .goes) ∙ z))
 
     module _ {b : Bool} (e : reachesHalf w (count + getD m (at - 2) 0) (sum + getD m (at - 1) 0) ≡ b) where
-      tested : reachesHalf w (count + countIn m (s .cur)) (sum + guidesIn m (s .cur)) ≡ b
+      tested : reachesHalf w (count + nodePixels m (s .cur)) (sum + nodeGuides m (s .cur)) ≡ b
       tested = rw (s .place) at e
 
       pub node-here : b ≡ true → getD m (at - 3) 0 ≡ first (reachesAt (a .cnt) (a .sm) w) l
@@ -237,10 +244,7 @@ module _ {l : ℕ} {m : List ℕ} {w : Coefficients} {a : Climbs l w m} where
           pub node-less : (most : ℕ) → l ≤ most → ahead most m (getD m at′ 0) < ahead most m next
           node-less most h = rw g (ahead-less l m w a _ _ _ after (climb-goes l m w a _ _ _ after) most h)
 
--- ---- the weight of the levels up to i is linear in their count and their guide sum
-join-weights : (c d f g f′ g′ : ℤ) → (c *ℤ g +ℤ d *ℤ f) +ℤ (c *ℤ g′ +ℤ d *ℤ f′) ≡ c *ℤ (g +ℤ g′) +ℤ d *ℤ (f +ℤ f′)
-join-weights c d f g f′ g′ = ring! (c ∷ d ∷ f ∷ g ∷ f′ ∷ g′ ∷ []) (search quote depth 12) (search quote depth 12) refl
-
+-- ---- the weight of the levels up to i, by their count and their guide sum
 module _ (p : Frame) (s t : ℕ) (two : p .set .kind ≡ 2) where
   abbrev cnt : ℕ → ℕ
   cnt = levelSum p s t (λ x y. 1)
@@ -248,19 +252,9 @@ module _ (p : Frame) (s t : ℕ) (two : p .set .kind ≡ 2) where
   abbrev sm : ℕ → ℕ
   sm = levelSum p s t (guide p)
 
-  cumulative-linear : (i : ℕ) → cumulative p s t i ≡ slope p s t *ℤ pos (sumBelow sm (suc i)) +ℤ offset p s t *ℤ pos (sumBelow cnt (suc i))
-  cumulative-linear zero =
-      let f : cnt 0 ≡ sumBelow cnt 1 = omega (arith, sum-suc cnt 0, sum-none cnt) in
-      let g : sm 0 ≡ sumBelow sm 1 = omega (arith, sum-suc sm 0, sum-none sm) in
-      cumulative-zero p s t ∙ level-linear p s t 0 two ∙ ap₂ (λ (x y : ℕ). slope p s t *ℤ pos x +ℤ offset p s t *ℤ pos y) g f
-  cumulative-linear (suc i) =
-      cumulative-next p s t i ∙ ap₂ _+ℤ_ (cumulative-linear i) (level-linear p s t (suc i) two)
-      ∙ join-weights (slope p s t) (offset p s t) (pos (sumBelow cnt (suc i))) (pos (sumBelow sm (suc i))) (pos (cnt (suc i))) (pos (sm (suc i)))
-      ∙ sym (ap₂ (λ (x y : ℕ). slope p s t *ℤ pos x +ℤ offset p s t *ℤ pos y) (sum-suc sm (suc i)) (sum-suc cnt (suc i)))
-
   same-test : (w : Coefficients) → WeighsAt p s t w → (i : ℕ) → leZ (totalWeight p s t) (pos 2 *ℤ cumulative p s t i) ≡ reachesAt cnt sm w i
   unfolding reachesHalf
-  same-test w v i = rw (v .total, v .slope, v .offset) (ap (λ (u : ℤ). leZ (totalWeight p s t) (pos 2 *ℤ u)) (cumulative-linear i))
+  same-test w v i = rw (v .total, v .slope, v .offset) (ap (λ (u : ℤ). leZ (totalWeight p s t) (pos 2 *ℤ u)) (cumulative-linear p s t two i))
 
   -- where the climb ends is the median
   pub climb-median : (w : Coefficients) → WeighsAt p s t w → first (reachesAt cnt sm w) (p .set .levels) ≡ median p s t

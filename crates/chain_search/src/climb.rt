@@ -14,24 +14,24 @@ ghost use Rattle.chain_search.specs.Climb.{reachesAt, Climbs};
 
 // The first level at which the weight of the levels up to it reaches half of the window's, of however many levels the list is. Some level does:
 // where none before the last node does, the last node's level is the answer.
-pub fn climb(numbers: &[u32], coefficients: Coefficients) -> Level
-    requires { ⌜ ((l : ℕ) × (l ≤ 1024) × Climbs l coefficients (now numbers)) ⌝ }
+pub fn climb(nodes: &[u32], coefficients: Coefficients) -> Level
+    requires { ⌜ ((l : ℕ) × (l ≤ 1024) × Climbs l coefficients (now nodes)) ⌝ }
     requires { ⌜ (CoefficientsSmall coefficients) × (pos 0 <ℤ coefficients .total) ⌝ }
-    ensures { λ r. ⌜ ((l : ℕ) → l ≤ 1024 → (a : Climbs l coefficients (now (numbers .entry)))
+    ensures { λ r. ⌜ ((l : ℕ) → l ≤ 1024 → (a : Climbs l coefficients (now (nodes .entry)))
         → r .0 ≡ first (reachesAt (a .cnt) (a .sm) coefficients) l) ⌝ }
 {
     let mut count: u32 = 0;
     let mut sum: u32 = 0;
-    let mut at = place(numbers[0]);
-    let mut next = numbers[at];
+    let mut at = place(nodes[0]);
+    let mut next = nodes[at];
     while next != 0 {
-        count += numbers[at - 2];
-        sum += numbers[at - 1];
+        count += nodes[at - 2];
+        sum += nodes[at - 1];
         if reached(coefficients, count as usize, sum as usize) {
-            return Level(numbers[at - 3] as u16);
+            return Level(nodes[at - 3] as u16);
         }
         at = place(next);
-        next = numbers[at];
+        next = nodes[at];
     }
-    Level(numbers[at - 3] as u16)
+    Level(nodes[at - 3] as u16)
 }

@@ -26,7 +26,7 @@ use Rattle.window.specs.Sums.{SumsAt}
 use Rattle.window.proofs.PixelLaws.{guides-high, levels-high}
 use Rattle.chain_nodes.specs.declared.FreeList.{FreeList}
 use Rattle.chain_list.specs.Chain.{sumBelow}
-use Rattle.chain.specs.Lines.{nodesOf, sizeOf}
+use Rattle.chain.specs.Lines.{nodesOf, listSize}
 use Rattle.chain.specs.Moves.{levelCounts, levelGuides, Listed, Stored}
 use Rattle.chain.proofs.WindowLaws.{level-total}
 use Rattle.visit.specs.declared.Running.{Running}
@@ -56,7 +56,7 @@ module _ {b : List ℕ} {z : Plan} (pl : Planned b z) where
 
       -- the window's list is one to climb along
       pub climbs : (k : Coefficients) → WeighsAt (frameOf b) s t k → (free : FreeList) (m : List ℕ) → Listed b z s t free m → Climbs (z .levels) k m
-      unfolding sizeOf pixelCount guideSum
+      unfolding listSize pixelCount guideSum
       climbs k w free m c =
           let f = facts pl in
           let q = pixel-of pl hs ht in

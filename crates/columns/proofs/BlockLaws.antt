@@ -12,12 +12,14 @@ use lib.Dec.{eqb}
 use lib.ListN.{length, getD, set, length-set}
 use lib.Seq.{getD-set-same, getD-set-other}
 use borrow.Author.Tests.{eq-eqb, ne-eqb}
-use Rattle.spec.specs.Base.{if_then_else_, sum}
+use Rattle.spec.specs.Base.{if_then_else_, sum, when}
 use Rattle.spec.specs.Frame.{Frame, level, guide}
 use Rattle.spec.specs.Window.{span}
 use Rattle.spec.proofs.Ranges.{natSums, fold-parts}
-use Rattle.columns.specs.Blocks.{when, Put, Able, block, hit, pixelD, stripD, rowD, Cleared}
+use Rattle.columns.specs.Blocks.{Put, Able, block, atLevel, pixelD, stripD, rowD, Cleared}
 use Rattle.window.proofs.LineLaws.{fold-none, fold-more}
+use Rattle.pixels.specs.Additive.{changed, Fits}
+use Rattle.pixels.proofs.AdditiveLaws.{fits-down}
 
 -- ---- one after another
 pub put-none : (add : Bool) (l : ℕ) (xs : List ℕ) → Put add l (λ m i. 0) xs xs
@@ -52,7 +54,8 @@ apart {m} {i} {m′} {i′} {l} h k e = (
 
 pub put-one : (add : Bool) (l m i v : ℕ) (xs : List ℕ) → i < l → m * l + i < length xs → (add ≡ false → v ≤ getD xs (m * l + i) 0)
     → Put add l (block m (λ j. if eqb i j then v else 0)) xs
-    (set xs (m * l + i) (if add then getD xs (m * l + i) 0 + v else getD xs (m * l + i) 0 - v))
+    (set xs (m * l + i) (changed add (getD xs (m * l + i) 0) v))
+unfolding changed
 put-one add l m i v xs hi hm low = record { len = length-set xs _ _; cells = λ m′ j h. go add low m′ j h (ℕ-discrete m′ m) (ℕ-discrete i j) }
   where
     same : (m′ j u : ℕ) → m′ ≡ m → i ≡ j → getD (set xs (m * l + i) u) (m′ * l + j) 0 ≡ u
@@ -73,7 +76,7 @@ put-one add l m i v xs hi hm low = record { len = length-set xs _ _; cells = λ 
     at-same m′ j d e = rw (d, e) refl
 
     go : (add : Bool) → (add ≡ false → v ≤ getD xs (m * l + i) 0) → (m′ j : ℕ) → j < l → Dec (m′ ≡ m) → Dec (i ≡ j)
-        → getD (set xs (m * l + i) (if add then getD xs (m * l + i) 0 + v else getD xs (m * l + i) 0 - v)) (m′ * l + j) 0
+        → getD (set xs (m * l + i) (changed add (getD xs (m * l + i) 0) v)) (m′ * l + j) 0
         + when (not add) (block m (λ k. if eqb i k then v else 0) m′ j)
         ≡ getD xs (m′ * l + j) 0 + when add (block m (λ k. if eqb i k then v else 0) m′ j)
     go true low m′ j h (yes d) (yes e) =
@@ -134,40 +137,39 @@ in-store w {a} {i} {l} h k = subst (λ (n : ℕ). a * l + i < n) (store-size w l
 
 -- ---- a pixel
 module _ (p : Frame) (x y : ℕ) where
-  pub able-first : (add : Bool) (a b : ℕ) {l : ℕ} {xs : List ℕ} → Able add l (pixelD p a b x y) xs → Able add l (block a (hit p (λ u v. 1) x y)) xs
+  pub able-first : (add : Bool) (a b : ℕ) {l : ℕ} {xs : List ℕ} → Able add l (pixelD p a b x y) xs →
+      Able add l (block a (atLevel p (λ u v. 1) x y)) xs
   unfolding pixelD
   able-first add a b k = able-less add (λ m i h. omega arith) k
 
   pub able-second : (add : Bool) (a b : ℕ) {l : ℕ} {xs ys : List ℕ} → Able add l (pixelD p a b x y) xs →
-      Put add l (block a (hit p (λ u v. 1) x y)) xs ys
-      → Able add l (block b (hit p (guide p) x y)) ys
+      Put add l (block a (atLevel p (λ u v. 1) x y)) xs ys
+      → Able add l (block b (atLevel p (guide p) x y)) ys
   unfolding pixelD
-  able-second add a b k q = able-then add (block a (hit p (λ u v. 1) x y)) (block b (hit p (guide p) x y)) k q
+  able-second add a b k q = able-then add (block a (atLevel p (λ u v. 1) x y)) (block b (atLevel p (guide p) x y)) k q
 
-  pub put-pixel : (add : Bool) (a b : ℕ) {l : ℕ} {xs ys zs : List ℕ} → Put add l (block a (hit p (λ u v. 1) x y)) xs ys →
-      Put add l (block b (hit p (guide p) x y)) ys zs
+  pub put-pixel : (add : Bool) (a b : ℕ) {l : ℕ} {xs ys zs : List ℕ} → Put add l (block a (atLevel p (λ u v. 1) x y)) xs ys →
+      Put add l (block b (atLevel p (guide p) x y)) ys zs
       → Put add l (pixelD p a b x y) xs zs
   unfolding pixelD
-  put-pixel add a b q r = put-both add (block a (hit p (λ u v. 1) x y)) (block b (hit p (guide p) x y)) q r
+  put-pixel add a b q r = put-both add (block a (atLevel p (λ u v. 1) x y)) (block b (atLevel p (guide p) x y)) q r
 
-  full : (f : ℕ → ℕ → ℕ) (a i : ℕ) → i ≡ level p x y → block a (hit p f x y) a i ≡ f x y
+  full : (f : ℕ → ℕ → ℕ) (a i : ℕ) → i ≡ level p x y → block a (atLevel p f x y) a i ≡ f x y
   full f a i e = rw (eq-eqb a a refl, eq-eqb (level p x y) i (sym e)) refl
 
   pub asks : (f : ℕ → ℕ → ℕ) (add : Bool) (a i v : ℕ) {l : ℕ} {xs : List ℕ} → i ≡ level p x y → v ≡ f x y → i < l →
-      Able add l (block a (hit p f x y)) xs
-      → (add ≡ true → getD xs (a * l + i) 0 + v < 4294967296) × (add ≡ false → v ≤ getD xs (a * l + i) 0)
-  asks f add a i v e d h k = (
-    (λ t. let q = full f a i e in let r = k .room t a i h in omega arith),
-    (λ t. let q = full f a i e in let r = k .enough t a i h in omega arith),
-  )
+      Able add l (block a (atLevel p f x y)) xs
+      → Fits 4294967296 add (getD xs (a * l + i) 0) v
+  asks f true a i v e d h k = let q = full f a i e in let r = k .room refl a i h in omega arith
+  asks f false a i v e d h k = let q = full f a i e in let r = k .enough refl a i h in omega arith
 
-  pub changed : (f : ℕ → ℕ → ℕ) (add : Bool) (a i v : ℕ) {l : ℕ} {xs ys : List ℕ} → i ≡ level p x y → v ≡ f x y → i < l → a * l + i < length xs
-      → Able add l (block a (hit p f x y)) xs → ys ≡ set xs (a * l + i) (if add then getD xs (a * l + i) 0 + v else getD xs (a * l + i) 0 - v)
-      → Put add l (block a (hit p f x y)) xs ys
-  changed f add a i v {l} {xs} {ys} e d h s k q =
+  pub count-put : (f : ℕ → ℕ → ℕ) (add : Bool) (a i v : ℕ) {l : ℕ} {xs ys : List ℕ} → i ≡ level p x y → v ≡ f x y → i < l → a * l + i < length xs
+      → Able add l (block a (atLevel p f x y)) xs → ys ≡ set xs (a * l + i) (changed add (getD xs (a * l + i) 0) v)
+      → Put add l (block a (atLevel p f x y)) xs ys
+  count-put f add a i v {l} {xs} {ys} e d h s k q =
       put-same add (λ m j _. ap₂ (λ (c n : ℕ). if eqb m a then (if eqb c j then n else 0) else 0) e d)
       (subst (λ (ys : List ℕ). Put add l (block a (λ j. if eqb i j then v else 0)) xs ys) (sym q)
-      (put-one add l a i v xs h s (asks f add a i v e d h k .1)))
+      (put-one add l a i v xs h s (λ t. fits-down 4294967296 add _ v t (asks f add a i v e d h k))))
 
 -- ---- a strip, and a row of two strips
 module _ (p : Frame) (add : Bool) (y a b apart first n : ℕ) {l : ℕ} {xs : List ℕ} where

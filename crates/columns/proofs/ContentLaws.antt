@@ -20,7 +20,7 @@ use Rattle.spec.specs.Window.{levelSum}
 use Rattle.spec.proofs.Ranges.{natSums, fold-same, fold-none, foldRect-turn}
 use Rattle.spec.proofs.Histogram.{fold-pick}
 use Rattle.spec.proofs.First.{length-tabulate, getD-tabulate}
-use Rattle.columns.specs.Blocks.{block, hit, pixelD, stripD, rowD, contentD, storeSize}
+use Rattle.columns.specs.Blocks.{block, atLevel, pixelD, stripD, rowD, contentD, blocksSize}
 use Rattle.columns.proofs.BlockLaws.{store-size, in-store}
 
 -- ---- which block
@@ -43,11 +43,11 @@ which w m = go (decLt m w) (decLt m (2 * w)) (ℕ-discrete m (2 * w)) (ℕ-discr
 
 -- ---- a row, block by block
 module _ (p : Frame) (y i : ℕ) where
-  pixel-first : (a b x m : ℕ) → (m ≡ b → ⊥) → pixelD p a b x y m i ≡ (if eqb m a then hit p (λ u v. 1) x y i else 0)
+  pixel-first : (a b x m : ℕ) → (m ≡ b → ⊥) → pixelD p a b x y m i ≡ (if eqb m a then atLevel p (λ u v. 1) x y i else 0)
   unfolding pixelD
   pixel-first a b x m n = rw (ne-eqb m b n) (add-zero _)
 
-  pixel-second : (a b x m : ℕ) → (m ≡ a → ⊥) → pixelD p a b x y m i ≡ (if eqb m b then hit p (guide p) x y i else 0)
+  pixel-second : (a b x m : ℕ) → (m ≡ a → ⊥) → pixelD p a b x y m i ≡ (if eqb m b then atLevel p (guide p) x y i else 0)
   unfolding pixelD
   pixel-second a b x m n = rw (ne-eqb m a n) (zero-add _)
 
@@ -70,20 +70,20 @@ module _ (p : Frame) (y i : ℕ) where
       go (yes e) = eq-eqb (w + x₀) (w + x * 1) (omega (arith, mul-one x)) ∙ sym (eq-eqb x₀ x e)
       go (no e) = ne-eqb (w + x₀) (w + x * 1) (λ d. e (omega (arith, mul-one x))) ∙ sym (ne-eqb x₀ x e)
 
-  columns-count : (w x₀ : ℕ) → x₀ < w → stripD p y 0 w 1 0 w x₀ i ≡ hit p (λ u v. 1) x₀ y i
+  columns-count : (w x₀ : ℕ) → x₀ < w → stripD p y 0 w 1 0 w x₀ i ≡ atLevel p (λ u v. 1) x₀ y i
   unfolding stripD
   columns-count w x₀ h =
-      fold-same _+_ 0 natSums _ (λ x. if eqb x₀ x then hit p (λ u v. 1) x y i else 0) 0 w
-      (λ x a b. pixel-first (0 + x * 1) (w + x * 1) x x₀ (λ e. omega arith) ∙ ap (λ (q : Bool). if q then hit p (λ u v. 1) x y i else 0)
+      fold-same _+_ 0 natSums _ (λ x. if eqb x₀ x then atLevel p (λ u v. 1) x y i else 0) 0 w
+      (λ x a b. pixel-first (0 + x * 1) (w + x * 1) x x₀ (λ e. omega arith) ∙ ap (λ (q : Bool). if q then atLevel p (λ u v. 1) x y i else 0)
       (ap (λ (n : ℕ). eqb n (0 + x * 1)) (sym (zero-add x₀)) ∙ own-block 0 x₀ x))
-      ∙ fold-pick _+_ 0 natSums (λ x. hit p (λ u v. 1) x y i) x₀ w h
+      ∙ fold-pick _+_ 0 natSums (λ x. atLevel p (λ u v. 1) x y i) x₀ w h
 
-  columns-guide : (w x₀ : ℕ) → x₀ < w → stripD p y 0 w 1 0 w (w + x₀) i ≡ hit p (guide p) x₀ y i
+  columns-guide : (w x₀ : ℕ) → x₀ < w → stripD p y 0 w 1 0 w (w + x₀) i ≡ atLevel p (guide p) x₀ y i
   unfolding stripD
   columns-guide w x₀ h =
-      fold-same _+_ 0 natSums _ (λ x. if eqb x₀ x then hit p (guide p) x y i else 0) 0 w
+      fold-same _+_ 0 natSums _ (λ x. if eqb x₀ x then atLevel p (guide p) x y i else 0) 0 w
       (λ x a b. pixel-second (0 + x * 1) (w + x * 1) x (w + x₀) (λ e. omega (arith, mul-one x)) ∙ rw (own-block w x₀ x) refl)
-      ∙ fold-pick _+_ 0 natSums (λ x. hit p (guide p) x y i) x₀ w h
+      ∙ fold-pick _+_ 0 natSums (λ x. atLevel p (guide p) x y i) x₀ w h
 
   columns-none : (w m : ℕ) → 2 * w ≤ m → stripD p y 0 w 1 0 w m i ≡ 0
   columns-none w m h = strip-none 0 w 1 0 w m (λ x u e. omega (arith, mul-one x)) (λ x u e. omega (arith, mul-one x))
@@ -92,34 +92,34 @@ module _ (p : Frame) (y i : ℕ) where
   window-none : (w first n m : ℕ) → (m ≡ 2 * w → ⊥) → (m ≡ 2 * w + 1 → ⊥) → stripD p y (2 * w) (2 * w + 1) 0 first n m i ≡ 0
   window-none w first n m c d = strip-none (2 * w) (2 * w + 1) 0 first n m (λ x u e. c (omega arith)) (λ x u e. d (omega arith))
 
-  window-count : (w first n : ℕ) → stripD p y (2 * w) (2 * w + 1) 0 first n (2 * w) i ≡ sum (λ x. hit p (λ u v. 1) x y i) first n
+  window-count : (w first n : ℕ) → stripD p y (2 * w) (2 * w + 1) 0 first n (2 * w) i ≡ sum (λ x. atLevel p (λ u v. 1) x y i) first n
   unfolding stripD
   window-count w first n =
       fold-same _+_ 0 natSums _ _ first n
       (λ x u v. pixel-first (2 * w + x * 0) (2 * w + 1 + x * 0) x (2 * w) (λ d. omega arith) ∙ rw (eq-eqb (2 * w) (2 * w + x * 0) (omega arith)) refl)
 
-  window-guide : (w first n : ℕ) → stripD p y (2 * w) (2 * w + 1) 0 first n (2 * w + 1) i ≡ sum (λ x. hit p (guide p) x y i) first n
+  window-guide : (w first n : ℕ) → stripD p y (2 * w) (2 * w + 1) 0 first n (2 * w + 1) i ≡ sum (λ x. atLevel p (guide p) x y i) first n
   unfolding stripD
   window-guide w first n =
       fold-same _+_ 0 natSums _ _ first n
       (λ x u v. pixel-second (2 * w + x * 0) (2 * w + 1 + x * 0) x (2 * w + 1) (λ d. omega arith) ∙ rw
       (eq-eqb (2 * w + 1) (2 * w + 1 + x * 0) (omega arith)) refl)
 
-  pub row-count : (s m : ℕ) → m < p .set .width → rowD p s y m i ≡ hit p (λ u v. 1) m y i
+  pub row-count : (s m : ℕ) → m < p .set .width → rowD p s y m i ≡ atLevel p (λ u v. 1) m y i
   unfolding rowD
   row-count s m h = ap₂ _+_ (columns-count (p .set .width) m h) (window-none (p .set .width) _ _ m (λ d. omega arith) (λ d. omega arith)) ∙ add-zero _
 
-  pub row-guide : (s x : ℕ) → x < p .set .width → rowD p s y (p .set .width + x) i ≡ hit p (guide p) x y i
+  pub row-guide : (s x : ℕ) → x < p .set .width → rowD p s y (p .set .width + x) i ≡ atLevel p (guide p) x y i
   unfolding rowD
   row-guide s x h =
       ap₂ _+_ (columns-guide (p .set .width) x h) (window-none (p .set .width) _ _ (p .set .width + x) (λ d. omega arith) (λ d. omega arith)) ∙
       add-zero _
 
-  pub row-window : (s : ℕ) → rowD p s y (2 * p .set .width) i ≡ inRow _+_ 0 p s (λ u v. hit p (λ a b. 1) u v i) y
+  pub row-window : (s : ℕ) → rowD p s y (2 * p .set .width) i ≡ inRow _+_ 0 p s (λ u v. atLevel p (λ a b. 1) u v i) y
   unfolding rowD inRow
   row-window s = ap₂ _+_ (columns-none (p .set .width) (2 * p .set .width) (le-refl _)) (window-count (p .set .width) _ _) ∙ zero-add _
 
-  pub row-window-guide : (s : ℕ) → rowD p s y (2 * p .set .width + 1) i ≡ inRow _+_ 0 p s (λ u v. hit p (guide p) u v i) y
+  pub row-window-guide : (s : ℕ) → rowD p s y (2 * p .set .width + 1) i ≡ inRow _+_ 0 p s (λ u v. atLevel p (guide p) u v i) y
   unfolding rowD inRow
   row-window-guide s = ap₂ _+_ (columns-none (p .set .width) (2 * p .set .width + 1) (omega arith)) (window-guide (p .set .width) _ _) ∙ zero-add _
 
@@ -142,7 +142,7 @@ module _ (p : Frame) (s t i : ℕ) where
   content-window =
       fold-same _+_ 0 natSums _ _ _ _ (λ y a b. row-window p y i s)
       ∙ sym
-      (foldRect-turn _+_ 0 natSums (λ u v. hit p (λ a b. 1) u v i) (s - p .set .radius) (span (p .set .radius) s (p .set .width))
+      (foldRect-turn _+_ 0 natSums (λ u v. atLevel p (λ a b. 1) u v i) (s - p .set .radius) (span (p .set .radius) s (p .set .width))
       (t - p .set .radius) (span (p .set .radius) t (p .set .height)))
 
   pub content-window-guide : contentD p s t (2 * p .set .width + 1) i ≡ levelSum p s t (guide p) i
@@ -150,7 +150,7 @@ module _ (p : Frame) (s t i : ℕ) where
   content-window-guide =
       fold-same _+_ 0 natSums _ _ _ _ (λ y a b. row-window-guide p y i s)
       ∙ sym
-      (foldRect-turn _+_ 0 natSums (λ u v. hit p (guide p) u v i) (s - p .set .radius) (span (p .set .radius) s (p .set .width))
+      (foldRect-turn _+_ 0 natSums (λ u v. atLevel p (guide p) u v i) (s - p .set .radius) (span (p .set .radius) s (p .set .width))
       (t - p .set .radius) (span (p .set .radius) t (p .set .height)))
 
   pub content-beyond : (m : ℕ) → 2 * p .set .width + 2 ≤ m → contentD p s t m i ≡ 0
@@ -165,7 +165,7 @@ back : (n : ℕ) (f : ℕ → ℕ) (ys : List ℕ) (k : ℕ) → getD (tabulate 
 back n f ys k = ap (λ (m : ℕ). getD (tabulate n f ++ ys) (m + k) 0) (sym (length-tabulate n f)) ∙ getD-append-add (tabulate n f) ys k 0
 
 module _ (p : Frame) (s t : ℕ) where
-  pub length-columns : length (columnStore p s t) ≡ storeSize p
+  pub length-columns : length (columnStore p s t) ≡ blocksSize p
   unfolding columnStore
   length-columns = simp (length-append, length-tabulate) (omega arith)
 
@@ -238,48 +238,48 @@ module _ (p : Frame) (s t : ℕ) where
 
 -- ---- a store that begins with the columns of a window, and goes on as ys
 module _ (p : Frame) (s t : ℕ) where
-  pub holds-cell : {xs : List ℕ} (ys : List ℕ) → xs ≡ columnStore p s t ++ drop (storeSize p) ys → (m i : ℕ) → m < 2 * p .set .width + 2 →
+  pub holds-cell : {xs : List ℕ} (ys : List ℕ) → xs ≡ columnStore p s t ++ drop (blocksSize p) ys → (m i : ℕ) → m < 2 * p .set .width + 2 →
       i < p .set .levels
       → getD xs (m * p .set .levels + i) 0 ≡ contentD p s t m i
   holds-cell ys e m i hm hi =
       ap (λ (q : List ℕ). getD q (m * p .set .levels + i) 0) e
-      ∙ List·getD-append (columnStore p s t) (drop (storeSize p) ys) 0 (m * p .set .levels + i)
+      ∙ List·getD-append (columnStore p s t) (drop (blocksSize p) ys) 0 (m * p .set .levels + i)
       (rw (length-columns p s t) (in-store (p .set .width) hm hi))
       ∙ column-cell p s t m i hm hi
 
-  pub holds-rest : {xs : List ℕ} (ys : List ℕ) → xs ≡ columnStore p s t ++ drop (storeSize p) ys → (j : ℕ) → storeSize p ≤ j →
+  pub holds-rest : {xs : List ℕ} (ys : List ℕ) → xs ≡ columnStore p s t ++ drop (blocksSize p) ys → (j : ℕ) → blocksSize p ≤ j →
       getD xs j 0 ≡ getD ys j 0
   holds-rest ys e j h =
-      let d : j ≡ length (columnStore p s t) + (j - storeSize p) = omega (arith, length-columns p s t) in
-      let g : storeSize p + (j - storeSize p) ≡ j = omega arith in
-      ap (λ (q : List ℕ). getD q j 0) e ∙ ap (λ (k : ℕ). getD (columnStore p s t ++ drop (storeSize p) ys) k 0) d
-      ∙ getD-append-add (columnStore p s t) (drop (storeSize p) ys) (j - storeSize p) 0 ∙ getD-drop (storeSize p) ys (j - storeSize p) 0
+      let d : j ≡ length (columnStore p s t) + (j - blocksSize p) = omega (arith, length-columns p s t) in
+      let g : blocksSize p + (j - blocksSize p) ≡ j = omega arith in
+      ap (λ (q : List ℕ). getD q j 0) e ∙ ap (λ (k : ℕ). getD (columnStore p s t ++ drop (blocksSize p) ys) k 0) d
+      ∙ getD-append-add (columnStore p s t) (drop (blocksSize p) ys) (j - blocksSize p) 0 ∙ getD-drop (blocksSize p) ys (j - blocksSize p) 0
       ∙ ap (λ (k : ℕ). getD ys k 0) g
 
-  pub holds-long : (xs : List ℕ) → xs ≡ columnStore p s t ++ drop (storeSize p) xs → storeSize p ≤ length xs
+  pub holds-long : (xs : List ℕ) → xs ≡ columnStore p s t ++ drop (blocksSize p) xs → blocksSize p ≤ length xs
   holds-long xs e =
-      let d : length xs ≡ storeSize p + (length xs - storeSize p) =
-      ap length e ∙ length-append (columnStore p s t) (drop (storeSize p) xs) ∙ ap₂ _+_ (length-columns p s t) (length-drop (storeSize p) xs) in
+      let d : length xs ≡ blocksSize p + (length xs - blocksSize p) =
+      ap length e ∙ length-append (columnStore p s t) (drop (blocksSize p) xs) ∙ ap₂ _+_ (length-columns p s t) (length-drop (blocksSize p) xs) in
       omega arith
 
 -- the same numbers, with their own rest
-pub holds-self : (p : Frame) (s t : ℕ) (xs ys : List ℕ) → ys ≡ columnStore p s t ++ drop (storeSize p) xs →
-    ys ≡ columnStore p s t ++ drop (storeSize p) ys
+pub holds-self : (p : Frame) (s t : ℕ) (xs ys : List ℕ) → ys ≡ columnStore p s t ++ drop (blocksSize p) xs →
+    ys ≡ columnStore p s t ++ drop (blocksSize p) ys
 holds-self p s t xs ys e =
-    let d : drop (storeSize p) ys ≡ drop (storeSize p) xs =
-    ap (λ (q : List ℕ). drop (storeSize p) q) e ∙ drop-at (columnStore p s t) (drop (storeSize p) xs) (storeSize p) (length-columns p s t) in
+    let d : drop (blocksSize p) ys ≡ drop (blocksSize p) xs =
+    ap (λ (q : List ℕ). drop (blocksSize p) q) e ∙ drop-at (columnStore p s t) (drop (blocksSize p) xs) (blocksSize p) (length-columns p s t) in
     e ∙ ap (λ (q : List ℕ). columnStore p s t ++ q) (sym d)
 
-pub make-holds : (p : Frame) (s t : ℕ) (xs ys : List ℕ) → length xs ≡ length ys → storeSize p ≤ length ys → 0 < p .set .levels
+pub make-holds : (p : Frame) (s t : ℕ) (xs ys : List ℕ) → length xs ≡ length ys → blocksSize p ≤ length ys → 0 < p .set .levels
     → ((m i : ℕ) → m < 2 * p .set .width + 2 → i < p .set .levels → getD xs (m * p .set .levels + i) 0 ≡ contentD p s t m i)
-    → ((j : ℕ) → storeSize p ≤ j → getD xs j 0 ≡ getD ys j 0) → xs ≡ columnStore p s t ++ drop (storeSize p) ys
+    → ((j : ℕ) → blocksSize p ≤ j → getD xs j 0 ≡ getD ys j 0) → xs ≡ columnStore p s t ++ drop (blocksSize p) ys
 make-holds p s t xs ys e h low cells rest =
-    ext-getD 0 xs (columnStore p s t ++ drop (storeSize p) ys)
-    (let d : length (columnStore p s t ++ drop (storeSize p) ys) ≡ storeSize p + (length ys - storeSize p) =
-    length-append (columnStore p s t) (drop (storeSize p) ys) ∙ ap₂ _+_ (length-columns p s t) (length-drop (storeSize p) ys) in omega arith)
-    (λ j k. go j (decLt j (storeSize p)))
+    ext-getD 0 xs (columnStore p s t ++ drop (blocksSize p) ys)
+    (let d : length (columnStore p s t ++ drop (blocksSize p) ys) ≡ blocksSize p + (length ys - blocksSize p) =
+    length-append (columnStore p s t) (drop (blocksSize p) ys) ∙ ap₂ _+_ (length-columns p s t) (length-drop (blocksSize p) ys) in omega arith)
+    (λ j k. go j (decLt j (blocksSize p)))
   where
-    go : (j : ℕ) → Dec (j < storeSize p) → getD xs j 0 ≡ getD (columnStore p s t ++ drop (storeSize p) ys) j 0
+    go : (j : ℕ) → Dec (j < blocksSize p) → getD xs j 0 ≡ getD (columnStore p s t ++ drop (blocksSize p) ys) j 0
     go j (yes k) =
         let hm : j / (p .set .levels) < 2 * p .set .width + 2 =
         div-lt-iff-lt-mul low .1 (subst (λ (n : ℕ). j < n) (sym (store-size (p .set .width) (p .set .levels))) k) in
@@ -287,5 +287,5 @@ make-holds p s t xs ys e h low cells rest =
         let d : j / (p .set .levels) * (p .set .levels) + j % (p .set .levels) ≡ j = div-add-mod' j (p .set .levels) in
         ap (λ (q : ℕ). getD xs q 0) (sym d) ∙ cells (j / (p .set .levels)) (j % (p .set .levels)) hm hi ∙ sym
         (holds-cell p s t ys refl (j / (p .set .levels)) (j % (p .set .levels)) hm hi) ∙ ap
-        (λ (q : ℕ). getD (columnStore p s t ++ drop (storeSize p) ys) q 0) d
+        (λ (q : ℕ). getD (columnStore p s t ++ drop (blocksSize p) ys) q 0) d
     go j (no k) = rest j (omega arith) ∙ sym (holds-rest p s t ys refl j (omega arith))

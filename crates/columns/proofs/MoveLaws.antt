@@ -8,6 +8,7 @@ use Prim.Native.Nat.{ℕ, _+_, _-_, _*_, _≤_, _<_}
 use native.Mathlib.Nat.{mul-le-mul}
 use native.Mathlib.Omega.{arith}
 use lib.ListN.{length, getD, drop}
+use Rattle.spec.specs.Base.{when}
 use Rattle.spec.specs.declared.Plan.{Plan}
 use Rattle.spec.specs.Frame.{frameOf}
 use Rattle.spec.specs.Checks.{Planned}
@@ -16,7 +17,7 @@ use Rattle.spec.proofs.Plans.{facts}
 use Rattle.window.specs.Line.{Adjacent, right, left, down, up}
 use Rattle.window.proofs.PixelLaws.{plan-limits, levels-high}
 use Rattle.columns.specs.declared.store.Exchange.{Exchange}
-use Rattle.columns.specs.Blocks.{when, Put, Able, Swap, pairD, rowD, storeSize, exchangeOf, Neighbours, enterD, leaveD, InWidth, SideReady}
+use Rattle.columns.specs.Blocks.{Put, Able, Swap, pairD, rowD, blocksSize, exchangeOf, Neighbours, enterD, leaveD, InWidth, SideReady}
 use Rattle.columns.proofs.ContentLaws.{holds-long}
 use Rattle.columns.proofs.StoreLaws.{exchange-small, entering-low, leaving-low, enter-able, leave-able, rows-moved}
 use Rattle.columns.proofs.SideLaws.{ready-counts, ready-guides, across-holds}
@@ -35,13 +36,13 @@ along-is (down a e h k) n = (h, record { by-one = inl e; in-old = omega arith; i
 along-is (up a e h k) n = (h, record { by-one = inr e; in-old = k; in-new = omega arith })
 
 module _ {b : List ℕ} {z : Plan} (pl : Planned b z) where
-  pub size-in : {n : ℕ} → storeSize (frameOf b) ≤ n → 2 * (z .width * z .levels) + 2 * z .levels ≤ n
+  pub size-in : {n : ℕ} → blocksSize (frameOf b) ≤ n → 2 * (z .width * z .levels) + 2 * z .levels ≤ n
   size-in h = let f = facts pl in rw (f .width, f .levels) h
 
   pub size-small : z .width * z .levels ≤ 1048576
   size-small = mul-le-mul {n₂ = 1024} (plan-limits pl .width) (levels-high pl)
 
-  module _ (s t : ℕ) (xs : List ℕ) (e : xs ≡ columnStore (frameOf b) s t ++ drop (storeSize (frameOf b)) xs) where
+  module _ (s t : ℕ) (xs : List ℕ) (e : xs ≡ columnStore (frameOf b) s t ++ drop (blocksSize (frameOf b)) xs) where
     pub held-long : 2 * (z .width * z .levels) + 2 * z .levels ≤ length xs
     held-long = size-in (holds-long (frameOf b) s t xs e)
 
@@ -66,7 +67,7 @@ module _ {b : List ℕ} {z : Plan} (pl : Planned b z) where
 
       pub vertical-done : (ys zs : List ℕ) → Put true (z .levels) (λ m i. when (d .enters) (rowD (frameOf b) s (d .entering) m i)) xs ys
           → Put false (z .levels) (λ m i. when (d .leaves) (rowD (frameOf b) s (d .leaving) m i)) ys zs →
-          zs ≡ columnStore (frameOf b) s t′ ++ drop (storeSize (frameOf b)) xs
+          zs ≡ columnStore (frameOf b) s t′ ++ drop (blocksSize (frameOf b)) xs
       unfolding enterD leaveD
       vertical-done ys zs =
           let f = facts pl in
@@ -99,5 +100,5 @@ module _ {b : List ℕ} {z : Plan} (pl : Planned b z) where
           →
           Swap (z .levels) (pairD (z .width) (d .enters) (z .levels) (d .entering) xs) (pairD (z .width) (d .leaves) (z .levels) (d .leaving) xs)
           xs ys
-          → ys ≡ columnStore (frameOf b) s′ t ++ drop (storeSize (frameOf b)) xs
+          → ys ≡ columnStore (frameOf b) s′ t ++ drop (blocksSize (frameOf b)) xs
       sideways-done ys v = let f = facts pl in across-holds (f .limits) t sides xs e ys (rw (ed, f .radius, f .width, f .levels) at v)

@@ -12,14 +12,14 @@ use lib.Dec.{eqb}
 use lib.ListN.{length, getD, set, drop, length-set}
 use lib.Seq.{getD-set-same, getD-set-other}
 use borrow.Author.Tests.{eq-eqb, ne-eqb}
-use Rattle.spec.specs.Base.{if_then_else_}
+use Rattle.spec.specs.Base.{if_then_else_, when}
 use Rattle.spec.specs.Frame.{Frame, guide}
 use Rattle.spec.specs.Columns.{columnSum, columnStore}
 use Rattle.spec.specs.Window.{levelSum}
 use Rattle.spec.proofs.Moves.{levelSum-columns}
 use Rattle.spec.proofs.Limits.{FrameLimits}
 use Rattle.columns.specs.declared.store.Exchange.{Exchange}
-use Rattle.columns.specs.Blocks.{when, block, contentD, storeSize, Swap, Ready, cellOf, pairD, exchangeOf, Neighbours}
+use Rattle.columns.specs.Blocks.{block, contentD, blocksSize, Swap, BlockReady, cellOf, pairD, exchangeOf, Neighbours}
 use Rattle.columns.proofs.ContentLaws.{
   Which,
   counts,
@@ -37,25 +37,25 @@ use Rattle.columns.proofs.ContentLaws.{
 use Rattle.columns.proofs.StoreLaws.{exchange-law, entering-low, leaving-low, content-high, moved-cells}
 
 -- ---- one pass: the levels below i are done
-pub record Slid (l a : ℕ) (F G : ℕ → ℕ) (i : ℕ) (xs ys : List ℕ) : Type 0 where
+pub record BlockSlid (l a : ℕ) (F G : ℕ → ℕ) (i : ℕ) (xs ys : List ℕ) : Type 0 where
   pub len : length ys ≡ length xs
   pub done : (j : ℕ) → j < i → getD ys (a * l + j) 0 + G j ≡ getD xs (a * l + j) 0 + F j
   pub other : (m j : ℕ) → j < l → ((m ≡ a) → j < i → ⊥) → getD ys (m * l + j) 0 ≡ getD xs (m * l + j) 0
 
-pub slid-none : (l a : ℕ) (F G : ℕ → ℕ) (xs : List ℕ) → Slid l a F G 0 xs xs
+pub slid-none : (l a : ℕ) (F G : ℕ → ℕ) (xs : List ℕ) → BlockSlid l a F G 0 xs xs
 slid-none l a F G xs = record { len = refl; done = λ j h. absurd (omega arith); other = λ m j h n. refl }
 
-pub slid-here : {l a : ℕ} {F G : ℕ → ℕ} {i : ℕ} {xs ys : List ℕ} → Slid l a F G i xs ys → i < l → getD ys (a * l + i) 0 ≡ getD xs (a * l + i) 0
+pub slid-here : {l a : ℕ} {F G : ℕ → ℕ} {i : ℕ} {xs ys : List ℕ} → BlockSlid l a F G i xs ys → i < l → getD ys (a * l + i) 0 ≡ getD xs (a * l + i) 0
 slid-here {l} {a} {F} {G} {i} k h = k .other a i h (λ e d. omega arith)
 
-pub slid-pick : {l a : ℕ} {F G : ℕ → ℕ} {i : ℕ} {xs ys : List ℕ} → Slid l a F G i xs ys → i < l → (on : Bool) (m : ℕ) → (on ≡ true → m < a)
+pub slid-pick : {l a : ℕ} {F G : ℕ → ℕ} {i : ℕ} {xs ys : List ℕ} → BlockSlid l a F G i xs ys → i < l → (on : Bool) (m : ℕ) → (on ≡ true → m < a)
     → when on (getD ys (m * l + i) 0) ≡ cellOf on l m xs i
 slid-pick k h true m low = k .other m _ h (λ e d. let q = low refl in omega arith)
 slid-pick k h false m low = refl
 
-pub slid-next : {l a : ℕ} {F G : ℕ → ℕ} {i : ℕ} {xs ys : List ℕ} {u v : ℕ} → Slid l a F G i xs ys → i < l → a * l + i < length ys →
-    Ready l a F G xs → u ≡ F i → v ≡ G i
-    → Slid l a F G (i + 1) xs (set ys (a * l + i) (getD ys (a * l + i) 0 + u - v))
+pub slid-next : {l a : ℕ} {F G : ℕ → ℕ} {i : ℕ} {xs ys : List ℕ} {u v : ℕ} → BlockSlid l a F G i xs ys → i < l → a * l + i < length ys →
+    BlockReady l a F G xs → u ≡ F i → v ≡ G i
+    → BlockSlid l a F G (i + 1) xs (set ys (a * l + i) (getD ys (a * l + i) 0 + u - v))
 slid-next {l} {a} {F} {G} {i} {xs} {ys} {u} {v} k h long r eu ev =
     record { len = length-set ys _ _ ∙ k .len; done = λ j l. go j l (ℕ-discrete j i); other = λ m j l n. far m j l n }
   where
@@ -82,7 +82,7 @@ slid-next {l} {a} {F} {G} {i} {xs} {ys} {u} {v} k h long r eu ev =
         getD-set-other ys (a * l + i) (m * l + j) _ 0 (λ x. let q = apart m j hj x in n (q .0) (omega (arith, q .1)))
         ∙ k .other m j hj (λ e d. n e (omega arith))
 
-pub slid-all : {l a : ℕ} {F G : ℕ → ℕ} {i : ℕ} {xs ys : List ℕ} → Slid l a F G i xs ys → l ≤ i → Swap l (block a F) (block a G) xs ys
+pub slid-all : {l a : ℕ} {F G : ℕ → ℕ} {i : ℕ} {xs ys : List ℕ} → BlockSlid l a F G i xs ys → l ≤ i → Swap l (block a F) (block a G) xs ys
 slid-all {l} {a} {F} {G} {i} {xs} {ys} k h = record { len = k .len; cells = λ m j hj. go m j hj (ℕ-discrete m a) }
   where
     go : (m j : ℕ) → j < l → Dec (m ≡ a) → getD ys (m * l + j) 0 + block a G m j ≡ getD xs (m * l + j) 0 + block a F m j
@@ -101,8 +101,8 @@ module _ (w l : ℕ) (xs ys : List ℕ) (F G : ℕ → ℕ) (q : Swap l (block (
   kept-cell false x i h low = refl
 
   pub ready-second : (gain lose : Bool) (more less : ℕ) → (gain ≡ true → more < w) → (lose ≡ true → less < w)
-      → Ready l (2 * w + 1) (cellOf gain l (w + more) xs) (cellOf lose l (w + less) xs) xs
-      → Ready l (2 * w + 1) (cellOf gain l (w + more) ys) (cellOf lose l (w + less) ys) ys
+      → BlockReady l (2 * w + 1) (cellOf gain l (w + more) xs) (cellOf lose l (w + less) xs) xs
+      → BlockReady l (2 * w + 1) (cellOf gain l (w + more) ys) (cellOf lose l (w + less) ys) ys
   ready-second gain lose more less hm hl r =
       record {
         room = λ i h. let a = kept (2 * w + 1) i h (λ e. omega arith) in let b = kept-cell gain more i h hm in let c = r .room i h in omega arith;
@@ -150,7 +150,7 @@ module _ (w : ℕ) (on : Bool) (l x : ℕ) (xs : List ℕ) (i : ℕ) where
   unfolding pairD
   pair-second m e = rw (eq-eqb m (2 * w + 1) e, ne-eqb m (2 * w) (λ d. omega arith)) (native.Mathlib.Nat.zero-add _)
 
-module _ {p : Frame} (g : FrameLimits p) (c t : ℕ) (xs : List ℕ) (e : xs ≡ columnStore p c t ++ drop (storeSize p) xs) where
+module _ {p : Frame} (g : FrameLimits p) (c t : ℕ) (xs : List ℕ) (e : xs ≡ columnStore p c t ++ drop (blocksSize p) xs) where
   pub cell-count : (on : Bool) (x i : ℕ) → (on ≡ true → x < p .set .width) → i < p .set .levels →
       cellOf on (p .set .levels) x xs i ≡ when on (columnSum p t (λ u v. 1) x i)
   cell-count true x i low h = let lx = low refl in holds-cell p c t xs e x i (omega arith) h ∙ content-count p c t i x lx
@@ -227,7 +227,7 @@ module _ {p : Frame} (g : FrameLimits p) (c t : ℕ) (xs : List ℕ) (e : xs ≡
 
 -- ---- what the two passes ask, and what they give
 module _ {p : Frame} (g : FrameLimits p) {s s′ : ℕ} (t : ℕ) (k : Neighbours s s′ (p .set .width)) (xs : List ℕ)
-    (e : xs ≡ columnStore p s t ++ drop (storeSize p) xs) where
+    (e : xs ≡ columnStore p s t ++ drop (blocksSize p) xs) where
   abbrev gain : Bool
   gain = exchangeOf s s′ (p .set .radius) (p .set .width) .enters
 
@@ -252,7 +252,7 @@ module _ {p : Frame} (g : FrameLimits p) {s s′ : ℕ} (t : ℕ) (k : Neighbour
       (p .set .levels) more xs m i
   law = across-law g s t xs e k
 
-  pub ready-counts : Ready (p .set .levels) (2 * p .set .width) (cellOf gain (p .set .levels) more xs) (cellOf lose (p .set .levels) less xs) xs
+  pub ready-counts : BlockReady (p .set .levels) (2 * p .set .width) (cellOf gain (p .set .levels) more xs) (cellOf lose (p .set .levels) less xs) xs
   ready-counts =
       record {
         room = λ i h. let a = holds-cell p s t xs e (2 * p .set .width) i (omega arith) h in let b =
@@ -265,7 +265,7 @@ module _ {p : Frame} (g : FrameLimits p) {s s′ : ℕ} (t : ℕ) (k : Neighbour
             omega arith;
       }
 
-  pub ready-guides : Ready (p .set .levels) (2 * p .set .width + 1) (cellOf gain (p .set .levels) (p .set .width + more) xs)
+  pub ready-guides : BlockReady (p .set .levels) (2 * p .set .width + 1) (cellOf gain (p .set .levels) (p .set .width + more) xs)
       (cellOf lose (p .set .levels) (p .set .width + less) xs) xs
   ready-guides =
       record {
@@ -282,7 +282,7 @@ module _ {p : Frame} (g : FrameLimits p) {s s′ : ℕ} (t : ℕ) (k : Neighbour
 
   pub across-holds : (zs : List ℕ) →
       Swap (p .set .levels) (pairD (p .set .width) gain (p .set .levels) more xs) (pairD (p .set .width) lose (p .set .levels) less xs) xs zs
-      → zs ≡ columnStore p s′ t ++ drop (storeSize p) xs
+      → zs ≡ columnStore p s′ t ++ drop (blocksSize p) xs
   across-holds zs q =
       moved-cells g s t s′ t (pairD (p .set .width) gain (p .set .levels) more xs) (pairD (p .set .width) lose (p .set .levels) less xs) law
       (λ m i h. pair-none (p .set .width) gain (p .set .levels) more xs i m (λ o. omega arith) (λ o. omega arith))

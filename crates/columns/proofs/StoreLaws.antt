@@ -12,7 +12,7 @@ use lib.Dec.{leb, ltb, eqb}
 use lib.ListN.{length, getD, drop}
 use borrow.Author.Tests.{ltb-true, lt-ltb, le-ltb}
 use Rattle.spec.specs.declared.Plan.{Plan}
-use Rattle.spec.specs.Base.{if_then_else_, sum}
+use Rattle.spec.specs.Base.{if_then_else_, sum, when}
 use Rattle.spec.specs.Frame.{Frame, frameOf, level, guide}
 use Rattle.spec.specs.Checks.{Planned}
 use Rattle.spec.specs.Window.{span, inRow}
@@ -20,10 +20,12 @@ use Rattle.spec.specs.Columns.{columnStore}
 use Rattle.spec.proofs.Ranges.{natSums, window-right, lost, gained}
 use Rattle.spec.proofs.Sums.{sum-le, sum-const}
 use Rattle.spec.proofs.Limits.{FrameLimits}
+use Rattle.spec.proofs.Bounds.{if-high}
 use Rattle.spec.proofs.Plans.{facts}
 use Rattle.window.proofs.LineLaws.{span-high}
 use Rattle.columns.specs.declared.store.Exchange.{Exchange}
-use Rattle.columns.specs.Blocks.{when, Put, Able, Cleared, hit, rowD, contentD, storeSize, ahead, back, exchangeOf, Neighbours, enterD, leaveD}
+use Rattle.columns.specs.Blocks.{Put, Able, Cleared, Neighbours}
+use Rattle.columns.specs.Blocks.{atLevel, rowD, contentD, blocksSize, ahead, back, exchangeOf, enterD, leaveD}
 use Rattle.columns.proofs.BlockLaws.{store-size, in-store}
 use Rattle.columns.proofs.ContentLaws.{
   Which,
@@ -105,10 +107,6 @@ module _ {c c′ size : ℕ} (r : ℕ) (k : Neighbours c c′ size) where
       go (inr e) = rw (is-back e) (λ h. ltb-true _ _ h)
 
 -- ---- bounds
-if-high : (b : Bool) (n B : ℕ) → n ≤ B → (if b then n else 0) ≤ B
-if-high true n B h = h
-if-high false n B h = omega arith
-
 in-span : (r c n k : ℕ) → k < c - r + span r c n → c - r ≤ k → k < n
 unfolding span
 in-span r c n k h l = omega arith
@@ -136,10 +134,10 @@ module _ {p : Frame} (g : FrameLimits p) where
           (if-high (eqb (level p x y) i) (guide p x y) 7905 (le-trans (guide-high x y h hy) (omega arith)))
       go (window e) =
           le-trans (le-of-eq (ap (λ (n : ℕ). rowD p s y n i) e ∙ row-window p y i s))
-          (in-row-high s y (λ u v. hit p (λ a b. 1) u v i) (λ x h. if-high (eqb (level p x y) i) 1 255 (omega arith)))
+          (in-row-high s y (λ u v. atLevel p (λ a b. 1) u v i) (λ x h. if-high (eqb (level p x y) i) 1 255 (omega arith)))
       go (windowGuides e) =
           le-trans (le-of-eq (ap (λ (n : ℕ). rowD p s y n i) e ∙ row-window-guide p y i s))
-          (in-row-high s y (λ u v. hit p (guide p) u v i) (λ x h. if-high (eqb (level p x y) i) (guide p x y) 255 (guide-high x y h hy)))
+          (in-row-high s y (λ u v. atLevel p (guide p) u v i) (λ x h. if-high (eqb (level p x y) i) (guide p x y) 255 (guide-high x y h hy)))
       go (beyond h) = le-trans (le-of-eq (row-beyond p y i s m h)) (omega arith)
 
   pub content-high : (s t m i : ℕ) → contentD p s t m i ≤ 245055
@@ -163,7 +161,7 @@ when-beyond p false s y m i h = refl
 module _ {p : Frame} (g : FrameLimits p) (s t s′ t′ : ℕ) (D E : ℕ → ℕ → ℕ)
     (law : (m i : ℕ) → m < 2 * p .set .width + 2 → i < p .set .levels → contentD p s′ t′ m i + E m i ≡ contentD p s t m i + D m i)
     (D-none : (m i : ℕ) → 2 * p .set .width + 2 ≤ m → D m i ≡ 0) (E-none : (m i : ℕ) → 2 * p .set .width + 2 ≤ m → E m i ≡ 0)
-    (D-high : (m i : ℕ) → i < p .set .levels → D m i ≤ 4000000) (xs : List ℕ) (e : xs ≡ columnStore p s t ++ drop (storeSize p) xs) where
+    (D-high : (m i : ℕ) → i < p .set .levels → D m i ≤ 4000000) (xs : List ℕ) (e : xs ≡ columnStore p s t ++ drop (blocksSize p) xs) where
   pub room-for : ((j : ℕ) → getD xs j 0 < 4294967296) → Able true (p .set .levels) D xs
   room-for bits = record { room = λ _ m i hi. go m i hi (decLt m (2 * p .set .width + 2)); enough = λ d. absurd (true≢false d) }
     where
@@ -192,13 +190,13 @@ module _ {p : Frame} (g : FrameLimits p) (s t s′ t′ : ℕ) (D E : ℕ → �
   -- the relation that both steps give
   pub moved-cells : (zs : List ℕ) → length zs ≡ length xs
       → ((m i : ℕ) → i < p .set .levels → getD zs (m * p .set .levels + i) 0 + E m i ≡ getD xs (m * p .set .levels + i) 0 + D m i)
-      → zs ≡ columnStore p s′ t′ ++ drop (storeSize p) xs
+      → zs ≡ columnStore p s′ t′ ++ drop (blocksSize p) xs
   moved-cells zs len cells =
       make-holds p s′ t′ zs xs len (holds-long p s t xs e) (le-trans (omega arith) (g .sound .levels-low))
       (λ m i h hi. let a = holds-cell p s t xs e m i h hi in let b = law m i h hi in let c = cells m i hi in omega arith)
       (λ j h. go j h)
     where
-      go : (j : ℕ) → storeSize p ≤ j → getD zs j 0 ≡ getD xs j 0
+      go : (j : ℕ) → blocksSize p ≤ j → getD zs j 0 ≡ getD xs j 0
       go j h =
           let low : 0 < p .set .levels = le-trans (omega arith) (g .sound .levels-low) in
           let d : j / p .set .levels * p .set .levels + j % p .set .levels ≡ j = div-add-mod' j (p .set .levels) in
@@ -216,12 +214,12 @@ module _ {p : Frame} (g : FrameLimits p) (s t s′ t′ : ℕ) (D E : ℕ → �
               absurd (omega (arith, store-size (p .set .width) (p .set .levels)))
 
   pub moved : (ys zs : List ℕ) → Put true (p .set .levels) D xs ys → Put false (p .set .levels) E ys zs →
-      zs ≡ columnStore p s′ t′ ++ drop (storeSize p) xs
+      zs ≡ columnStore p s′ t′ ++ drop (blocksSize p) xs
   moved ys zs q r = moved-cells zs (r .len ∙ q .len) (λ m i hi. let a = q .cells m i hi in let b = r .cells m i hi in omega arith)
 
 -- ---- up and down
 module _ {p : Frame} (g : FrameLimits p) (s : ℕ) {t t′ : ℕ} (k : Neighbours t t′ (p .set .height)) (xs : List ℕ)
-    (e : xs ≡ columnStore p s t ++ drop (storeSize p) xs) where
+    (e : xs ≡ columnStore p s t ++ drop (blocksSize p) xs) where
   abbrev d : Exchange
   d = exchangeOf t t′ (p .set .radius) (p .set .height)
 
@@ -248,13 +246,13 @@ module _ {p : Frame} (g : FrameLimits p) (s : ℕ) {t t′ : ℕ} (k : Neighbour
   leave-able = enough-for g s t s t′ (enterD p s d) (leaveD p s d) (λ m i _ _. content-law m i) enter-none leave-none enter-high xs e
 
   pub rows-moved : (ys zs : List ℕ) → Put true (p .set .levels) (enterD p s d) xs ys → Put false (p .set .levels) (leaveD p s d) ys zs →
-      zs ≡ columnStore p s t′ ++ drop (storeSize p) xs
+      zs ≡ columnStore p s t′ ++ drop (blocksSize p) xs
   rows-moved = moved g s t s t′ (enterD p s d) (leaveD p s d) (λ m i _ _. content-law m i) enter-none leave-none enter-high xs e
 
 -- ---- the start
 module _ {b : List ℕ} {z : Plan} (k : Planned b z) (s t : ℕ) {a n : ℕ} (ea : a ≡ t - z .radius) (en : n ≡ span (z .radius) t (z .height))
     (xs ys : List ℕ) (c : Cleared (2 * (z .width * z .levels) + 2 * z .levels) xs ys) where
-  size-is : 2 * (z .width * z .levels) + 2 * z .levels ≡ storeSize (frameOf b)
+  size-is : 2 * (z .width * z .levels) + 2 * z .levels ≡ blocksSize (frameOf b)
   size-is = let f = facts k in rw (f .width, f .levels) refl
 
   same-sum : (m i : ℕ) → sum (λ v. rowD (frameOf b) s v m i) a n ≡ contentD (frameOf b) s t m i
@@ -281,8 +279,8 @@ module _ {b : List ℕ} {z : Plan} (k : Planned b z) (s t : ℕ) {a n : ℕ} (ea
           let r = bits (m * z .levels + i) in
           omega arith
 
-  pub start-done : (zs : List ℕ) → storeSize (frameOf b) ≤ length xs → Put true (z .levels) (λ m i. sum (λ v. rowD (frameOf b) s v m i) a n) ys zs
-      → zs ≡ columnStore (frameOf b) s t ++ drop (storeSize (frameOf b)) xs
+  pub start-done : (zs : List ℕ) → blocksSize (frameOf b) ≤ length xs → Put true (z .levels) (λ m i. sum (λ v. rowD (frameOf b) s v m i) a n) ys zs
+      → zs ≡ columnStore (frameOf b) s t ++ drop (blocksSize (frameOf b)) xs
   start-done zs long q =
       let f = facts k in
       make-holds (frameOf b) s t zs xs (q .len ∙ c .len) long (le-trans (omega arith) (f .limits .sound .levels-low))
@@ -296,7 +294,7 @@ module _ {b : List ℕ} {z : Plan} (k : Planned b z) (s t : ℕ) {a n : ℕ} (ea
           let g : getD zs (m * z .levels + i) 0 ≡ contentD (frameOf b) s t m i = omega arith in
           subst (λ (l : ℕ). getD zs (m * l + i) 0 ≡ contentD (frameOf b) s t m i) (facts k .levels) g
 
-      beyond-is : (j : ℕ) → storeSize (frameOf b) ≤ j → getD zs j 0 ≡ getD xs j 0
+      beyond-is : (j : ℕ) → blocksSize (frameOf b) ≤ j → getD zs j 0 ≡ getD xs j 0
       beyond-is j h =
           let f = facts k in
           let low : 0 < z .levels = omega (arith, f .levels, f .limits .sound .levels-low) in

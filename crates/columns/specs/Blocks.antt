@@ -8,17 +8,14 @@ use mathlib.Core.Logic.{_⊎_}
 use Prim.Native.Nat.{ℕ, _+_, _-_, _*_, _≤_, _<_}
 use lib.Dec.{leb, ltb, eqb}
 use lib.ListN.{length, getD}
-use Rattle.spec.specs.Base.{if_then_else_, sum}
+use Rattle.spec.specs.Base.{if_then_else_, sum, when}
 use Rattle.spec.specs.Frame.{Frame, level, guide}
 use Rattle.spec.specs.Window.{span}
 use Rattle.columns.specs.declared.store.Exchange.{Exchange}
 
-abbrev pub when : Bool → ℕ → ℕ
-when b n = if b then n else 0
-
 -- the store's length
-abbrev pub storeSize : Frame → ℕ
-storeSize p = 2 * (p .set .width * p .set .levels) + 2 * p .set .levels
+abbrev pub blocksSize : Frame → ℕ
+blocksSize p = 2 * (p .set .width * p .set .levels) + 2 * p .set .levels
 
 -- ys is xs with D put in, or taken out
 pub record Put (add : Bool) (l : ℕ) (D : ℕ → ℕ → ℕ) (xs ys : List ℕ) : Type 0 where
@@ -38,8 +35,8 @@ pub record Cleared (n : ℕ) (xs ys : List ℕ) : Type 0 where
 
 -- ---- pixels and rows
 -- f at the pixel, where its level is i
-abbrev pub hit : Frame → (ℕ → ℕ → ℕ) → ℕ → ℕ → ℕ → ℕ
-hit p f x y i = if eqb (level p x y) i then f x y else 0
+abbrev pub atLevel : Frame → (ℕ → ℕ → ℕ) → ℕ → ℕ → ℕ → ℕ
+atLevel p f x y i = if eqb (level p x y) i then f x y else 0
 
 -- F in block a
 abbrev pub block : ℕ → (ℕ → ℕ) → ℕ → ℕ → ℕ
@@ -47,7 +44,7 @@ block a F m i = if eqb m a then F i else 0
 
 -- a pixel in the counts of block a and the guide sums of block b
 unfoldable pub pixelD : Frame → ℕ → ℕ → ℕ → ℕ → ℕ → ℕ → ℕ
-pixelD p a b x y m i = block a (hit p (λ u v. 1) x y) m i + block b (hit p (guide p) x y) m i
+pixelD p a b x y m i = block a (atLevel p (λ u v. 1) x y) m i + block b (atLevel p (guide p) x y) m i
 
 -- n pixels of row y from column first on, that of column x in the blocks a + x · apart and b + x · apart
 unfoldable pub stripD : Frame → ℕ → ℕ → ℕ → ℕ → ℕ → ℕ → ℕ → ℕ → ℕ
@@ -92,7 +89,7 @@ pub record Swap (l : ℕ) (D E : ℕ → ℕ → ℕ) (xs ys : List ℕ) : Type 
   pub cells : (m i : ℕ) → i < l → getD ys (m * l + i) 0 + E m i ≡ getD xs (m * l + i) 0 + D m i
 
 -- block a has room for F, and then enough to take G out
-pub record Ready (l a : ℕ) (F G : ℕ → ℕ) (xs : List ℕ) : Type 0 where
+pub record BlockReady (l a : ℕ) (F G : ℕ → ℕ) (xs : List ℕ) : Type 0 where
   pub room : (i : ℕ) → i < l → getD xs (a * l + i) 0 + F i < 4294967296
   pub enough : (i : ℕ) → i < l → G i ≤ getD xs (a * l + i) 0 + F i
 
@@ -113,5 +110,5 @@ pub record InWidth (w : ℕ) (d : Exchange) : Type 0 where
 
 -- the window's two blocks have room for the column that enters, and then enough to lose the one that leaves
 pub record SideReady (w l : ℕ) (d : Exchange) (xs : List ℕ) : Type 0 where
-  pub counts : Ready l (2 * w) (cellOf (d .enters) l (d .entering) xs) (cellOf (d .leaves) l (d .leaving) xs) xs
-  pub guides : Ready l (2 * w + 1) (cellOf (d .enters) l (w + d .entering) xs) (cellOf (d .leaves) l (w + d .leaving) xs) xs
+  pub counts : BlockReady l (2 * w) (cellOf (d .enters) l (d .entering) xs) (cellOf (d .leaves) l (d .leaving) xs) xs
+  pub guides : BlockReady l (2 * w + 1) (cellOf (d .enters) l (w + d .entering) xs) (cellOf (d .leaves) l (w + d .leaving) xs) xs

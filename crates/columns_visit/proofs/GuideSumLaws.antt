@@ -19,7 +19,7 @@ use Rattle.window.proofs.PixelLaws.{guide-low, guides-high}
 use Rattle.window.proofs.FormLaws.{both-in}
 use Rattle.window.proofs.LineLaws.{fold-more, line-none, step-law}
 use Rattle.window.proofs.SumLaws.{sums-small}
-use Rattle.columns_visit.specs.GuideSums.{LineSums, Movable, Moved}
+use Rattle.columns_visit.specs.GuideSums.{LineSums, MovableByLines, MovedByLines}
 
 abbrev sums : ℕ → ℕ → ℕ → Sums
 sums n s q = record { count = n; sum = s; squares = q }
@@ -68,7 +68,7 @@ step-sum pl adj ed h = rw ed (step-law _+_ 0 pl h natSums adj)
 
 module _ {b : List ℕ} {z : Plan} (pl : Planned b z) where
   module _ {s t s′ t′ : ℕ} (adj : Adjacent z s t s′ t′) {a : Sums} (v : SumsAt (frameOf b) s t a) {d : Step} (ed : d ≡ stepOf z s t s′ t′) where
-    pub movable : Movable b d a
+    pub movable : MovableByLines b d a
     unfolding pixelCount guideSum squareSum
     movable =
         let k = both-in adj in
@@ -82,7 +82,7 @@ module _ {b : List ℕ} {z : Plan} (pl : Planned b z) where
           squares-enough = omega (arith, step-sum pl adj ed squared, v .squares);
         }
 
-    pub moved-at : {r : Sums} → Moved b d a r → SumsAt (frameOf b) s′ t′ r
+    pub moved-at : {r : Sums} → MovedByLines b d a r → SumsAt (frameOf b) s′ t′ r
     unfolding pixelCount guideSum squareSum
     moved-at m =
         record {
@@ -91,9 +91,9 @@ module _ {b : List ℕ} {z : Plan} (pl : Planned b z) where
           squares = omega (arith, step-sum pl adj ed squared, v .squares, m .squares);
         }
 
-pub exchanged : {b : List ℕ} {d : Step} {a less more : Sums} → Movable b d a → LineSums b (d .leaving) (d .leaving .count) less →
+pub exchanged : {b : List ℕ} {d : Step} {a less more : Sums} → MovableByLines b d a → LineSums b (d .leaving) (d .leaving .count) less →
     LineSums b (d .entering) (d .entering .count) more
-    → Moved b d a (sums (a .count + more .count - less .count) (a .sum + more .sum - less .sum) (a .squares + more .squares - less .squares))
+    → MovedByLines b d a (sums (a .count + more .count - less .count) (a .sum + more .sum - less .sum) (a .squares + more .squares - less .squares))
 exchanged m l e =
     record {
       count = omega (arith, m .count-enough, l .count, e .count);

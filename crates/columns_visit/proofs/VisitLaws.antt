@@ -5,8 +5,7 @@ use mathlib.Core.List.{List, _++_}
 use Prim.Native.Nat.{ℕ, _+_, _-_, _*_, _≤_, _<_}
 use native.Mathlib.Nat.{add-mul, mul-assoc, mul-le-mul}
 use native.Mathlib.Omega.{arith}
-use lib.ListN.{length, getD, take, drop, length-drop}
-use lib.Seq.{getD-take, getD-drop, length-take-le}
+use lib.ListN.{length, getD, take, drop}
 use Rattle.spec.specs.declared.Plan.{Plan}
 use Rattle.spec.specs.declared.Way.the-variants.{Columns}
 use Rattle.spec.specs.Frame.{Frame, frameOf}
@@ -14,13 +13,14 @@ use Rattle.spec.specs.Checks.{Planned}
 use Rattle.spec.specs.Calls.{roomOf}
 use Rattle.spec.specs.Columns.{columnStore}
 use Rattle.spec.specs.Walk.{arrive}
+use Rattle.spec.proofs.Lists.{part-long, part-cell}
 use Rattle.spec.proofs.Plans.{facts}
 use Rattle.window.specs.declared.sums.Sums.{Sums}
 use Rattle.window.specs.Sums.{SumsAt}
 use Rattle.window.proofs.PixelLaws.{plan-limits, levels-high}
 use Rattle.level_search.specs.declared.search.Found.{Found}
 use Rattle.levels.specs.Answer.{Profiled, Answered}
-use Rattle.columns.specs.Blocks.{storeSize}
+use Rattle.columns.specs.Blocks.{blocksSize}
 use Rattle.columns.proofs.ContentLaws.{holds-cell, holds-self, content-window, content-window-guide}
 use Rattle.columns.proofs.MoveLaws.{held-long}
 use Rattle.visit.specs.declared.Running.{Running}
@@ -52,25 +52,25 @@ lent-blocks z xs P h =
 
 module _ (p : Frame) (s t : ℕ) (xs ys : List ℕ) where
   -- the store's length and the room for it are one number
-  pub made : ys ≡ columnStore p s t ++ drop (storeSize p) xs → ys ≡ storeAt p s t xs
+  pub made : ys ≡ columnStore p s t ++ drop (blocksSize p) xs → ys ≡ storeAt p s t xs
   unfolding roomOf
   made e = e
 
-  pub as-made : ys ≡ storeAt p s t xs → ys ≡ columnStore p s t ++ drop (storeSize p) xs
+  pub as-made : ys ≡ storeAt p s t xs → ys ≡ columnStore p s t ++ drop (blocksSize p) xs
   unfolding roomOf
   as-made e = e
 
-  pub made-self : ys ≡ columnStore p s t ++ drop (storeSize p) xs → ys ≡ storeAt p s t ys
+  pub made-self : ys ≡ columnStore p s t ++ drop (blocksSize p) xs → ys ≡ storeAt p s t ys
   unfolding roomOf
   made-self e = holds-self p s t xs ys e
 
-pub room-long : (p : Frame) {n : ℕ} → roomOf Columns (p .set) .numbers ≤ n → storeSize p ≤ n
+pub room-long : (p : Frame) {n : ℕ} → roomOf Columns (p .set) .numbers ≤ n → blocksSize p ≤ n
 unfolding roomOf
 room-long p h = h
 
 -- ---- what they hold
 module _ {b : List ℕ} {z : Plan} (pl : Planned b z) (s t : ℕ) (xs : List ℕ) (e : xs ≡ storeAt (frameOf b) s t xs) where
-  held : xs ≡ columnStore (frameOf b) s t ++ drop (storeSize (frameOf b)) xs
+  held : xs ≡ columnStore (frameOf b) s t ++ drop (blocksSize (frameOf b)) xs
   held = as-made (frameOf b) s t xs xs e
 
   pub store-places : (z .width ≤ 1024) × (z .levels ≤ 1024) × (2 * (z .width * z .levels) + 2 * z .levels ≤ length xs)
@@ -81,12 +81,6 @@ module _ {b : List ℕ} {z : Plan} (pl : Planned b z) (s t : ℕ) (xs : List ℕ
 
   part-end : at + z .levels + z .levels ≤ length xs
   part-end = places-in (z .width) (z .levels) (store-places .0) (store-places .1) (length xs) (store-places .2)
-
-  part-long : (i n : ℕ) → i + n ≤ length xs → length (take n (drop i xs)) ≡ n
-  part-long i n h = length-take-le n (drop i xs) (rw length-drop (omega arith))
-
-  part-cell : (i n k : ℕ) → k < n → getD (take n (drop i xs)) k 0 ≡ getD xs (i + k) 0
-  part-cell i n k h = getD-take n (drop i xs) k 0 h ∙ getD-drop i xs k 0
 
   abbrev p : Frame
   p = frameOf b
@@ -105,13 +99,13 @@ module _ {b : List ℕ} {z : Plan} (pl : Planned b z) (s t : ℕ) (xs : List ℕ
   window-cells =
       let f = facts pl in
       record {
-        count-long = part-long at (z .levels) (omega (arith, part-end)) ∙ f .levels;
-        sum-long = part-long (at + z .levels) (z .levels) part-end ∙ f .levels;
+        count-long = part-long xs at (z .levels) (omega (arith, part-end)) ∙ f .levels;
+        sum-long = part-long xs (at + z .levels) (z .levels) part-end ∙ f .levels;
         count-cell = λ i h.
-            part-cell at (z .levels) i (rw (f .levels) h) ∙ ap (λ (j : ℕ). getD xs j 0) (first-place i)
+            part-cell xs at (z .levels) i (rw (f .levels) h) ∙ ap (λ (j : ℕ). getD xs j 0) (first-place i)
             ∙ holds-cell (frameOf b) s t xs held (2 * frameOf b .set .width) i (omega arith) h ∙ content-window (frameOf b) s t i;
         sum-cell = λ i h.
-            part-cell (at + z .levels) (z .levels) i (rw (f .levels) h) ∙ ap (λ (j : ℕ). getD xs j 0) (second-place i)
+            part-cell xs (at + z .levels) (z .levels) i (rw (f .levels) h) ∙ ap (λ (j : ℕ). getD xs j 0) (second-place i)
             ∙ holds-cell (frameOf b) s t xs held (2 * frameOf b .set .width + 1) i (omega arith) h ∙ content-window-guide (frameOf b) s t i;
       }
 
@@ -121,7 +115,7 @@ running a f = record { sums = a; below = f .tally; free = record { head = 0; cou
 
 pub visited : (p : Frame) (s t c n : ℕ) (a : Sums) (f : Found) (v : Visit) (xs ys : List ℕ) → v ≡ answered s t (f .level) (f .shifts) (running a f) →
     SumsAt p s t a
-    → Answered p s t c n f → ys ≡ columnStore p s t ++ drop (storeSize p) xs → ColumnsVisited p (arrive p s t c n) xs v ys
+    → Answered p s t c n f → ys ≡ columnStore p s t ++ drop (blocksSize p) xs → ColumnsVisited p (arrive p s t c n) xs v ys
 visited p s t c n a f v xs ys e q h m =
     subst (λ (v : Visit). ColumnsVisited p (arrive p s t c n) xs v ys) (sym e)
     (record {

@@ -19,7 +19,7 @@ pub record LineSums (b : List ℕ) (line : Line) (k : ℕ) (a : Sums) : Type 0 w
   pub squares-high : a .squares ≤ 65025 * k
 
 -- before a step: nothing overflows, and what leaves is there
-pub record Movable (b : List ℕ) (step : Step) (a : Sums) : Type 0 where
+pub record MovableByLines (b : List ℕ) (step : Step) (a : Sums) : Type 0 where
   pub count-high : a .count ≤ 961
   pub sum-high : a .sum ≤ 245055
   pub squares-high : a .squares ≤ 62489025
@@ -28,7 +28,7 @@ pub record Movable (b : List ℕ) (step : Step) (a : Sums) : Type 0 where
   pub squares-enough : lineFold _+_ 0 b (step .leaving) squared ≤ a .squares + lineFold _+_ 0 b (step .entering) squared
 
 -- after it
-pub record Moved (b : List ℕ) (step : Step) (a r : Sums) : Type 0 where
+pub record MovedByLines (b : List ℕ) (step : Step) (a r : Sums) : Type 0 where
   pub count : r .count + lineFold _+_ 0 b (step .leaving) one ≡ a .count + lineFold _+_ 0 b (step .entering) one
   pub sum : r .sum + lineFold _+_ 0 b (step .leaving) itself ≡ a .sum + lineFold _+_ 0 b (step .entering) itself
   pub squares : r .squares + lineFold _+_ 0 b (step .leaving) squared ≡ a .squares + lineFold _+_ 0 b (step .entering) squared

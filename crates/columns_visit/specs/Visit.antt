@@ -26,15 +26,14 @@ windowGuides plan xs = take (plan .levels) (drop (2 * plan .width * plan .levels
 abbrev pub storeAt : Frame → ℕ → ℕ → List ℕ → List ℕ
 storeAt p s t xs = columnStore p s t ++ drop (roomOf Columns (p .set) .numbers) xs
 
--- the store xs is that of the visit's window, and its sums and the tally up to the cut point run along
-pub record ColumnsAt (p : Frame) (v : Visit) (xs : List ℕ) : Type 0 where
-  pub sums : SumsAt p (v .column) (v .row) (v .running .sums)
-  pub below : BelowAt p (v .column) (v .row) (v .cut .0 + 1) (v .running .below)
-  pub store : xs ≡ storeAt p (v .column) (v .row) xs
-
--- the visit is in the state x, and the store xs has become ys, that of its window; nothing beyond the way's numbers has changed
+-- the visit is in the state x, its sums and the tally up to the cut point run along, and the store xs has become ys, that of its window; nothing
+-- beyond the way's numbers has changed
 pub record ColumnsVisited (p : Frame) (x : State) (xs : List ℕ) (v : Visit) (ys : List ℕ) : Type 0 where
   pub state : stateOf v ≡ x
   pub sums : SumsAt p (v .column) (v .row) (v .running .sums)
   pub below : BelowAt p (v .column) (v .row) (v .cut .0 + 1) (v .running .below)
   pub store : ys ≡ storeAt p (v .column) (v .row) xs
+
+-- the store xs is that of the visit's window already
+abbrev pub ColumnsAt : Frame → Visit → List ℕ → Type 0
+ColumnsAt p v xs = ColumnsVisited p (stateOf v) xs v xs

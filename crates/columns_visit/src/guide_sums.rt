@@ -7,7 +7,7 @@ use window::pixel;
 use window::sums::Sums;
 ghost use Rattle.spec.specs.Checks.{Planned};
 ghost use Rattle.window.specs.Line.{InPlanes, StepInPlanes};
-ghost use Rattle.columns_visit.specs.GuideSums.{LineSums, Movable, Moved};
+ghost use Rattle.columns_visit.specs.GuideSums.{LineSums, MovableByLines, MovedByLines};
 
 // Of the pixels of a line.
 pub fn line_sums(file: &[u8], plan: Plan, line: Line) -> Sums
@@ -39,8 +39,8 @@ pub fn line_sums(file: &[u8], plan: Plan, line: Line) -> Sums
 pub fn moved(file: &[u8], plan: Plan, a: Sums, step: Step) -> Sums
     requires { ⌜ Planned (now file) plan ⌝ }
     requires { ⌜ StepInPlanes plan step ⌝ }
-    requires { ⌜ Movable (now file) step a ⌝ }
-    ensures { λ r. ⌜ Moved (now (file .entry)) step a r ⌝ }
+    requires { ⌜ MovableByLines (now file) step a ⌝ }
+    ensures { λ r. ⌜ MovedByLines (now (file .entry)) step a r ⌝ }
 {
     let leaving = step.leaving;
     let entering = step.entering;

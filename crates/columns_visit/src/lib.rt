@@ -35,17 +35,17 @@ ghost use Rattle.columns_visit.specs.Visit.{windowCounts, windowGuides, 
 // The answer by the window's counts and guide sums of each level, the last two blocks of the store.
 pub fn answer_from(
     plan: Plan,
-    numbers: &[u32],
+    blocks: &[u32],
     coefficients: Coefficients,
     monotone: bool,
     below: Tally,
     cut: Level,
     shifts: u64,
 ) -> Found
-    requires { ⌜ (plan .width ≤ 1024) × (plan .levels ≤ 1024) × (2 * (plan .width * plan .levels) + 2 * plan .levels ≤ length (now numbers)) ⌝ }
+    requires { ⌜ (plan .width ≤ 1024) × (plan .levels ≤ 1024) × (2 * (plan .width * plan .levels) + 2 * plan .levels ≤ length (now blocks)) ⌝ }
     requires { ⌜ Answerable coefficients (plan .guides) monotone (cut .0) shifts below
-        (windowCounts plan (now numbers)) (windowGuides plan (now numbers)) ⌝ }
-    ensures { λ f. ⌜ (FoundAt coefficients (windowCounts plan (now (numbers .entry))) (windowGuides plan (now (numbers .entry))) f)
+        (windowCounts plan (now blocks)) (windowGuides plan (now blocks)) ⌝ }
+    ensures { λ f. ⌜ (FoundAt coefficients (windowCounts plan (now (blocks .entry))) (windowGuides plan (now (blocks .entry))) f)
         × (f .shifts ≡ shifts + (if monotone then distance (f .level .0) (cut .0) else f .level .0)) ⌝ }
 {
     let l = plan.levels;
@@ -53,8 +53,8 @@ pub fn answer_from(
     let middle = at + l;
     let last = middle + l;
     answer::answer(
-        &numbers[at..middle],
-        &numbers[middle..last],
+        &blocks[at..middle],
+        &blocks[middle..last],
         coefficients,
         plan.guides,
         monotone,
@@ -93,18 +93,18 @@ pub fn carried(
 }
 
 // A walk comes to its first window, whatever the store held. From cut point 0 a monotone window is searched like any other.
-pub fn enter(file: &[u8], plan: Plan, column: usize, row: usize, numbers: &mut [u32]) -> Visit
+pub fn enter(file: &[u8], plan: Plan, column: usize, row: usize, blocks: &mut [u32]) -> Visit
     requires { ⌜ (Planned (now file) plan) × (plan .kind ≡ 2) ⌝ }
     requires { ⌜ (column < plan .width) × (row < plan .height) ⌝ }
-    requires { ⌜ roomOf Columns (frameOf (now file) .set) .numbers ≤ length (now numbers) ⌝ }
-    ensures { λ r. ⌜ ColumnsVisited (frameOf (now (file .entry))) (arrive (frameOf (now (file .entry))) column row 0 0) (now (numbers .entry)) r
-        (now (numbers .exit)) ⌝ }
+    requires { ⌜ roomOf Columns (frameOf (now file) .set) .numbers ≤ length (now blocks) ⌝ }
+    ensures { λ r. ⌜ ColumnsVisited (frameOf (now (file .entry))) (arrive (frameOf (now (file .entry))) column row 0 0) (now (blocks .entry)) r
+        (now (blocks .exit)) ⌝ }
 {
-    store::start(file, plan, numbers, column, row);
+    store::start(file, plan, blocks, column, row);
     let sums = sums::start(file, plan, column, row);
     let coefficients = coefficients::of_window(file, plan, sums, column, row);
     let none = Tally { count: 0, sum: 0 };
-    let found = answer_from(plan, numbers, coefficients, false, none, Level(0), 0);
+    let found = answer_from(plan, blocks, coefficients, false, none, Level(0), 0);
     let level = found.level;
     let below = found.tally;
     let free = FreeList { head: 0, count: 0 };
@@ -119,26 +119,26 @@ pub fn slide(
     from: Visit,
     column: usize,
     row: usize,
-    numbers: &mut [u32],
+    blocks: &mut [u32],
 ) -> Visit
     requires { ⌜ (Planned (now file) plan) × (plan .kind ≡ 2) ⌝ }
     requires { ⌜ (Within plan from) × (Adjacent plan (from .column) (from .row) column row) ⌝ }
-    requires { ⌜ ColumnsAt (frameOf (now file)) from (now numbers) ⌝ }
+    requires { ⌜ ColumnsAt (frameOf (now file)) from (now blocks) ⌝ }
     ensures { λ r. ⌜ ColumnsVisited (frameOf (now (file .entry))) (arrive (frameOf (now (file .entry))) column row (from .cut .0) (from .shifts))
-        (now (numbers .entry)) r (now (numbers .exit)) ⌝ }
+        (now (blocks .entry)) r (now (blocks .exit)) ⌝ }
 {
     let step = line::step_to(plan, from.column, from.row, column, row);
     let known = from.running;
     let former = known.sums;
     let sums = guide_sums::moved(file, plan, former, step);
-    store::slide(file, plan, numbers, from.column, from.row, column, row);
+    store::slide(file, plan, blocks, from.column, from.row, column, row);
     let coefficients = coefficients::of_window(file, plan, sums, column, row);
     let monotone = coefficients::monotone(plan, coefficients);
     let tally = carried(file, plan, monotone, from, column, row);
     let cut = from.cut;
     let found = answer_from(
         plan,
-        numbers,
+        blocks,
         coefficients,
         monotone,
         tally,

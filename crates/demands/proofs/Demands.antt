@@ -31,7 +31,7 @@ use Rattle.spec.proofs.Limits.{FrameLimits, Pixel, limits-of, in-plane}
 use Rattle.spec.proofs.Calls.{WalkAccepted, walk-accepted, FilterAccepted, filter-accepted}
 use Rattle.spec.proofs.Totals.{weightless-total, total-weightless, median-at, median-before, balance-le, balance-lt, answer-low}
 use Rattle.spec.proofs.Minimum.{minimum, answer-median, answer-weightless}
-use Rattle.spec.proofs.Walks.{Held, Marks, marks, walk-first, walk-next, walk-held, walk-length, walk-shifts, step-level, Fine, move-fine}
+use Rattle.spec.proofs.Walks.{StateBounded, Marks, marks, walk-first, walk-next, walk-bounded, walk-length, walk-shifts, step-level, Fine, move-fine}
 use Rattle.spec.proofs.First.{length-tabulate}
 use Rattle.spec.proofs.Serpentine.{filtered-at}
 use Rattle.ice_walk.specs.declared.Walked.{Walked}
@@ -53,7 +53,7 @@ use Rattle.demands.specs.Demands.{
   EveryPixel,
   Demand2,
   Minimises,
-  Answered,
+  ByteAnswered,
   Agreed,
   AllWaysAgree,
   FilterMinimises,
@@ -221,7 +221,7 @@ least-answer k = record { least = λ light some i. minimum k light some i .0; lo
 both-answer : {p : Frame} {s t : ℕ} → Pixel p s t → LowestLevel p s t (answer p s t) × Minimises p s t (answer p s t)
 both-answer k = (lowest-answer k, least-answer k)
 
-answered : {p : Frame} {x : State} {n : ℕ} → Held p x n → (byte : ℕ) → Answered p x byte (step p x byte .answer)
+answered : {p : Frame} {x : State} {n : ℕ} → StateBounded p x n → (byte : ℕ) → ByteAnswered p x byte (step p x byte .answer)
 answered {p} {x} {n} k byte =
     record {
       moved = λ s t e. subst (λ (m : ℕ). LowestLevel p s t m × Minimises p s t m) (sym (step-level p x byte s t e)) (both-answer (pixel-to s t e));
@@ -249,9 +249,9 @@ all-ways-agree b s t moves way way′ a z a′ z′ before after before′ after
       shifts = count ∙ sym (shifts-are b s t moves way′ a′ z′ before′ after′ r′ h′ ok′);
       answers = answers-are b s t moves way a z before after r h ok ∙ sym (answers-are b s t moves way′ a′ z′ before′ after′ r′ h′ ok′);
       first = subst (λ (m : ℕ). LowestLevel p s t m × Minimises p s t m) (sym (one 0 (omega arith) ∙ walk-first p s t moves)) (both-answer w);
-      next = λ j l. subst (Answered p (walkEnd p s t (take j moves)) (getD moves j 0))
+      next = λ j l. subst (ByteAnswered p (walkEnd p s t (take j moves)) (getD moves j 0))
           (sym (ap (λ (q : ℕ). getD after q 0) (add-one j) ∙ one (suc j) l ∙ walk-next p s t moves j l))
-          (answered (walk-held w (take j moves)) (getD moves j 0));
+          (answered (walk-bounded w (take j moves)) (getD moves j 0));
       distances = count ∙ walk-shifts p s t moves;
     }
 

@@ -1,5 +1,5 @@
 -- The three demands, as statements about the promises of the calls. A reader starts here; proofs/Demands.antt proves each.
--- b are a file's bytes, a and z the stores before and after a call, before and after its answers or output, r its result.
+-- b are a file's bytes, before and after the stores around a call, old and new its answers or output, r its result.
 -- Assumes nothing.
 use Prim.Native.Nat.{ℕ, _+_, _*_, _<_}
 use mathlib.Core.Path.{_≡_}
@@ -14,14 +14,12 @@ use Rattle.spec.specs.declared.Move.the-variants.{To, Nowhere}
 use Rattle.spec.specs.declared.Verdict.the-variants.{Accepted}
 use Rattle.spec.specs.Base.{sum}
 use Rattle.spec.specs.Refusal.{accepted, refused, numbered}
-use Rattle.spec.specs.Frame.{Frame, level, guide, pixels, frameOf}
-use Rattle.spec.specs.Weight.{weight}
-use Rattle.spec.specs.Median.{totalWeight, cumulative, balance, differences}
+use Rattle.spec.specs.Frame.{Frame, level, pixels, frameOf}
+use Rattle.spec.specs.Median.{totalWeight, cumulative, balance, differences, NoneNegative, NotAllZero}
 use Rattle.spec.specs.Walk.{State, move, start, walkEnd, walkAnswers, adds, addedAt}
 use Rattle.spec.specs.Filter.{filtered, filterEnd}
 use Rattle.spec.specs.Calls.{wayOf, walkOutcome, filterOutcome, balanceOutcome}
 use Rattle.spec.specs.Writer.{written, writtenSize, writerOutcome}
-use Rattle.spec.specs.Window.{InWindow}
 use Rattle.ice_walk.specs.declared.Walked.{Walked}
 use Rattle.ice.specs.declared.Balanced.{Balanced}
 use Rattle.frame_write.specs.declared.Written.{Written}
@@ -106,21 +104,15 @@ pub record Demand2 : Type 0 where
 
 -- ---- demand 3
 
--- the condition on the window at (s, t): no weight of its pixels is negative, and not all are 0
-abbrev pub NoneNegative : Frame → ℕ → ℕ → Type 0
-NoneNegative p s t = (x y : ℕ) → InWindow p s t x y → pos 0 ≤ℤ weight p s t (guide p x y)
-
-abbrev pub NotAllZero : Frame → ℕ → ℕ → Type 0
-NotAllZero p s t = ((x y : ℕ) → InWindow p s t x y → weight p s t (guide p x y) ≡ pos 0) → ⊥
-
--- no level has a smaller weighted sum of absolute differences than m, and every lower one has a larger
+-- where no weight of the window is negative and not all are 0: no level has a smaller weighted sum of absolute differences than m, and every
+-- lower one has a larger
 pub record Minimises (p : Frame) (s t m : ℕ) : Type 0 where
   pub least : NoneNegative p s t → NotAllZero p s t → (i : ℕ) → differences p s t m ≤ℤ differences p s t i
   pub lower : NoneNegative p s t → NotAllZero p s t → (i : ℕ) → i < m → differences p s t m <ℤ differences p s t i
 
 -- the answer to a byte, in the state before it: demand 2's level at the pixel that it leads to, which minimises there; or the mark of a byte that
 -- moves nothing. 65,534 exactly for a move that would leave the picture, 65,533 exactly for another byte, a level exactly for a move that is made
-pub record Answered (p : Frame) (x : State) (byte m : ℕ) : Type 0 where
+pub record ByteAnswered (p : Frame) (x : State) (byte m : ℕ) : Type 0 where
   pub moved : (s t : ℕ) → move (p .set) (x .column) (x .row) byte ≡ To s t → LowestLevel p s t m × Minimises p s t m
   pub off : (m ≡ 65534) ↔ (move (p .set) (x .column) (x .row) byte ≡ Nowhere 65534)
   pub unknown : (m ≡ 65533) ↔ (3 < byte)
@@ -132,7 +124,7 @@ pub record Agreed (p : Frame) (s t : ℕ) (moves new new′ : List ℕ) (r r′ 
   pub shifts : r .shifts ≡ r′ .shifts
   pub answers : take (length moves + 1) new ≡ take (length moves + 1) new′
   pub first : LowestLevel p s t (getD new 0 0) × Minimises p s t (getD new 0 0)
-  pub next : (j : ℕ) → j < length moves → Answered p (walkEnd p s t (take j moves)) (getD moves j 0) (getD new (j + 1) 0)
+  pub next : (j : ℕ) → j < length moves → ByteAnswered p (walkEnd p s t (take j moves)) (getD moves j 0) (getD new (j + 1) 0)
   pub distances : r .shifts ≡ adds p s t 0 + sum (addedAt p (start p s t) moves) 0 (length moves)
 
 abbrev pub AllWaysAgree : Type 0

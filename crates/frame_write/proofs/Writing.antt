@@ -18,7 +18,7 @@ use Rattle.spec.specs.Writer.{fieldBytes, distanceBytes, written, writtenSize, 
 use Rattle.spec.proofs.Checks.{not-refused, both-accepted, not-fired, neither, both}
 use Rattle.spec.proofs.Limits.{settings-limits}
 use Rattle.spec.proofs.Outcomes.{past}
-use Rattle.frame_write.specs.Write.{reportOf, Fit}
+use Rattle.frame_write.specs.Write.{reportOf, WritingFits}
 use Rattle.frame_bytes.proofs.Stores.{joined, length-all16}
 
 -- ---- the checks, one after the other
@@ -62,7 +62,7 @@ module _ (k : Settings) (v g a : List ℕ) (room : ℕ) where
   past5 s l x y z e = past4 s l x y (past of-table of-room z e)
 
 -- ---- what an accepted writing has passed, check by check
-pub record Passed (k : Settings) (v g a : List ℕ) (room : ℕ) : Type 0 where
+pub record WritingPassed (k : Settings) (v g a : List ℕ) (room : ℕ) : Type 0 where
   pub settings : settingsOutcome k ≡ accepted
   pub lengths : badLength k (length v) (length g) (length a) ≡ false
   pub values : scanList v (k .levels) 0 ≡ accepted
@@ -70,7 +70,7 @@ pub record Passed (k : Settings) (v g a : List ℕ) (room : ℕ) : Type 0 where
   pub table : scanList a (heaviest + 1) (4 * pixels k) ≡ accepted
   pub space : ltb room (writtenSize k (length a)) ≡ false
 
-pub passes : (k : Settings) (v g a : List ℕ) (room : ℕ) → writerOutcome k v g a room ≡ accepted → Passed k v g a room
+pub passes : (k : Settings) (v g a : List ℕ) (room : ℕ) → writerOutcome k v g a room ≡ accepted → WritingPassed k v g a room
 unfolding writerOutcome
 passes k v g a room e =
     let l = of-length k v g a room in
@@ -120,7 +120,7 @@ table-few : (k : Settings) (a : ℕ) (x : Bool) → eqb a 0 ≡ x → k .guides 
 table-few k a true e h s = let z : a ≡ 0 = eqb-true _ _ e in omega arith
 table-few k a false e h s = rw (s refl .1) (mul-le-mul {n₂ = 256} h h)
 
-pub fit : (k : Settings) (v g a : List ℕ) (room : ℕ) → writerOutcome k v g a room ≡ accepted → Fit k v g a room
+pub fit : (k : Settings) (v g a : List ℕ) (room : ℕ) → writerOutcome k v g a room ≡ accepted → WritingFits k v g a room
 fit k v g a room e =
     let p = passes k v g a room e in
     let ok = settings-limits k (p .settings) in
@@ -171,7 +171,7 @@ unfolding written writtenSize
 written-long k v g a hv hg =
     simp length-append (omega (arith, length-all16 v, length-all16 g, length-all16 a, fields-long k, distances-long (length a) (pixels k)))
 
-pub file-placed : (k : Settings) (v g a old : List ℕ) {out : List ℕ} → Fit k v g a (length old) → out ≡ sets old 0 (written k v g a)
+pub file-placed : (k : Settings) (v g a old : List ℕ) {out : List ℕ} → WritingFits k v g a (length old) → out ≡ sets old 0 (written k v g a)
     → out ≡ written k v g a ++ drop (length (written k v g a)) old
 file-placed k v g a old h e =
     let n : 0 + length (written k v g a) ≤ length old = omega (arith, written-long k v g a (h .values) (h .guides), h .space) in

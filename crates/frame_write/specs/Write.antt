@@ -38,7 +38,7 @@ pub record Writes (settings : Settings) (v g a old : List ℕ) (r : Written) (ne
   pub output : new ≡ stored (writerOutcome settings v g a (length old)) (written settings v g a) old
 
 -- what an accepted writing has: planes and a table of the right length, and room
-pub record Fit (settings : Settings) (v g a : List ℕ) (room : ℕ) : Type 0 where
+pub record WritingFits (settings : Settings) (v g a : List ℕ) (room : ℕ) : Type 0 where
   pub few : pixels settings ≤ 262144
   pub values : length v ≡ pixels settings
   pub guides : length g ≡ pixels settings

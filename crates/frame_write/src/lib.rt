@@ -16,7 +16,7 @@ ghost use lib.ListN.{length};
 ghost use lib.Seq.{sets};
 ghost use Rattle.spec.specs.Refusal.{numbered};
 ghost use Rattle.spec.specs.Writer.{written, badLength, scanList, writerOutcome};
-ghost use Rattle.frame_write.specs.Write.{reported, reportOf, Fit, Writes};
+ghost use Rattle.frame_write.specs.Write.{reported, reportOf, WritingFits, Writes};
 
 // The file's length, or why nothing was written.
 pub enum Written {
@@ -108,7 +108,7 @@ fn answer(v: Verdict, n: usize) -> Written
 
 // The whole file.
 fn put_file(out: &mut [u8], settings: Settings, values: &[u16], guides: &[u16], table: &[u16])
-    requires { ⌜ Fit settings (now values) (now guides) (now table) (length (now out)) ⌝ }
+    requires { ⌜ WritingFits settings (now values) (now guides) (now table) (length (now out)) ⌝ }
     ensures { λ _. ⌜ now (out .exit)
         ≡ sets (now (out .entry)) 0 (written settings (now (values .entry)) (now (guides .entry)) (now (table .entry))) ⌝ }
 {

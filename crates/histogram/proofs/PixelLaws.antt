@@ -15,11 +15,11 @@ use Rattle.window.specs.declared.line.Step.{Step}
 use Rattle.window.specs.Line.{columnLine, Adjacent, stepOf}
 use Rattle.window.proofs.PixelLaws.{guides-high, levels-high}
 use Rattle.pixels.specs.Pixels.{countOf, levelIn, guideIn, pixelFold, PixelsBelow, LinePixels}
-use Rattle.pixels.specs.Additive.{changed, Fits, PassedTo, Exchanged, Exchangeable}
+use Rattle.pixels.specs.Additive.{changed, Fits, PassedTo, Exchanged, SharesExchangeable}
 use Rattle.pixels.proofs.AdditiveLaws.{columns-none, columns-more, columns-window, high, naturals, passed-next, room-next, leaving-there, slid}
 use Rattle.window.proofs.FormLaws.{both-in}
-use Rattle.histogram.specs.Histogram.{share, Changed, Blank, Filled, Histogram}
-use Rattle.histogram.specs.Places.{Place, shareAt, numberAt, RoomFor}
+use Rattle.histogram.specs.Histogram.{share, Changed, Blank, HistogramFilled, Histogram}
+use Rattle.histogram.specs.Places.{HistogramPlace, shareAt, numberAt, RoomFor}
 use Rattle.histogram.proofs.Laws.{own-count, own-sum, share-le, place-of, histogram-of, held-high, levels-same}
 
 module _ {w : Bool} {l : ℕ} {p xs : List ℕ} (v : PixelsBelow l 256 p) (rm : RoomFor w l p xs) {k : ℕ} (h : k < countOf p) (ys : List ℕ)
@@ -30,7 +30,7 @@ module _ {w : Bool} {l : ℕ} {p xs : List ℕ} (v : PixelsBelow l 256 p) (rm : 
   abbrev f : ℕ
   f = guideIn p k
 
-  takes : (q : Place l) (n : ℕ) → shareAt l q i f ≡ n → Fits 4294967296 w (numberAt l ys q) n
+  takes : (q : HistogramPlace l) (n : ℕ) → shareAt l q i f ≡ n → Fits 4294967296 w (numberAt l ys q) n
   takes q n e = subst (Fits 4294967296 w (numberAt l ys q)) e (room-next (shareAt l) g 4294967296 h q (rm .fits q))
 
   pub turn-asks : (i < l) × (Fits 4294967296 w (getD ys i 0) 1) × (Fits 4294967296 w (getD ys (l + i) 0) f)
@@ -46,7 +46,7 @@ module _ {w : Bool} {l : ℕ} {p xs : List ℕ} (v : PixelsBelow l 256 p) (rm : 
 
 -- ---- a list adds little
 module _ {l : ℕ} {p : List ℕ} (v : PixelsBelow l 256 p) where
-  pub list-high : (q : Place l) → pixelFold _+_ 0 p (shareAt l q) ≤ 7936
+  pub list-high : (q : HistogramPlace l) → pixelFold _+_ 0 p (shareAt l q) ≤ 7936
   list-high q =
       omega (
         arith,
@@ -61,14 +61,15 @@ below pl u = record { few = u .few; level = u .level; guide = λ k h. omega (ari
 
 -- ---- column by column
 module _ {b : List ℕ} {z : Plan} (pl : Planned b z) where
-  pub filled-start : (x t : ℕ) {xs : List ℕ} → Blank (z .levels) xs → Filled b z x t 0 xs
+  pub filled-start : (x t : ℕ) {xs : List ℕ} → Blank (z .levels) xs → HistogramFilled b z x t 0 xs
   filled-start x t o = record {
     long = o .long;
     low = λ q l. omega (arith, o .zeros q l);
     cells = λ q l. o .zeros q l ∙ sym (columns-none _+_ 0 b z x t (share (z .levels) q));
   }
 
-  module _ {x t n : ℕ} {xs : List ℕ} (v : Filled b z x t n xs) {d : Line} (ed : d ≡ columnLine z (x + n) t) {p : List ℕ} (r : LinePixels b z d p)
+  module _ {x t n : ℕ} {xs : List ℕ} (v : HistogramFilled b z x t n xs) {d : Line} (ed : d ≡ columnLine z (x + n) t)
+      {p : List ℕ} (r : LinePixels b z d p)
     where
       pub fill-asks : n < 31 →
           ((z .levels ≤ 1024) × (z .levels + z .levels ≤ length xs) × PixelsBelow (z .levels) 256 p) × RoomFor true (z .levels) p xs
@@ -79,16 +80,18 @@ module _ {b : List ℕ} {z : Plan} (pl : Planned b z) where
 
       pub filled-next : {ys : List ℕ} → length ys ≡ length xs →
           PassedTo _+_ 0 (shareAt (z .levels)) changed true p (countOf p) (numberAt (z .levels) xs) (numberAt (z .levels) ys) →
-          Filled b z x t (n + 1) ys
+          HistogramFilled b z x t (n + 1) ys
       unfolding changed
       filled-next e g = record {
         long = rw e (v .long);
-        low = λ q l. let a : Place (z .levels) = record { at = q; low = l } in omega (arith, g .cells a, v .low q l, list-high (below pl (r .below)) a);
+        low = λ q l.
+            let a : HistogramPlace (z .levels) = record { at = q; low = l } in
+            omega (arith, g .cells a, v .low q l, list-high (below pl (r .below)) a);
         cells = λ q l. let h =
             share (z .levels) q in omega (arith, g .cells (record { at = q; low = l }), v .cells q l, columns-more _+_ 0 b z x t h n p ed (r .sum h));
       }
 
-  pub filled-end : {s t n x : ℕ} {xs : List ℕ} → x ≡ s - z .radius → n ≡ span (z .radius) s (z .width) → Filled b z x t n xs →
+  pub filled-end : {s t n x : ℕ} {xs : List ℕ} → x ≡ s - z .radius → n ≡ span (z .radius) s (z .width) → HistogramFilled b z x t n xs →
       Histogram (frameOf b) s t xs
   filled-end {s} {t} {x = x} ex en v = histogram-of pl (v .long) (λ q l. v .cells q l ∙ columns-window _+_ 0 b z x t (share (z .levels) q) pl s ex en)
 
@@ -101,7 +104,7 @@ module _ {b : List ℕ} {z : Plan} (pl : Planned b z) {s t s′ t′ : ℕ} (adj
   long : L + L ≤ length xs
   long = rw (levels-same pl) (v .long)
 
-  pub exchange-asks : ((L ≤ 1024) × (L + L ≤ length xs) × PixelsBelow L 256 e × PixelsBelow L 256 l) × Exchangeable (shareAt L) 4294967296 e l
+  pub exchange-asks : ((L ≤ 1024) × (L + L ≤ length xs) × PixelsBelow L 256 e × PixelsBelow L 256 l) × SharesExchangeable (shareAt L) 4294967296 e l
       (numberAt L xs)
   exchange-asks = (
     (levels-high pl, long, below pl (re .below), below pl (rl .below)),

@@ -20,7 +20,7 @@ use Rattle.spec.specs.Filter.{filtered, filterEnd}
 use Rattle.spec.specs.Median.{balance}
 use Rattle.spec.specs.Calls.{wayOf, roomOf, countsOf, wordsOf, walkOutcome, filterOutcome, balanceOutcome}
 use Rattle.spec.proofs.Plans.{facts}
-use Rattle.spec.proofs.Calls.{way-serves, Fits, walk-accepted, filter-accepted, balance-accepted}
+use Rattle.spec.proofs.Calls.{way-serves, RoomFits, walk-accepted, filter-accepted, balance-accepted}
 use Rattle.frame.specs.declared.plan.Opened.{Opened}
 use Rattle.frame.specs.Plan.{openedPlan}
 use Rattle.ice_walk.specs.declared.Walked.{Walked}
@@ -51,7 +51,8 @@ own-decides {b} {z} k own =
 
 -- ---- refused
 untouched : {v : Verdict} {r : Walked} (a : Stores) (out : List ℕ) → Zeroed v r → Untouched a a out out r
-untouched a out h = record { shifts = h .shifts; cut = h .cut; cells = h .cells; counts = refl; words = refl; numbers = refl; answers = refl }
+untouched a out h =
+    record { shifts = h .shifts; cut = h .cut; balance-box = h .balance-box; counts = refl; words = refl; numbers = refl; answers = refl }
 
 module _ (v : Verdict) (r : Walked) (h : Zeroed v r) (f : fires (numbered v) ≡ true) (a : Stores) (out : List ℕ) where
   pub walks-refused : (b : List ℕ) (way s t : ℕ) (ms : List ℕ) → numbered v ≡ walkOutcome b way s t (length ms) (lent a) (length out) →
@@ -73,7 +74,7 @@ ended {way} {p} {x} {a} {z} due after h e =
     record {
       shifts = h .shifts;
       cut = h .cut;
-      cells = h .holds .cells;
+      balance-box = h .holds .balance-box;
       counts =
           whole (roomOf way (p .set) .counts) (countsOf way p (x .column) (x .row)) (z .counts) (a .counts) (h .holds .counts)
           (h .kept .counts .beyond);
@@ -117,11 +118,12 @@ module _ {b : List ℕ} {z : Plan} (k : Planned b z) (way : ℕ) (y : Way) (ey :
   serves-by (inl e) = inl (ey ∙ e)
   serves-by (inr e) = inr (facts k .kind ∙ ap (λ (s : Settings). s .kind) (set-of b) ∙ e)
 
-  fits-by : (a : Stores) → Fits (roomOf (wayOf way) (settingsOf b)) (lent a) → Fit y (settingsIn z) a
+  fits-by : (a : Stores) → RoomFits (roomOf (wayOf way) (settingsOf b)) (lent a) → Fit y (settingsIn z) a
   fits-by a f =
       let e : settingsOf b ≡ settingsIn z = sym (settings-same k ∙ set-of b) in
-      let g : Fits (roomOf y (settingsIn z)) (lent a) =
-      subst (λ (q : Way). Fits (roomOf q (settingsIn z)) (lent a)) (sym ey) (subst (λ (s : Settings). Fits (roomOf (wayOf way) s) (lent a)) e f)
+      let g : RoomFits (roomOf y (settingsIn z)) (lent a) =
+      subst (λ (q : Way). RoomFits (roomOf q (settingsIn z)) (lent a)) (sym ey)
+      (subst (λ (s : Settings). RoomFits (roomOf (wayOf way) s) (lent a)) e f)
       in
       record { counts = g .counts; words = g .words; numbers = g .numbers }
 

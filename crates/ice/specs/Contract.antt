@@ -22,7 +22,7 @@ use Rattle.ways.specs.Visit.{Stores, lent}
 pub record Untouched (before after : Stores) (old new : List ℕ) (r : Walked) : Type 0 where
   pub shifts : r .shifts ≡ 0
   pub cut : r .cut .0 ≡ 0
-  pub cells : r .cells ≡ zeros
+  pub balance-box : r .«balance_box» ≡ zeros
   pub counts : after .counts ≡ before .counts
   pub words : after .words ≡ before .words
   pub numbers : after .numbers ≡ before .numbers
@@ -33,7 +33,7 @@ pub record Untouched (before after : Stores) (old new : List ℕ) (r : Walked) :
 pub record Ended (way : Way) (p : Frame) (x : State) (before after : Stores) (due new : List ℕ) (r : Walked) : Type 0 where
   pub shifts : r .shifts ≡ x .shifts
   pub cut : r .cut .0 ≡ x .cut
-  pub cells : r .cells ≡ boxOf way p (x .column) (x .row) (x .cut)
+  pub balance-box : r .«balance_box» ≡ boxOf way p (x .column) (x .row) (x .cut)
   pub counts : after .counts ≡ countsOf way p (x .column) (x .row) ++ drop (roomOf way (p .set) .counts) (before .counts)
   pub words : after .words ≡ wordsOf way p (x .column) (x .row) ++ drop (roomOf way (p .set) .words) (before .words)
   pub numbers : NumbersOf way p (x .column) (x .row) (after .numbers)

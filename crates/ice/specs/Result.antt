@@ -10,4 +10,4 @@ pub record Zeroed (v : Verdict) (r : Walked) : Type 0 where
   pub verdict : r .verdict ≡ v
   pub shifts : r .shifts ≡ 0
   pub cut : r .cut .0 ≡ 0
-  pub cells : r .cells ≡ zeros
+  pub balance-box : r .«balance_box» ≡ zeros

@@ -18,12 +18,12 @@ ghost use Rattle.ice.specs.Contract.{Walks, Filters, Balances};
 fn refused(verdict: Verdict) -> Walked
     ensures { λ r. ⌜ Zeroed verdict r ⌝ }
 {
-    let cells = [0i16; 256];
+    let balance_box = [0i16; 256];
     Walked {
         verdict,
         shifts: 0,
         cut: Level(0),
-        cells,
+        balance_box,
     }
 }
 

@@ -23,7 +23,7 @@ use Rattle.spec.proofs.First.{length-tabulate, getD-tabulate}
 use Rattle.spec.specs.Checks.{Planned, SettingsLimits}
 use Rattle.spec.proofs.Limits.{FrameLimits}
 use Rattle.spec.proofs.Plans.{Facts, facts}
-use Rattle.spec.proofs.Walks.{Held}
+use Rattle.spec.proofs.Walks.{StateBounded}
 use Rattle.spec.proofs.Serpentine.{
   At,
   at-arrive,
@@ -128,7 +128,7 @@ module _ (way : Way) (b : List ℕ) (g : FrameLimits (frameOf b)) where
 
   pub sweep-start : (z : Stores) (O hs : List ℕ) (d : List ℤ) (v : Visit) → pixels (p .set) ≤ length O → stateOf v ≡ start p 0 0 →
       AtWindow way b z hs d v
-      → Held p (stateOf v) 1 → (m : ℕ) → m ≡ answerNumber (v .answer) → Sweeping way b (stateOf v) z (set O 0 m) z (set O 0 m) hs d v 0
+      → StateBounded p (stateOf v) 1 → (m : ℕ) → m ≡ answerNumber (v .answer) → Sweeping way b (stateOf v) z (set O 0 m) z (set O 0 m) hs d v 0
   sweep-start z O hs d v long e h on m em =
       let k : At p (stateOf v) (columnAfter (p .set .width) 0) (0 / p .set .width) =
       subst (λ (q : State). At p q (columnAfter (p .set .width) 0) (0 / p .set .width)) (sym e) (serpentine-begins g) in

@@ -21,7 +21,7 @@ use Rattle.spec.specs.Checks.{Planned, SettingsLimits}
 use Rattle.spec.specs.Walk.{State, arrive, toIf, move, step, after, answers}
 use Rattle.spec.proofs.Plans.{facts}
 use Rattle.spec.proofs.Steps.{after-one}
-use Rattle.spec.proofs.Walks.{Held, held-step, step-to, step-nowhere}
+use Rattle.spec.proofs.Walks.{StateBounded, bounded-step, step-to, step-nowhere}
 use Rattle.histogram.specs.Histogram.{Blank}
 use Rattle.window.specs.Line.{Adjacent, right, left, down, up}
 use Rattle.visit.specs.declared.Visit.{Visit}
@@ -104,7 +104,7 @@ module _ (way : Way) {b : List ℕ} {z : Plan} (k : Planned b z) (x : Visit) (by
       record { state = q ∙ sym (step-nowhere (frameOf b) (stateOf x) byte mark m); here = h; kept = kept-same way (frameOf b .set) s }
 
 -- ---- a walk's state is within the plan
-pub within-of : {b : List ℕ} {z : Plan} → Planned b z → (v : Visit) (n : ℕ) → Held (frameOf b) (stateOf v) n → n ≤ 1048577 → Within z v
+pub within-of : {b : List ℕ} {z : Plan} → Planned b z → (v : Visit) (n : ℕ) → StateBounded (frameOf b) (stateOf v) n → n ≤ 1048577 → Within z v
 within-of {b} {z} k v n h l =
     let f = facts k in
     record {
@@ -135,10 +135,10 @@ told-more front A A₀ i a n l e =
 pub record Going (way : Way) (b : List ℕ) (ms : List ℕ) (x : State) (a z : Stores) (hs : List ℕ) (d : List ℤ) (v : Visit) (i : ℕ) : Type 0 where
   pub most : i ≤ length ms
   pub visited : Visited way b (after (frameOf b) x (take i ms)) a z hs d v
-  pub held : Held (frameOf b) (stateOf v) (1 + i)
+  pub held : StateBounded (frameOf b) (stateOf v) (1 + i)
 
 module _ (way : Way) (b ms : List ℕ) where
-  pub going-start : (z : Stores) (hs : List ℕ) (d : List ℤ) (v : Visit) → AtWindow way b z hs d v → Held (frameOf b) (stateOf v) 1 →
+  pub going-start : (z : Stores) (hs : List ℕ) (d : List ℤ) (v : Visit) → AtWindow way b z hs d v → StateBounded (frameOf b) (stateOf v) 1 →
       Going way b ms (stateOf v) z z hs d v 0
   unfolding after
   going-start z hs d v h on =
@@ -157,7 +157,8 @@ module _ (way : Way) (b ms : List ℕ) where
       record {
         most = omega arith;
         visited = rw e (record { state = h .state; here = h .here; kept = kept-trans way _ a z z′ (w .visited .kept) (h .kept) });
-        held = subst (λ (n : ℕ). Held p (stateOf v′) n) j (subst (λ (q : State). Held p q (suc (1 + i))) (sym (h .state)) (held-step (w .held) byte));
+        held = subst (λ (n : ℕ). StateBounded p (stateOf v′) n) j
+            (subst (λ (q : State). StateBounded p q (suc (1 + i))) (sym (h .state)) (bounded-step (w .held) byte));
       }
 
   pub going-end : (x y : State) (a₀ a z : Stores) (hs : List ℕ) (d : List ℤ) (v : Visit) (i : ℕ) → Going way b ms y a z hs d v i → length ms ≤ i →

@@ -13,5 +13,5 @@ pub record Finished (way : Way) (p : Frame) (x : State) (before after : Stores) 
   pub verdict : r .verdict ≡ Accepted
   pub shifts : r .shifts ≡ x .shifts
   pub cut : r .cut .0 ≡ x .cut
-  pub holds : Holds way p (x .column) (x .row) (x .cut) after (r .cells)
+  pub holds : Holds way p (x .column) (x .row) (x .cut) after (r .«balance_box»)
   pub kept : Kept way (p .set) before after

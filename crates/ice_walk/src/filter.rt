@@ -85,6 +85,6 @@ pub fn sweep(
         verdict: Verdict::Accepted,
         shifts,
         cut,
-        cells: balance_box,
+        balance_box,
     }
 }

@@ -11,5 +11,5 @@ pub struct Walked {
     pub verdict: Verdict,
     pub shifts: u64,
     pub cut: Level,
-    pub cells: [i16; 256],
+    pub balance_box: [i16; 256],
 }

@@ -145,6 +145,6 @@ pub fn travel(
         verdict: Verdict::Accepted,
         shifts,
         cut,
-        cells: balance_box,
+        balance_box,
     }
 }

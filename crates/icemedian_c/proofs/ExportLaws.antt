@@ -24,9 +24,9 @@ use Rattle.frame_write.specs.declared.Written.{Written}
 use Rattle.frame_write.specs.declared.Written.the-variants as written
 use Rattle.frame_write.specs.Write.{declined, reportOf, Writes}
 use Rattle.frame_write.proofs.Reopening.{answered}
-use Rattle.c_values.specs.Results.{statusOf, given, byStatus, Reported}
+use Rattle.c_values.specs.Results.{statusOf, given, Reported}
 use Rattle.c_values.specs.Settings.{Narrowed}
-use Rattle.c_values.proofs.ResultLaws.{passes, by-status}
+use Rattle.c_values.proofs.ResultLaws.{passes}
 use Rattle.icemedian_c.specs.Exports.{Called, resultAt, WalkCall, FilterCall, BalanceCall, WriteCall}
 
 module _ (v : Verdict) {o : Outcome} {r old new : ℕ} (is : numbered v ≡ o) (h : Reported (numbered v) r old new) where
@@ -39,13 +39,13 @@ module _ (v : Verdict) {o : Outcome} {r old new : ℕ} (is : numbered v ≡ o) (
   pub passed : r ≡ 0 → o ≡ accepted
   passed z = sym is ∙ passes v (sym (h .status-is) ∙ z)
 
-  -- a lent result told by the status
-  pub lends : {A : Type 0} {now new due : A} (old : A) → now ≡ byStatus r new old → (o ≡ accepted → new ≡ due) → now ≡ given o due old
-  lends {A} {now} {new} {due} old e f = e ∙ by-status v h new old ∙ ap (λ (u : Outcome). given u new old) is ∙ chosen o f
-    where
-      chosen : (u : Outcome) → (u ≡ accepted → new ≡ due) → given u new old ≡ given u due old
-      chosen accepted g = g refl
-      chosen (refused n l) g = refl
+-- a lent result
+lends : {A : Type 0} {u o : Outcome} {now new due : A} (old : A) → u ≡ o → now ≡ given u new old → (o ≡ accepted → new ≡ due) → now ≡ given o due old
+lends {A} {u} {o} {now} {new} {due} old is e f = e ∙ ap (λ (x : Outcome). given x new old) is ∙ chosen o f
+  where
+    chosen : (x : Outcome) → (x ≡ accepted → new ≡ due) → given x new old ≡ given x due old
+    chosen accepted g = g refl
+    chosen (refused n l) g = refl
 
 kept : {A : Type 0} (o : Outcome) (new old : A) → (o ≡ accepted → ⊥) → old ≡ given o new old
 kept accepted new old n = absurd (n refl)
@@ -72,7 +72,7 @@ module _ {o : Outcome} {way : Way} {p : Frame} {x : State} {a z : Stores} {due b
       record {
         shifts = refl;
         cut = refl;
-        cells = refl;
+        balance-box = refl;
         counts = h .counts;
         words = h .words;
         numbers = h .numbers;
@@ -86,15 +86,16 @@ module _ {o : Outcome} {way : Way} {p : Frame} {x : State} {a z : Stores} {due b
 
 module _ {b : List ℕ} {way s t : ℕ} {moves : List ℕ} {a z : Stores} {before after : List ℕ} {w : Walked}
     (h : Walks b way s t moves a z before after w) {r offset₀ offset : ℕ} (q : Reported (numbered (w .verdict)) r offset₀ offset)
-    {shifts₀ cut₀ : ℕ} {cells₀ : List ℤ} where
-  pub walk-called : {shifts cut : ℕ} {cells : List ℤ} → shifts ≡ byStatus r (w .shifts) shifts₀ → cut ≡ byStatus r (w .cut .0) cut₀
-      → cells ≡ byStatus r (w .cells) cells₀ → WalkCall b way s t moves a z before after r shifts₀ shifts cut₀ cut cells₀ cells offset₀ offset
+    {shifts₀ cut₀ : ℕ} {box₀ : List ℤ} where
+  pub walk-called : {shifts cut : ℕ} {box : List ℤ} → shifts ≡ given (numbered (w .verdict)) (w .shifts) shifts₀
+      → cut ≡ given (numbered (w .verdict)) (w .cut .0) cut₀ → box ≡ given (numbered (w .verdict)) (w .«balance_box») box₀
+      → WalkCall b way s t moves a z before after r shifts₀ shifts cut₀ cut box₀ box offset₀ offset
   walk-called es ec eb =
       record {
         reported = reported (w .verdict) (h .verdict) q;
-        called = called (h .refused) (h .walked) (lends (w .verdict) (h .verdict) q _ es (λ e. h .walked e .shifts));
-        cut-is = lends (w .verdict) (h .verdict) q _ ec (λ e. h .walked e .cut);
-        cells-is = lends (w .verdict) (h .verdict) q _ eb (λ e. h .walked e .cells);
+        called = called (h .refused) (h .walked) (lends _ (h .verdict) es (λ e. h .walked e .shifts));
+        cut-is = lends _ (h .verdict) ec (λ e. h .walked e .cut);
+        box-is = lends _ (h .verdict) eb (λ e. h .walked e .balance-box);
       }
 
 module _ {b : List ℕ} {way : ℕ} {a z : Stores} {before after : List ℕ} {w : Walked} (h : Filters b way a z before after w)

@@ -58,12 +58,12 @@ pub extern "C" fn icemedian_walk(
     );
     let v = walked.verdict;
     let status = report(v, offset);
-    let cells = walked.cells;
+    let last_box = walked.balance_box;
     give_walk(
-        status,
+        v,
         walked.shifts,
         walked.cut.0,
-        cells,
+        last_box,
         shifts,
         cut,
         balance_box,

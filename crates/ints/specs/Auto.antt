@@ -19,8 +19,8 @@ use mir.Syntax.{Width}
 use mir.Val.{SFits, hbits}
 use Rattle.ints.specs.Polynomial.{Expr, var, lit, _⊕_, _⊖_, _⊗_, opposite, eval, normalize, ring}
 use Rattle.ints.specs.Computation.{Variable, Operations, values, bounds, computed, allBelow}
-use Rattle.ints.specs.Machine.{Cell, stored, signedOps, beforeStore, need, computes}
-use Rattle.ints.specs.Float.{Rep, FloatCell, floatOps, rep-at, rep-computed}
+use Rattle.ints.specs.Machine.{Cell, readBack, signedOps, beforeStore, need, computes}
+use Rattle.ints.specs.Float.{FloatOf, FloatCell, floatOps, rep-at, rep-computed}
 
 -- ---- a value: one rule for each operation, for a literal, and for each place in the list of variables
 pub record Quoted (ρ : List ℤ) (z : ℤ) : Type 0 where
@@ -147,22 +147,22 @@ pub record BeforeStore (w : Width) (xs : List Cell) (x : ℤ) : Type 0 where
   pub is : beforeStore w xs expr ≡ x
 
 abbrev pub has-add : (w : Width) (xs : List Cell) (x y : ℤ) → Computed (signedOps w) xs x → Computed (signedOps w) xs y →
-    Computed (signedOps w) xs (stored w (x +ℤ y))
-has-add w xs x y p q = record { expr = p .expr ⊕ q .expr; is = ap₂ (λ (a b : ℤ). stored w (a +ℤ b)) (p .is) (q .is) }
+    Computed (signedOps w) xs (readBack w (x +ℤ y))
+has-add w xs x y p q = record { expr = p .expr ⊕ q .expr; is = ap₂ (λ (a b : ℤ). readBack w (a +ℤ b)) (p .is) (q .is) }
 
 abbrev pub before-add : (w : Width) (xs : List Cell) (x y : ℤ) → Computed (signedOps w) xs x → Computed (signedOps w) xs y → BeforeStore w xs (x +ℤ y)
 before-add w xs x y p q = record { expr = p .expr ⊕ q .expr; is = ap₂ (λ (a b : ℤ). a +ℤ b) (p .is) (q .is) }
 
 abbrev pub has-sub : (w : Width) (xs : List Cell) (x y : ℤ) → Computed (signedOps w) xs x → Computed (signedOps w) xs y →
-    Computed (signedOps w) xs (stored w (x -ℤ y))
-has-sub w xs x y p q = record { expr = p .expr ⊖ q .expr; is = ap₂ (λ (a b : ℤ). stored w (a -ℤ b)) (p .is) (q .is) }
+    Computed (signedOps w) xs (readBack w (x -ℤ y))
+has-sub w xs x y p q = record { expr = p .expr ⊖ q .expr; is = ap₂ (λ (a b : ℤ). readBack w (a -ℤ b)) (p .is) (q .is) }
 
 abbrev pub before-sub : (w : Width) (xs : List Cell) (x y : ℤ) → Computed (signedOps w) xs x → Computed (signedOps w) xs y → BeforeStore w xs (x -ℤ y)
 before-sub w xs x y p q = record { expr = p .expr ⊖ q .expr; is = ap₂ (λ (a b : ℤ). a -ℤ b) (p .is) (q .is) }
 
 abbrev pub has-mul : (w : Width) (xs : List Cell) (x y : ℤ) → Computed (signedOps w) xs x → Computed (signedOps w) xs y →
-    Computed (signedOps w) xs (stored w (x *ℤ y))
-has-mul w xs x y p q = record { expr = p .expr ⊗ q .expr; is = ap₂ (λ (a b : ℤ). stored w (a *ℤ b)) (p .is) (q .is) }
+    Computed (signedOps w) xs (readBack w (x *ℤ y))
+has-mul w xs x y p q = record { expr = p .expr ⊗ q .expr; is = ap₂ (λ (a b : ℤ). readBack w (a *ℤ b)) (p .is) (q .is) }
 
 abbrev pub before-mul : (w : Width) (xs : List Cell) (x y : ℤ) → Computed (signedOps w) xs x → Computed (signedOps w) xs y → BeforeStore w xs (x *ℤ y)
 before-mul w xs x y p q = record { expr = p .expr ⊗ q .expr; is = ap₂ (λ (a b : ℤ). a *ℤ b) (p .is) (q .is) }
@@ -224,10 +224,10 @@ pub ruleset floatCode = (has₀, has₁, has₂, has₃, has₄, has₅, has₆,
 
 -- the float that the code has stands for what the contract says
 pub rep! : {f : Format} {x : Float} {z : ℤ} (xs : List (FloatCell f)) (p : Computed (floatOps f) xs x) (q : Quoted (values xs) z) →
-    T (allBelow (suc (2 ^ prec f)) (bounds xs) (p .expr)) → normalize (p .expr) ≡ normalize (q .expr) → Rep f x z
+    T (allBelow (suc (2 ^ prec f)) (bounds xs) (p .expr)) → normalize (p .expr) ≡ normalize (q .expr) → FloatOf f x z
 rep! {f} {x} xs p q t e =
     rep-at (ring (values xs) (p .expr) (q .expr) e ∙ q .is)
-    (subst (λ (y : Float). Rep f y (eval (values xs) (p .expr))) (p .is) (rep-computed f xs (p .expr) t))
+    (subst (λ (y : Float). FloatOf f y (eval (values xs) (p .expr))) (p .is) (rep-computed f xs (p .expr) t))
 
 -- ---- test: six variables
 test-six : (u F a n G S : ℤ) → u *ℤ F +ℤ a *ℤ (n *ℤ G -ℤ S *ℤ F) ≡ (u -ℤ a *ℤ S) *ℤ F +ℤ (a *ℤ n) *ℤ G

@@ -101,18 +101,18 @@ boundOf B (a ⊗ b) = boundOf B a * boundOf B b
 boundOf B (opposite a) = boundOf B a
 
 -- the variables' values are within the bounds: `(h₀, (h₁, (h₂, tt)))`
-abbrev pub Within : List ℤ → List ℕ → Type 0
-Within [] B = Unit {0}
-Within (z ∷ ρ) [] = ⊥
-Within (z ∷ ρ) (b ∷ B) = (natAbs z ≤ b) × Within ρ B
+abbrev pub WithinBounds : List ℤ → List ℕ → Type 0
+WithinBounds [] B = Unit {0}
+WithinBounds (z ∷ ρ) [] = ⊥
+WithinBounds (z ∷ ρ) (b ∷ B) = (natAbs z ≤ b) × WithinBounds ρ B
 
-at-within : (ρ : List ℤ) (B : List ℕ) (i : ℕ) → Within ρ B → natAbs (at ρ i) ≤ boundAt B i
+at-within : (ρ : List ℤ) (B : List ℕ) (i : ℕ) → WithinBounds ρ B → natAbs (at ρ i) ≤ boundAt B i
 at-within [] B i h = omega arith
 at-within (z ∷ ρ) [] i h = absurd h
 at-within (z ∷ ρ) (b ∷ B) zero h = h .0
 at-within (z ∷ ρ) (b ∷ B) (suc i) h = at-within ρ B i (h .1)
 
-pub eval-within : (ρ : List ℤ) (B : List ℕ) (e : Expr) → Within ρ B → natAbs (eval ρ e) ≤ boundOf B e
+pub eval-within : (ρ : List ℤ) (B : List ℕ) (e : Expr) → WithinBounds ρ B → natAbs (eval ρ e) ≤ boundOf B e
 eval-within ρ B (var i) h = at-within ρ B i h
 eval-within ρ B (lit c) h = le-refl (natAbs c)
 eval-within ρ B (a ⊕ b) h = abs-add-le (eval ρ a) (eval ρ b) (eval-within ρ B a h) (eval-within ρ B b h)

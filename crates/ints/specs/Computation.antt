@@ -10,7 +10,7 @@ use lib.Dec.{T, ltb, ltb→lt}
 use lib.IntN.{ℤ, pos, negℤ, natAbs, _+ℤ_, _-ℤ_, _*ℤ_}
 use mir.Facts.{and-yes}
 use Rattle.ints.specs.Polynomial.{Expr, var, lit, _⊕_, _⊖_, _⊗_, opposite, at, eval}
-use Rattle.ints.specs.Bound.{boundAt, boundOf, Within, eval-within}
+use Rattle.ints.specs.Bound.{boundAt, boundOf, WithinBounds, eval-within}
 
 -- ---- variables: `Means x z` says that the code's x stands for the integer z
 pub record Variable (A : Type 0) (Means : A → ℤ → Type 0) : Type 0 where
@@ -29,7 +29,7 @@ module _ {A : Type 0} {Means : A → ℤ → Type 0} where
   bounds [] = []
   bounds (x ∷ xs) = x .bound ∷ bounds xs
 
-  all-within : (xs : List (Variable A Means)) → Within (values xs) (bounds xs)
+  all-within : (xs : List (Variable A Means)) → WithinBounds (values xs) (bounds xs)
   all-within [] = tt
   all-within (x ∷ xs) = (x .small, all-within xs)
 

@@ -1,4 +1,4 @@
--- Whole numbers as floats, so that code may compute with `f64` and lose nothing. `Rep f x z` says that x is the float of the format f
+-- Whole numbers as floats, so that code may compute with `f64` and lose nothing. `FloatOf f x z` says that x is the float of the format f
 -- that stands for the integer z: what rounding ±|z| gives, so that x is `ofInt f z`, or, where z is 0, perhaps -0 (0 * -3 is -0).
 -- A sum, a difference and a product of two such floats of at most 2 ^ prec in size (2 ^ 53 in an `f64`) stands for the integers' sum,
 -- difference and product, and a comparison is the integers'. `rep-computed` says the same of a whole expression. Assumes nothing.
@@ -53,26 +53,26 @@ use Rattle.ints.specs.Order.{nat-eq, add-parts, posPart-neg, negPart-neg
 use Rattle.ints.specs.Polynomial.{Expr, eval}
 use Rattle.ints.specs.Bound.{abs-neg}
 use Rattle.ints.specs.Computation.{Variable, Operations, Exact, values, bounds, computed, allBelow, eval-below, computed-means}
-use Rattle.ints.specs.Machine.{stored, read-bounded}
+use Rattle.ints.specs.Machine.{readBack, read-bounded}
 
 -- ±n, which is -n where the sign is set
 abbrev pub withSign : Bool → ℕ → ℤ
 withSign false n = pos n
 withSign true n = negℤ (pos n)
 
-pub record Rep (f : Format) (x : Float) (z : ℤ) : Type 0 where
+pub record FloatOf (f : Format) (x : Float) (z : ℤ) : Type 0 where
   pub sign : Bool
   pub size : ℕ
   pub is : x ≡ round f sign size 1
   pub value : withSign sign size ≡ z
 
 -- ---- an integer as a float
-pub rep-ofInt : (f : Format) (z : ℤ) → Rep f (ofInt f z) z
+pub rep-ofInt : (f : Format) (z : ℤ) → FloatOf f (ofInt f z) z
 unfolding ofInt
 rep-ofInt f (pos n) = record { sign = false; size = n; is = refl; value = refl }
 rep-ofInt f (negsuc n) = record { sign = true; size = suc n; is = refl; value = refl }
 
-size-is : {f : Format} {x : Float} {z : ℤ} (r : Rep f x z) → natAbs z ≡ r .size
+size-is : {f : Format} {x : Float} {z : ℤ} (r : FloatOf f x z) → natAbs z ≡ r .size
 size-is {z} r = ap natAbs (sym (r .value)) ∙ go (r .sign) (r .size)
   where
     go : (s : Bool) (n : ℕ) → natAbs (withSign s n) ≡ n
@@ -80,7 +80,7 @@ size-is {z} r = ap natAbs (sym (r .value)) ∙ go (r .sign) (r .size)
     go true n = abs-neg (pos n)
 
 -- its value, as the kit's laws of floats say it
-has-value : {f : Format} {x : Float} {z : ℤ} (r : Rep f x z) → natAbs z ≤ 2 ^ prec f → HasValue x (r .sign) (r .size) 1
+has-value : {f : Format} {x : Float} {z : ℤ} (r : FloatOf f x z) → natAbs z ≤ 2 ^ prec f → HasValue x (r .sign) (r .size) 1
 has-value {f} {x} {z} r h =
     subst (λ (y : Float). HasValue y (r .sign) (r .size) 1) (sym (r .is))
     (round-whole f (r .sign) (r .size) (subst (λ (n : ℕ). n ≤ 2 ^ prec f) (size-is r) h))
@@ -129,13 +129,13 @@ sub-mul : (a b c : ℕ) → b * c - a * c ≡ (b - a) * c
 sub-mul a b c = ap₂ (λ (x y : ℕ). x - y) (NatL.mul-comm b c) (NatL.mul-comm a c) ∙ sym (NatL.mul-sub c b a) ∙ NatL.mul-comm c (b - a)
 
 -- with what is known of a zero: its sign is u
-abbrev Rep₀ : Format → Float → ℤ → Bool → Type 0
-Rep₀ f x z u = (r : Rep f x z) × (r .size ≡ 0 → r .sign ≡ u)
+abbrev FloatOf₀ : Format → Float → ℤ → Bool → Type 0
+FloatOf₀ f x z u = (r : FloatOf f x z) × (r .size ≡ 0 → r .sign ≡ u)
 
 not-zero : (a b : ℕ) → a < b → b - a ≡ 0 → ⊥
 not-zero a b h e = omega arith
 
-sum-rep : (f : Format) (s t : Bool) (a b c : ℕ) → 0 < c → Rep₀ f (sum f s (a * c) t (b * c) c) (withSign s a +ℤ withSign t b) (s && t)
+sum-rep : (f : Format) (s t : Bool) (a b c : ℕ) → 0 < c → FloatOf₀ f (sum f s (a * c) t (b * c) c) (withSign s a +ℤ withSign t b) (s && t)
 unfolding sum
 sum-rep f false false a b c d =
     (record { sign = false; size = a + b; is = whole-same f false (a * c + b * c) c (a + b) d (omega arith); value = refl }, λ e. refl)
@@ -144,7 +144,7 @@ sum-rep f true true a b c d =
 sum-rep f false true a b c d = go (ltb (a * c) (b * c)) (ltb→lt (a * c) (b * c)) (nltb→le (a * c) (b * c))
   where
     go : (u : Bool) → (T u → a * c < b * c) → (T (not u) → b * c ≤ a * c) →
-        Rep₀ f (cond u (round f true (b * c - a * c) c) (round f false (a * c - b * c) c)) (pos a +ℤ negℤ (pos b)) false
+        FloatOf₀ f (cond u (round f true (b * c - a * c) c) (round f false (a * c - b * c) c)) (pos a +ℤ negℤ (pos b)) false
     go true h g = (
       record {
         sign = true;
@@ -179,7 +179,7 @@ sum-rep f true false a b c d =
     zero-times a b c h = omega arith
 
     go : (u : Bool) → (T u → a * c < b * c) → (T (not u) → b * c ≤ a * c) → (x : Bool) → (T x → b * c < a * c) → (T (not x) → a * c ≤ b * c)
-        → Rep₀ f (cond u (round f false (b * c - a * c) c) (round f x (a * c - b * c) c)) (negℤ (pos a) +ℤ pos b) false
+        → FloatOf₀ f (cond u (round f false (b * c - a * c) c) (round f x (a * c - b * c) c)) (negℤ (pos a) +ℤ pos b) false
     go true h g x i j = (
       record {
         sign = false;
@@ -213,29 +213,29 @@ sum-rep f true false a b c d =
 
 -- the sum of two floats that are worth ±a and ±b
 add-worth : (f : Format) (x y : Float) (s t : Bool) (a b : ℕ) → HasValue x s a 1 → HasValue y t b 1 →
-    Rep₀ f (add f x y) (withSign s a +ℤ withSign t b) (s && t)
+    FloatOf₀ f (add f x y) (withSign s a +ℤ withSign t b) (s && t)
 unfolding add
 add-worth f x y s t a b =
-    on-finite (λ (x y : Float). Rep₀ f (add f x y) (withSign s a +ℤ withSign t b) (s && t)) s t a b
+    on-finite (λ (x y : Float). FloatOf₀ f (add f x y) (withSign s a +ℤ withSign t b) (s && t)) s t a b
     (λ m n e d h k.
     let c = over-both (m * up e) (down e) (n * up d) (down d) a b h k in
-    subst₂ (λ (i j : ℕ). Rep₀ f (sum f s i t j (down e * down d)) (withSign s a +ℤ withSign t b) (s && t)) (sym (c .0)) (sym (c .1))
+    subst₂ (λ (i j : ℕ). FloatOf₀ f (sum f s i t j (down e * down d)) (withSign s a +ℤ withSign t b) (s && t)) (sym (c .0)) (sym (c .1))
     (sum-rep f s t a b (down e * down d) (NatL.mul-pos (down-pos e) (down-pos d))))
     x y
 
 -- the same integer, written otherwise
-pub rep-at : {f : Format} {x : Float} {y z : ℤ} → y ≡ z → Rep f x y → Rep f x z
-rep-at {f} {x} e r = subst (λ (w : ℤ). Rep f x w) e r
+pub rep-at : {f : Format} {x : Float} {y z : ℤ} → y ≡ z → FloatOf f x y → FloatOf f x z
+rep-at {f} {x} e r = subst (λ (w : ℤ). FloatOf f x w) e r
 
 -- ---- the sum, the negation, the difference, the product
-pub rep-add : {f : Format} {x y : Float} {a b : ℤ} → Rep f x a → Rep f y b → natAbs a ≤ 2 ^ prec f → natAbs b ≤ 2 ^ prec f →
-    Rep f (add f x y) (a +ℤ b)
+pub rep-add : {f : Format} {x y : Float} {a b : ℤ} → FloatOf f x a → FloatOf f y b → natAbs a ≤ 2 ^ prec f → natAbs b ≤ 2 ^ prec f →
+    FloatOf f (add f x y) (a +ℤ b)
 rep-add {f} {x} {y} {a} {b} r q h k =
     rep-at (ap₂ (λ (i j : ℤ). i +ℤ j) (r .value) (q .value))
     (add-worth f x y (r .sign) (q .sign) (r .size) (q .size) (has-value r h) (has-value q k) .0)
 
 -- the sum of two integers' floats is the float of their sum, the zero's sign and all
-plus-zero : {f : Format} {x : Float} (z : ℤ) (r : Rep f x z) → (r .size ≡ 0 → r .sign ≡ false) → x ≡ ofInt f z
+plus-zero : {f : Format} {x : Float} (z : ℤ) (r : FloatOf f x z) → (r .size ≡ 0 → r .sign ≡ false) → x ≡ ofInt f z
 unfolding ofInt
 plus-zero {f} {x} z r h = r .is ∙ go (r .sign) (r .size) (r .value) h
   where
@@ -300,7 +300,7 @@ withSign-not : (s : Bool) (n : ℕ) → withSign (not s) n ≡ negℤ (withSign 
 withSign-not false n = refl
 withSign-not true n = sym (negℤ-negℤ (pos n))
 
-pub rep-neg : {f : Format} {x : Float} {a : ℤ} → Rep f x a → Rep f (neg x) (negℤ a)
+pub rep-neg : {f : Format} {x : Float} {a : ℤ} → FloatOf f x a → FloatOf f (neg x) (negℤ a)
 rep-neg {f} {x} {a} r =
     record {
       sign = not (r .sign);
@@ -310,8 +310,8 @@ rep-neg {f} {x} {a} r =
           withSign-not (r .sign) (r .size) ∙ ap negℤ (r .value);
     }
 
-pub rep-sub : {f : Format} {x y : Float} {a b : ℤ} → Rep f x a → Rep f y b → natAbs a ≤ 2 ^ prec f → natAbs b ≤ 2 ^ prec f →
-    Rep f (sub f x y) (a -ℤ b)
+pub rep-sub : {f : Format} {x y : Float} {a b : ℤ} → FloatOf f x a → FloatOf f y b → natAbs a ≤ 2 ^ prec f → natAbs b ≤ 2 ^ prec f →
+    FloatOf f (sub f x y) (a -ℤ b)
 unfolding sub
 rep-sub {f} {x} {y} {a} {b} r q h k = rep-add r (rep-neg q) h (subst (λ (n : ℕ). n ≤ 2 ^ prec f) (sym (abs-neg b)) k)
 
@@ -325,10 +325,11 @@ withSign-mul false true a b = sym (mul-neg (pos a) (pos b))
 withSign-mul true false a b = sym (neg-mul (pos a) (pos b))
 withSign-mul true true a b = sym (neg-mul (pos a) (negℤ (pos b)) ∙ ap negℤ (mul-neg (pos a) (pos b)) ∙ negℤ-negℤ (pos (a * b)))
 
-mul-worth : (f : Format) (x y : Float) (s t : Bool) (a b : ℕ) → HasValue x s a 1 → HasValue y t b 1 → Rep f (mul f x y) (withSign s a *ℤ withSign t b)
+mul-worth : (f : Format) (x y : Float) (s t : Bool) (a b : ℕ) → HasValue x s a 1 → HasValue y t b 1 →
+    FloatOf f (mul f x y) (withSign s a *ℤ withSign t b)
 unfolding mul
 mul-worth f x y s t a b =
-    on-finite (λ (x y : Float). Rep f (mul f x y) (withSign s a *ℤ withSign t b)) s t a b
+    on-finite (λ (x y : Float). FloatOf f (mul f x y) (withSign s a *ℤ withSign t b)) s t a b
     (λ m n e d h k.
     record {
       sign = unlike s t;
@@ -340,8 +341,8 @@ mul-worth f x y s t a b =
     })
     x y
 
-pub rep-mul : {f : Format} {x y : Float} {a b : ℤ} → Rep f x a → Rep f y b → natAbs a ≤ 2 ^ prec f → natAbs b ≤ 2 ^ prec f →
-    Rep f (mul f x y) (a *ℤ b)
+pub rep-mul : {f : Format} {x y : Float} {a b : ℤ} → FloatOf f x a → FloatOf f y b → natAbs a ≤ 2 ^ prec f → natAbs b ≤ 2 ^ prec f →
+    FloatOf f (mul f x y) (a *ℤ b)
 rep-mul {f} {x} {y} {a} {b} r q h k =
     rep-at (ap₂ (λ (i j : ℤ). i *ℤ j) (r .value) (q .value)) (mul-worth f x y (r .sign) (q .sign) (r .size) (q .size) (has-value r h) (has-value q k))
 
@@ -389,7 +390,8 @@ lt-worth x y s t a b =
     x y
 
 -- `x < y` of two floats that stand for integers is the integers' order
-pub rep-lt : {f : Format} {x y : Float} {a b : ℤ} → Rep f x a → Rep f y b → natAbs a ≤ 2 ^ prec f → natAbs b ≤ 2 ^ prec f → Ieee.lt x y ≡ ltZ a b
+pub rep-lt : {f : Format} {x y : Float} {a b : ℤ} → FloatOf f x a → FloatOf f y b → natAbs a ≤ 2 ^ prec f → natAbs b ≤ 2 ^ prec f →
+    Ieee.lt x y ≡ ltZ a b
 rep-lt {f} {x} {y} {a} {b} r q h k =
     lt-worth x y (r .sign) (q .sign) (r .size) (q .size) (has-value r h) (has-value q k) ∙ ap₂ ltZ (r .value) (q .value)
 
@@ -400,7 +402,8 @@ in-float f (pos n) h = le→leb n (2 ^ prec f) h
 in-float f (negsuc n) h = lt→ltb n (2 ^ prec f) h
 
 -- `int-to-float-..` of a signed number: `float-need binary64 w64 z B h tt`
-pub float-need : (f : Format) (w : Width) (z : ℤ) (B : ℕ) → natAbs z ≤ B → T (ltb B (2 ^ hbits w) && leb B (2 ^ prec f)) → T (inFloat f (stored w z))
+pub float-need : (f : Format) (w : Width) (z : ℤ) (B : ℕ) → natAbs z ≤ B → T (ltb B (2 ^ hbits w) && leb B (2 ^ prec f)) →
+    T (inFloat f (readBack w z))
 float-need f w z B h t =
     let both = and-yes (ltb B (2 ^ hbits w)) (leb B (2 ^ prec f)) t in
     subst (λ (i : ℤ). T (inFloat f i)) (sym (read-bounded w B h (both .0))) (in-float f z (le-trans h (leb→le B (2 ^ prec f) (both .1))))
@@ -412,15 +415,15 @@ float-back f h (negsuc n) p q = negative-back f h n (in-float f (negsuc n) p) q
 
 -- ---- an expression, computed with floats: it is exact where every part is at most 2 ^ prec in size by the variables' bounds
 abbrev pub FloatCell : Format → Type 0
-FloatCell f = Variable Float (λ x z. Rep f x z)
+FloatCell f = Variable Float (λ x z. FloatOf f x z)
 
 -- a float that is known to stand for z
-abbrev pub knownFloat : {f : Format} (x : Float) (z : ℤ) (B : ℕ) → Rep f x z → natAbs z ≤ B → FloatCell f
+abbrev pub knownFloat : {f : Format} (x : Float) (z : ℤ) (B : ℕ) → FloatOf f x z → natAbs z ≤ B → FloatCell f
 knownFloat x z B r h = record { has = x; is = z; bound = B; same = r; small = h }
 
 -- a signed number that was cast: `signedFloat binary64 w64 z B h tt`
 abbrev pub signedFloat : (f : Format) (w : Width) (z : ℤ) (B : ℕ) → natAbs z ≤ B → T (ltb B (2 ^ hbits w)) → FloatCell f
-signedFloat f w z B h t = knownFloat (ofInt f (stored w z)) z B (rep-at (read-bounded w B h t) (rep-ofInt f (stored w z))) h
+signedFloat f w z B h t = knownFloat (ofInt f (readBack w z)) z B (rep-at (read-bounded w B h t) (rep-ofInt f (readBack w z))) h
 
 -- an unsigned number that was cast: `unsignedFloat binary64 n B h`
 abbrev pub unsignedFloat : (f : Format) (n B : ℕ) → n ≤ B → FloatCell f
@@ -429,7 +432,7 @@ unsignedFloat f n B h = knownFloat (ofInt f (pos n)) (pos n) B (rep-ofInt f (pos
 abbrev pub floatOps : Format → Operations Float
 floatOps f = record { literal = ofInt f; plus = add f; minus = sub f; times = mul f; negate = neg }
 
-float-exact : (f : Format) → Exact (λ (x : Float) (z : ℤ). Rep f x z) (floatOps f) (suc (2 ^ prec f))
+float-exact : (f : Format) → Exact (λ (x : Float) (z : ℤ). FloatOf f x z) (floatOps f) (suc (2 ^ prec f))
 float-exact f =
     record {
       literal-means = λ c. rep-ofInt f c;
@@ -440,7 +443,7 @@ float-exact f =
     }
 
 module _ (f : Format) (xs : List (FloatCell f)) where
-  pub rep-computed : (e : Expr) → T (allBelow (suc (2 ^ prec f)) (bounds xs) e) → Rep f (computed (floatOps f) xs e) (eval (values xs) e)
+  pub rep-computed : (e : Expr) → T (allBelow (suc (2 ^ prec f)) (bounds xs) e) → FloatOf f (computed (floatOps f) xs e) (eval (values xs) e)
   rep-computed e t = computed-means (float-exact f) xs e t
 
   -- a test `<` of two expressions
@@ -454,13 +457,13 @@ module _ (f : Format) (xs : List (FloatCell f)) where
       small e t = le-of-suc-le-suc (eval-below (float-exact f) xs e t)
 
 -- ---- literals of the code, by their bits. For another one: `rep-bits binary64 bits z refl` under the `unfolding` line of `rep-two`
-pub rep-bits : (f : Format) (b : ℕ) (z : ℤ) → Ieee.ofBits f b ≡ ofInt f z → Rep f (Ieee.ofBits f b) z
-rep-bits f b z e = subst (λ (x : Float). Rep f x z) (sym e) (rep-ofInt f z)
+pub rep-bits : (f : Format) (b : ℕ) (z : ℤ) → Ieee.ofBits f b ≡ ofInt f z → FloatOf f (Ieee.ofBits f b) z
+rep-bits f b z e = subst (λ (x : Float). FloatOf f x z) (sym e) (rep-ofInt f z)
 
-pub rep-zero : Rep binary64 (Ieee.ofBits binary64 0) (pos 0)
+pub rep-zero : FloatOf binary64 (Ieee.ofBits binary64 0) (pos 0)
 unfolding Ieee.ofBits Ieee.ofFields Ieee.odd Ieee.round Ieee.units Ieee.size Ieee.span Ieee.climb lib.Count.trailingZeros ofInt
 rep-zero = rep-bits binary64 0 (pos 0) refl
 
-pub rep-two : Rep binary64 (Ieee.ofBits binary64 4611686018427387904) (pos 2)
+pub rep-two : FloatOf binary64 (Ieee.ofBits binary64 4611686018427387904) (pos 2)
 unfolding Ieee.ofBits Ieee.ofFields Ieee.odd Ieee.round Ieee.units Ieee.size Ieee.span Ieee.climb lib.Count.trailingZeros ofInt
 rep-two = rep-bits binary64 4611686018427387904 (pos 2) refl

@@ -36,14 +36,14 @@ use Rattle.ints.specs.Computation.{
 }
 
 -- written, and read back
-abbrev pub stored : Width → ℤ → ℤ
-stored w z = toZ w (ofZ w z)
+abbrev pub readBack : Width → ℤ → ℤ
+readBack w z = toZ w (ofZ w z)
 
-pub read : (w : Width) {z : ℤ} → SFits w z → stored w z ≡ z
+pub read : (w : Width) {z : ℤ} → SFits w z → readBack w z ≡ z
 read w f = toZ-ofZ f
 
 -- the same of a number with a bound: `read-bounded w64 B h tt`
-pub read-bounded : (w : Width) {z : ℤ} (B : ℕ) → natAbs z ≤ B → T (ltb B (2 ^ hbits w)) → stored w z ≡ z
+pub read-bounded : (w : Width) {z : ℤ} (B : ℕ) → natAbs z ≤ B → T (ltb B (2 ^ hbits w)) → readBack w z ≡ z
 read-bounded w B h t = read w (sfits-abs B h t)
 
 -- ---- cells
@@ -52,11 +52,11 @@ Cell = Variable ℤ (λ x z. x ≡ z)
 
 -- `paramCell w64 z B h tt`
 abbrev pub paramCell : (w : Width) (z : ℤ) (B : ℕ) → natAbs z ≤ B → T (ltb B (2 ^ hbits w)) → Cell
-paramCell w z B h t = record { has = stored w z; is = z; bound = B; same = read-bounded w B h t; small = h }
+paramCell w z B h t = record { has = readBack w z; is = z; bound = B; same = read-bounded w B h t; small = h }
 
 -- a call's result r that is z: `resultCell w64 r z B p h tt`
 abbrev pub resultCell : (w : Width) (r z : ℤ) (B : ℕ) → r ≡ z → natAbs z ≤ B → T (ltb B (2 ^ hbits w)) → Cell
-resultCell w r z B p h t = record { has = stored w r; is = z; bound = B; same = ap (stored w) p ∙ read-bounded w B h t; small = h }
+resultCell w r z B p h t = record { has = readBack w r; is = z; bound = B; same = ap (readBack w) p ∙ read-bounded w B h t; small = h }
 
 -- bits n that are z: `localCell w64 n z B (c .loop .inv ..) h`
 abbrev pub localCell : (w : Width) (n : ℕ) (z : ℤ) (B : ℕ) → toZ w n ≡ z → natAbs z ≤ B → Cell
@@ -71,20 +71,20 @@ abbrev pub signedOps : Width → Operations ℤ
 signedOps w =
     record {
       literal = λ c. c;
-      plus = λ x y. stored w (x +ℤ y);
-      minus = λ x y. stored w (x -ℤ y);
-      times = λ x y. stored w (x *ℤ y);
-      negate = λ x. stored w (pos 0 -ℤ x);
+      plus = λ x y. readBack w (x +ℤ y);
+      minus = λ x y. readBack w (x -ℤ y);
+      times = λ x y. readBack w (x *ℤ y);
+      negate = λ x. readBack w (pos 0 -ℤ x);
     }
 
 signed-exact : (w : Width) → Exact (λ (x z : ℤ). x ≡ z) (signedOps w) (2 ^ hbits w)
 signed-exact w =
     record {
       literal-means = λ c. refl;
-      plus-means = λ x y a b p q h k l. ap₂ (λ (i j : ℤ). stored w (i +ℤ j)) p q ∙ read w (sfits-below l);
-      minus-means = λ x y a b p q h k l. ap₂ (λ (i j : ℤ). stored w (i -ℤ j)) p q ∙ read w (sfits-below l);
-      times-means = λ x y a b p q h k l. ap₂ (λ (i j : ℤ). stored w (i *ℤ j)) p q ∙ read w (sfits-below l);
-      negate-means = λ x a p l. ap (stored w) (+ℤ-idl (negℤ x) ∙ ap negℤ p) ∙ read w (sfits-below l);
+      plus-means = λ x y a b p q h k l. ap₂ (λ (i j : ℤ). readBack w (i +ℤ j)) p q ∙ read w (sfits-below l);
+      minus-means = λ x y a b p q h k l. ap₂ (λ (i j : ℤ). readBack w (i -ℤ j)) p q ∙ read w (sfits-below l);
+      times-means = λ x y a b p q h k l. ap₂ (λ (i j : ℤ). readBack w (i *ℤ j)) p q ∙ read w (sfits-below l);
+      negate-means = λ x a p l. ap (readBack w) (+ℤ-idl (negℤ x) ∙ ap negℤ p) ∙ read w (sfits-below l);
     }
 
 module _ (w : Width) (xs : List Cell) where

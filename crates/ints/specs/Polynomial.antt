@@ -224,33 +224,34 @@ abbrev pub rhs : Equation → Expr
 rhs (a ≐ b) = b
 
 -- what is to be shown of an equation, and what it says
-abbrev pub Holds : Equation → Type 0
-Holds q = normalize (lhs q) ≡ normalize (rhs q)
+abbrev pub EquationHolds : Equation → Type 0
+EquationHolds q = normalize (lhs q) ≡ normalize (rhs q)
 
 abbrev pub Says : List ℤ → Equation → Type 0
 Says ρ q = eval ρ (lhs q) ≡ eval ρ (rhs q)
 
-solve : (ρ : List ℤ) (q : Equation) → Holds q → Says ρ q
+solve : (ρ : List ℤ) (q : Equation) → EquationHolds q → Says ρ q
 solve ρ q e = ring ρ (lhs q) (rhs q) e
 
-pub solve1 : (f : Expr → Equation) → Holds (f (var 0)) → (a : ℤ) → Says (a ∷ []) (f (var 0))
+pub solve1 : (f : Expr → Equation) → EquationHolds (f (var 0)) → (a : ℤ) → Says (a ∷ []) (f (var 0))
 solve1 f p a = solve (a ∷ []) (f (var 0)) p
 
-pub solve2 : (f : Expr → Expr → Equation) → Holds (f (var 0) (var 1)) → (a b : ℤ) → Says (a ∷ b ∷ []) (f (var 0) (var 1))
+pub solve2 : (f : Expr → Expr → Equation) → EquationHolds (f (var 0) (var 1)) → (a b : ℤ) → Says (a ∷ b ∷ []) (f (var 0) (var 1))
 solve2 f p a b = solve (a ∷ b ∷ []) (f (var 0) (var 1)) p
 
-pub solve3 : (f : Expr → Expr → Expr → Equation) → Holds (f (var 0) (var 1) (var 2)) → (a b c : ℤ) → Says (a ∷ b ∷ c ∷ []) (f (var 0) (var 1) (var 2))
+pub solve3 : (f : Expr → Expr → Expr → Equation) → EquationHolds (f (var 0) (var 1) (var 2)) → (a b c : ℤ) →
+    Says (a ∷ b ∷ c ∷ []) (f (var 0) (var 1) (var 2))
 solve3 f p a b c = solve (a ∷ b ∷ c ∷ []) (f (var 0) (var 1) (var 2)) p
 
-pub solve4 : (f : Expr → Expr → Expr → Expr → Equation) → Holds (f (var 0) (var 1) (var 2) (var 3)) → (a b c d : ℤ) →
+pub solve4 : (f : Expr → Expr → Expr → Expr → Equation) → EquationHolds (f (var 0) (var 1) (var 2) (var 3)) → (a b c d : ℤ) →
     Says (a ∷ b ∷ c ∷ d ∷ []) (f (var 0) (var 1) (var 2) (var 3))
 solve4 f p a b c d = solve (a ∷ b ∷ c ∷ d ∷ []) (f (var 0) (var 1) (var 2) (var 3)) p
 
-pub solve5 : (f : Expr → Expr → Expr → Expr → Expr → Equation) → Holds (f (var 0) (var 1) (var 2) (var 3) (var 4)) → (a b c d e : ℤ) →
+pub solve5 : (f : Expr → Expr → Expr → Expr → Expr → Equation) → EquationHolds (f (var 0) (var 1) (var 2) (var 3) (var 4)) → (a b c d e : ℤ) →
     Says (a ∷ b ∷ c ∷ d ∷ e ∷ []) (f (var 0) (var 1) (var 2) (var 3) (var 4))
 solve5 f p a b c d e = solve (a ∷ b ∷ c ∷ d ∷ e ∷ []) (f (var 0) (var 1) (var 2) (var 3) (var 4)) p
 
-pub solve6 : (f : Expr → Expr → Expr → Expr → Expr → Expr → Equation) → Holds (f (var 0) (var 1) (var 2) (var 3) (var 4) (var 5)) →
+pub solve6 : (f : Expr → Expr → Expr → Expr → Expr → Expr → Equation) → EquationHolds (f (var 0) (var 1) (var 2) (var 3) (var 4) (var 5)) →
     (a b c d e g : ℤ) → Says (a ∷ b ∷ c ∷ d ∷ e ∷ g ∷ []) (f (var 0) (var 1) (var 2) (var 3) (var 4) (var 5))
 solve6 f p a b c d e g = solve (a ∷ b ∷ c ∷ d ∷ e ∷ g ∷ []) (f (var 0) (var 1) (var 2) (var 3) (var 4) (var 5)) p
 

@@ -8,7 +8,7 @@ ghost use lib.Signed.{_≤ℤ_, _<ℤ_, ltZ};
 ghost use lib.ListN.{length, getD};
 ghost use lib.Ieee.{binary64, ofInt};
 ghost use Rattle.ints.specs.Sum.{Σ};
-ghost use Rattle.ints.specs.Float.{Rep};
+ghost use Rattle.ints.specs.Float.{FloatOf};
 
 // Signed sums and products, where the proof writes each expression.
 pub fn signed_by_hand(n: i64, q: i64, s: i64, e: i64) -> i64
@@ -82,7 +82,7 @@ pub fn signed_loop(a: &[u8], n: i64, s: i64) -> i64
 // Floats: every whole number on the way is at most 2 ^ 53 in size, so nothing is rounded.
 pub fn float_found(v: i64, n: i64, x: i64, y: i64, s: i64) -> f64
     requires { ⌜ (natAbs v ≤ 180156859227) × (natAbs n ≤ 961) × (natAbs x ≤ 255) × (natAbs y ≤ 255) × (natAbs s ≤ 245055) ⌝ }
-    ensures { λ r. ⌜ Rep binary64 r (v +ℤ (n *ℤ x -ℤ s) *ℤ (n *ℤ y -ℤ s)) ⌝ }
+    ensures { λ r. ⌜ FloatOf binary64 r (v +ℤ (n *ℤ x -ℤ s) *ℤ (n *ℤ y -ℤ s)) ⌝ }
 {
     let m = n as f64;
     let t = s as f64;
@@ -128,7 +128,7 @@ pub fn float_test(u: i64, t: i64) -> i64
 // A loop that sums whole numbers in a float.
 pub fn float_loop(a: &[u8]) -> f64
     requires { ⌜ length (now a) ≤ 961 ⌝ }
-    ensures { λ r. ⌜ Rep binary64 r (Σ (length (now (a .entry))) (λ k. pos (getD (now (a .entry)) k 0))) ⌝ }
+    ensures { λ r. ⌜ FloatOf binary64 r (Σ (length (now (a .entry))) (λ k. pos (getD (now (a .entry)) k 0))) ⌝ }
 {
     let mut acc: f64 = 0.0;
     let mut i: usize = 0;

@@ -13,7 +13,7 @@ use lib.Signed.{_≤ℤ_, _<ℤ_, ≤ℤ-refl}
 use mir.Syntax.{w64}
 use Rattle.ints.specs.Order.{add-parts, mul-parts, mul-mono-l, +-mono, ≤-trans, ≤-of-eq, pos-≤, 0≤pos}
 use Rattle.ints.specs.Linear.{ints}
-use Rattle.ints.specs.Machine.{stored, read-bounded}
+use Rattle.ints.specs.Machine.{readBack, read-bounded}
 use Rattle.ints.specs.Polynomial.{_⊕_, _⊗_, _≐_, solve3, solve6}
 use Rattle.spec.proofs.Totals.{lt-leZ}
 use Rattle.window.specs.declared.coefficients.Coefficients.{Coefficients}
@@ -108,5 +108,5 @@ formula-below (pos a) d w {g} {m} h u v = ≤-trans (+-mono (mul-mono-l {a = pos
 formula-below (negsuc a) d w {g} {m} h u v = omega (arith, ints, mul-parts (negsuc a) (pos g), add-parts (negsuc a *ℤ pos g) d)
 
 -- ---- as a call hands it on
-pub handed-on : {k : Coefficients} {counts sums : List ℕ} {w : ℤ} → Heaviest k counts sums w → Heaviest k counts sums (stored w64 w)
+pub handed-on : {k : Coefficients} {counts sums : List ℕ} {w : ℤ} → Heaviest k counts sums w → Heaviest k counts sums (readBack w64 w)
 handed-on {k} {counts} {sums} v = subst (Heaviest k counts sums) (sym (read-bounded w64 240207812100 (v .small) tt)) v

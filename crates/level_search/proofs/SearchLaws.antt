@@ -15,7 +15,7 @@ use Rattle.window.specs.Coefficients.{reachesHalf}
 use Rattle.window.proofs.LineLaws.{fold-none, fold-more}
 use Rattle.level_search.specs.declared.Tally.{Tally}
 use Rattle.level_search.specs.declared.search.Found.{Found}
-use Rattle.level_search.specs.Search.{foundAt, sumTo, TallyTo, passes, firstLevel, Searchable, Rising, FoundAt, FailTo}
+use Rattle.level_search.specs.Search.{foundAt, sumTo, TallyTo, passes, firstLevel, ListsSearchable, Rising, FoundAt, FailTo}
 
 abbrev pub tally : ℕ → ℕ → Tally
 tally n s = record { count = n; sum = s }
@@ -65,7 +65,7 @@ module _ {counts sums : List ℕ} where
         sym (first-unique (passes k counts sums) (length counts) i (record { within = omega arith; passes = λ _. e; before = f .fails }))
 
     -- some level passes, so those that fall short are not all
-    pub fail-inside : Searchable k counts sums → {i : ℕ} → FailTo k counts sums i → i < length counts
+    pub fail-inside : ListsSearchable k counts sums → {i : ℕ} → FailTo k counts sums i → i < length counts
     unfolding firstLevel
     fail-inside q {i} f = go (native.Mathlib.Decide.decLt (firstLevel k counts sums) i)
       where
@@ -75,7 +75,7 @@ module _ {counts sums : List ℕ} where
         go (no h) = omega (arith, q .some)
 
     -- and where all but the last do, it passes
-    pub pass-last : Searchable k counts sums → {i : ℕ} → length counts ≤ i + 1 → FailTo k counts sums i → passes k counts sums i ≡ true
+    pub pass-last : ListsSearchable k counts sums → {i : ℕ} → length counts ≤ i + 1 → FailTo k counts sums i → passes k counts sums i ≡ true
     pass-last q {i} h f = go (passes k counts sums i) refl
       where
         go : (b : Bool) → passes k counts sums i ≡ b → passes k counts sums i ≡ true

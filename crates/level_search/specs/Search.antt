@@ -39,7 +39,7 @@ pub record LevelCells (counts sums : List ℕ) : Type 0 where
   pub sum-high : (n : ℕ) → n ≤ length counts → sumTo sums n ≤ 245055
 
 -- what every search needs: that, and an answer
-pub record Searchable (coefficients : Coefficients) (counts sums : List ℕ) : Type 0 where
+pub record ListsSearchable (coefficients : Coefficients) (counts sums : List ℕ) : Type 0 where
   pub cells : LevelCells counts sums
   pub small : CoefficientsSmall coefficients
   pub some : firstLevel coefficients counts sums < length counts

@@ -11,7 +11,7 @@ ghost use Prim.Native.Nat.{_+_, _<_, _≤_};
 ghost use lib.ListN.{length};
 ghost use Rattle.spec.specs.Base.{distance};
 ghost use Rattle.level_search.specs.Block.{Heaviest};
-ghost use Rattle.level_search.specs.Search.{foundAt, TallyTo, passes, LevelCells, Searchable, Rising, FoundAt, FailTo};
+ghost use Rattle.level_search.specs.Search.{foundAt, TallyTo, passes, LevelCells, ListsSearchable, Rising, FoundAt, FailTo};
 
 // The answer, the tally of the levels up to it, and the shift count.
 pub struct Found {
@@ -65,7 +65,7 @@ pub fn ascend(
     a: Tally,
     shifts: u64,
 ) -> Found
-    requires { ⌜ (Searchable coefficients (now counts) (now sums)) × (Heaviest coefficients (now counts) (now sums) heaviest) ⌝ }
+    requires { ⌜ (ListsSearchable coefficients (now counts) (now sums)) × (Heaviest coefficients (now counts) (now sums) heaviest) ⌝ }
     requires { ⌜ (from .0 < length (now counts)) × (shifts ≤ 8589934592) ⌝ }
     requires { ⌜ TallyTo (now counts) (now sums) (from .0) a ⌝ }
     requires { ⌜ FailTo coefficients (now counts) (now sums) (from .0) ⌝ }
@@ -107,7 +107,7 @@ pub fn descend(
     a: Tally,
     shifts: u64,
 ) -> Found
-    requires { ⌜ Searchable coefficients (now counts) (now sums) ⌝ }
+    requires { ⌜ ListsSearchable coefficients (now counts) (now sums) ⌝ }
     requires { ⌜ (cut .0 < length (now counts)) × (shifts ≤ 4294967296) ⌝ }
     requires { ⌜ TallyTo (now counts) (now sums) (cut .0 + 1) a ⌝ }
     requires { ⌜ Rising coefficients (now counts) (now sums) ⌝ }
@@ -143,7 +143,7 @@ pub fn from_cut(
     a: Tally,
     shifts: u64,
 ) -> Found
-    requires { ⌜ (Searchable coefficients (now counts) (now sums)) × (Heaviest coefficients (now counts) (now sums) heaviest) ⌝ }
+    requires { ⌜ (ListsSearchable coefficients (now counts) (now sums)) × (Heaviest coefficients (now counts) (now sums) heaviest) ⌝ }
     requires { ⌜ (cut .0 < length (now counts)) × (shifts ≤ 4294967296) ⌝ }
     requires { ⌜ TallyTo (now counts) (now sums) (cut .0 + 1) a ⌝ }
     requires { ⌜ Rising coefficients (now counts) (now sums) ⌝ }

@@ -15,9 +15,8 @@ use lib.Signed.{_≤ℤ_, leZ}
 use borrow.Author.Tests.{eq-eqb, ne-eqb, lt-ltb, le-ltb}
 use Rattle.ints.specs.Order.{≤-trans, ≤-of-eq}
 use Rattle.ints.specs.Ring.{mul-one}
-use Rattle.ints.specs.Polynomial.{_⊕_, _⊗_, #_, _≐_, solve2, solve6}
 use Rattle.spec.specs.declared.Plan.{Plan}
-use Rattle.spec.specs.Base.{if_then_else_, distance}
+use Rattle.spec.specs.Base.{if_then_else_, distance, sum}
 use Rattle.spec.specs.Frame.{Frame, level, guide, frameOf}
 use Rattle.spec.specs.Checks.{Planned}
 use Rattle.spec.specs.Window.{levelSum}
@@ -26,13 +25,13 @@ use Rattle.spec.specs.Median.{totalWeight, cumulative, median}
 use Rattle.spec.specs.Walk.{arrive}
 use Rattle.spec.proofs.First.{first-unique}
 use Rattle.spec.proofs.Ranges.{natSums}
-use Rattle.spec.proofs.Sums.{over-inWindow, over-both, over-constant, over-mono, over-scale, over-pos}
+use Rattle.spec.proofs.Sums.{sum-none, sum-suc, over-inWindow, over-both, over-constant, over-mono, over-scale, over-pos}
 use Rattle.spec.proofs.Limits.{Pixel}
 use Rattle.spec.proofs.Plans.{facts, pixel-of, place-low}
-use Rattle.spec.proofs.Levels.{levelWeight, weight-linear, level-linear}
+use Rattle.spec.proofs.Levels.{levelWeight, weight-linear, level-linear, cumulative-linear}
 use Rattle.spec.proofs.Totals.{le-leZ, leZ-le, le-balance, balance-le, median-first, median-low}
 use Rattle.spec.proofs.Monotone.{monotone-none, balance-mono}
-use Rattle.spec.proofs.Climb.{cumulativeBelow, cumulativeBelow-zero, cumulativeBelow-suc, cumulativeBelow-next, guided-full}
+use Rattle.spec.proofs.Climb.{guided-full}
 use Rattle.window.specs.declared.coefficients.Coefficients.{Coefficients}
 use Rattle.window.specs.Coefficients.{WeighsAt, CoefficientsSmall, endsNotNegative, weightOf, reachesHalf}
 use Rattle.window.proofs.PixelLaws.{guides-high, guide-low}
@@ -40,7 +39,7 @@ use Rattle.window.proofs.CoefficientLaws.{ends-monotone}
 use Rattle.level_search.specs.declared.Tally.{Tally}
 use Rattle.level_search.specs.declared.search.Found.{Found}
 use Rattle.levels.specs.Tally.{belowSum, BelowAt}
-use Rattle.level_search.specs.Search.{sumTo, TallyTo, passes, firstLevel, LevelCells, Searchable, Rising, FoundAt}
+use Rattle.level_search.specs.Search.{sumTo, TallyTo, passes, firstLevel, LevelCells, ListsSearchable, Rising, FoundAt}
 use Rattle.level_search.specs.Block.{EndsBelow, Heaviest}
 use Rattle.levels.specs.Answer.{Profiled, Answerable, Answered}
 use Rattle.level_search.proofs.SearchLaws.{sumTo-none, sumTo-more}
@@ -74,18 +73,15 @@ module _ (p : Frame) (s t : ℕ) where
       over-inWindow _+_ 0 natSums p s t _ _ (λ x y h. one-more (level p x y) n (f x y))
       ∙ over-both _+_ 0 natSums p s t (λ x y. if ltb (level p x y) n then f x y else 0) (λ x y. if eqb (level p x y) n then f x y else 0)
 
+  -- the levels' own numbers add up to it
+  below-sum : (f : ℕ → ℕ → ℕ) (n : ℕ) → belowSum p s t f n ≡ sum (levelSum p s t f) 0 n
+  below-sum f zero = below-zero f ∙ sym (sum-none (levelSum p s t f))
+  below-sum f (suc n) = below-next f n ∙ ap (λ (k : ℕ). k + levelSum p s t f n) (below-sum f n) ∙ sym (sum-suc (levelSum p s t f) n)
+
   -- kind 2: the cumulative weight is linear in the two
-  pub below-linear : p .set .kind ≡ 2 → (n : ℕ)
-      → slope p s t *ℤ pos (belowSum p s t (guide p) n) +ℤ offset p s t *ℤ pos (belowSum p s t (λ x y. 1) n) ≡ cumulativeBelow p s t n
-  below-linear two zero =
-      rw (below-zero (guide p), below-zero (λ x y. 1)) (solve2 (λ c d. c ⊗ # 0 ⊕ d ⊗ # 0 ≐ # 0) refl (slope p s t) (offset p s t)) ∙ sym
-      (cumulativeBelow-zero p s t)
-  below-linear two (suc n) =
-      rw (below-next (guide p) n, below-next (λ x y. 1) n)
-      (solve6 (λ c d g f x y. c ⊗ (g ⊕ x) ⊕ d ⊗ (f ⊕ y) ≐ (c ⊗ g ⊕ d ⊗ f) ⊕ (c ⊗ x ⊕ d ⊗ y)) refl (slope p s t) (offset p s t)
-      (pos (belowSum p s t (guide p) n)) (pos (belowSum p s t (λ x y. 1) n)) (pos (levelSum p s t (guide p) n)) (pos (levelSum p s t (λ x y. 1) n)))
-      ∙ ap₂ (λ (a b : ℤ). a +ℤ b) (below-linear two n) (sym (level-linear p s t n two))
-      ∙ sym (cumulativeBelow-next p s t n) ∙ sym (cumulativeBelow-suc p s t n)
+  below-linear : p .set .kind ≡ 2 → (i : ℕ)
+      → slope p s t *ℤ pos (belowSum p s t (guide p) (suc i)) +ℤ offset p s t *ℤ pos (belowSum p s t (λ x y. 1) (suc i)) ≡ cumulative p s t i
+  below-linear two i = rw (below-sum (guide p) (suc i), below-sum (λ x y. 1) (suc i)) (sym (cumulative-linear p s t two i))
 
 -- ---- the window's counts and guide sums
 to-below : (p : Frame) (s t : ℕ) (f : ℕ → ℕ → ℕ) (xs : List ℕ) → ((i : ℕ) → i < p .set .levels → getD xs i 0 ≡ levelSum p s t f i)
@@ -123,8 +119,7 @@ module _ {p : Frame} {s t : ℕ} (q : Pixel p s t) {counts sums : List ℕ} (c :
     unfolding passes reachesHalf
     passes-is i h =
         let e : weightOf k (sumTo counts (suc i)) (sumTo sums (suc i)) ≡ cumulative p s t i =
-        rw (w .slope, w .offset, count-to (suc i) (omega arith), sum-to (suc i) (omega arith)) (below-linear p s t two (suc i)) ∙ cumulativeBelow-suc
-        p s t i in
+        rw (w .slope, w .offset, count-to (suc i) (omega arith), sum-to (suc i) (omega arith)) (below-linear p s t two i) in
         ap₂ (λ (a b : ℤ). leZ a (pos 2 *ℤ b)) (w .total) e
 
     pub median-is : firstLevel k counts sums ≡ median p s t
@@ -139,7 +134,7 @@ module _ {p : Frame} {s t : ℕ} (q : Pixel p s t) {counts sums : List ℕ} (c :
           before = λ j h. passes-is j (omega arith) ∙ m .before j h;
         })
 
-    pub searchable : CoefficientsSmall k → Searchable k counts sums
+    pub searchable : CoefficientsSmall k → ListsSearchable k counts sums
     searchable m = record { cells = level-cells; small = m; some = omega (arith, median-is, median-low q, c .count-long) }
 
     pub rising : monotone p s t ≡ true → Rising k counts sums

@@ -12,6 +12,7 @@ use lib.ListN.{length}
 use Rattle.spec.specs.Frame.{Frame, frameOf}
 use Rattle.spec.specs.Checks.{Planned}
 use Rattle.spec.proofs.Limits.{Pixel}
+use Rattle.spec.proofs.Bounds.{if-high}
 use Rattle.spec.proofs.Plans.{pixel-of}
 use Rattle.window.specs.declared.line.Step.{Step}
 use Rattle.window.specs.Line.{Adjacent, stepOf}
@@ -22,7 +23,7 @@ use Rattle.pixels.proofs.AdditiveLaws.{pixels-none, pixels-more, stepped}
 use Rattle.level_search.specs.declared.Tally.{Tally}
 use Rattle.levels.specs.Tally.{belowSum, BelowAt, oneBelow, guideBelow}
 use Rattle.levels.specs.ListTally.{ListTally, Carriable, CarriedBy, Carries}
-use Rattle.levels.proofs.TallyLaws.{if-le, below-count-high, below-guide-high}
+use Rattle.levels.proofs.TallyLaws.{below-count-high, below-guide-high}
 
 abbrev tally : ℕ → ℕ → Tally
 tally n s = record { count = n; sum = s }
@@ -41,9 +42,9 @@ module _ {p : List ℕ} (v : PixelsBelow 1024 256 p) (n : ℕ) {k : ℕ} (h : k 
     (ew : w ≡ (if ltb (levelIn p k) n then guideIn p k else 0)) where
   pub parts-small : (u ≤ 1) × (w ≤ 255)
   parts-small = (
-    le-trans (le-of-eq eu) (if-le (ltb (levelIn p k) n) 1),
+    le-trans (le-of-eq eu) (if-high (ltb (levelIn p k) n) 1 1 (omega arith)),
     le-trans (le-of-eq ew)
-        (le-trans (if-le (ltb (levelIn p k) n) (guideIn p k)) (omega (arith, v .guide k h))),
+        (if-high (ltb (levelIn p k) n) (guideIn p k) 255 (omega (arith, v .guide k h))),
   )
 
   pub tally-next : {c s : ℕ} → ListTally p n k (tally c s) → ListTally p n (k + 1) (tally (c + u) (s + w))

@@ -13,7 +13,7 @@ use Rattle.window.specs.declared.coefficients.Coefficients.{Coefficients}
 use Rattle.level_search.specs.declared.Tally.{Tally}
 use Rattle.level_search.specs.declared.search.Found.{Found}
 use Rattle.levels.specs.Tally.{BelowAt}
-use Rattle.level_search.specs.Search.{TallyTo, Searchable, Rising}
+use Rattle.level_search.specs.Search.{TallyTo, ListsSearchable, Rising}
 use Rattle.level_search.specs.Block.{EndsBelow, Heaviest}
 
 -- the two lists are those of the window at (s, t)
@@ -26,7 +26,7 @@ pub record Profiled (p : Frame) (s t : ℕ) (counts sums : List ℕ) : Type 0 wh
 -- what an answer asks, by the coefficients over so many guides: a search that ends, and what no pixel outweighs; from the cut point c of a
 -- monotone window also the tally of the levels up to it, and that the cumulative weight never falls
 pub record Answerable (coefficients : Coefficients) (guides : ℕ) (monotone : Bool) (c n : ℕ) (a : Tally) (counts sums : List ℕ) : Type 0 where
-  pub search : Searchable coefficients counts sums
+  pub search : ListsSearchable coefficients counts sums
   pub heaviest : (w : ℤ) → EndsBelow coefficients guides w → Heaviest coefficients counts sums w
   pub guides-some : 1 ≤ guides
   pub guides-high : guides ≤ 256

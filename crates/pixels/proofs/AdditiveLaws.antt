@@ -15,14 +15,14 @@ use Rattle.spec.specs.Base.{fold}
 use Rattle.spec.specs.Frame.{level, guide, frameOf}
 use Rattle.spec.specs.Checks.{Planned}
 use Rattle.spec.specs.Window.{span, over}
-use Rattle.spec.proofs.Ranges.{Sums, natSums, intSums}
+use Rattle.spec.proofs.Ranges.{AdditionLaws, natSums, intSums}
 use Rattle.spec.proofs.Sums.{sum-abs, sum-const}
 use Rattle.window.specs.declared.line.Line.{Line}
 use Rattle.window.specs.declared.line.Step.{Step}
 use Rattle.window.specs.Line.{columnLine, Adjacent, stepOf, lineFold}
 use Rattle.window.proofs.LineLaws.{fold-none, fold-more, columns-law, step-law}
 use Rattle.pixels.specs.Pixels.{countOf, levelIn, guideIn, pixelFoldTo, pixelFold, columnsFold, LinePixels}
-use Rattle.pixels.specs.Additive.{changed, changedℤ, Fits, PassedTo, Exchanged, Exchangeable, windowSum}
+use Rattle.pixels.specs.Additive.{changed, changedℤ, Fits, PassedTo, Exchanged, SharesExchangeable, windowSum}
 
 -- ---- a number that changes
 pub changed-none : (w : Bool) (a : ℕ) → changed w a 0 ≡ a
@@ -65,7 +65,7 @@ changed-abs false a n = abs-sub-le a n (le-refl (natAbs a)) (le-refl (natAbs n))
 module _ {A : Type 0} (_⊕_ : A → A → A) (o : A) (change : Bool → A → A → A) where
   infixl 6 _⊕_
   pub record Numbers : Type 0 where
-    pub sums : Sums _⊕_ o
+    pub sums : AdditionLaws _⊕_ o
     pub none : (w : Bool) (a : A) → change w a o ≡ a
     pub next : (w : Bool) (a m n : A) → change w (change w a m) n ≡ change w a (m ⊕ n)
     pub cancel : (a b n : A) → a ⊕ n ≡ b ⊕ n → a ≡ b
@@ -181,7 +181,7 @@ module _ {Q : Type 0} (share : Q → ℕ → ℕ → ℕ) where
       (fits-next limit w (c q) _ _ _ h (omega (arith, pixels-next _+_ 0 p (share q) k, upto p (share q) (suc k) (countOf p) l)))
 
   -- one list in, another out
-  module _ {limit : ℕ} {e l : List ℕ} {c : Q → ℕ} (x : Exchangeable share limit e l c) {c₁ : Q → ℕ}
+  module _ {limit : ℕ} {e l : List ℕ} {c : Q → ℕ} (x : SharesExchangeable share limit e l c) {c₁ : Q → ℕ}
       (g : PassedTo _+_ 0 share changed true e (countOf e) c c₁) where
     pub leave-fits : (q : Q) → Fits limit false (c₁ q) (pixelFold _+_ 0 l (share q))
     unfolding changed

@@ -12,7 +12,7 @@ use Rattle.ints.specs.Order.{eq-or-ne}
 use Rattle.spec.specs.declared.Plan.{Plan}
 use Rattle.spec.specs.Frame.{pixelLevel, pixelGuide}
 use Rattle.spec.specs.Checks.{Planned}
-use Rattle.spec.proofs.Ranges.{Sums, natSums, intSums, fold-same}
+use Rattle.spec.proofs.Ranges.{AdditionLaws, natSums, intSums, fold-same}
 use Rattle.window.specs.declared.line.Line.{Line}
 use Rattle.window.specs.declared.line.Step.{Step}
 use Rattle.window.specs.Line.{InPlanes, StepInPlanes, Adjacent, stepOf, pixelOf, lineFoldTo}
@@ -29,21 +29,21 @@ pub put-long : (p : List ℕ) (k i f : ℕ) → length (set (set p (2 * k) i) (2
 put-long p k i f = length-set (set p (2 * k) i) (2 * k + 1) f ∙ length-set p (2 * k) i
 
 -- the list has the line's first n pixels
-pub record Held (b : List ℕ) (d : Line) (n : ℕ) (p : List ℕ) : Type 0 where
+pub record ReadTo (b : List ℕ) (d : Line) (n : ℕ) (p : List ℕ) : Type 0 where
   pub long : 62 ≤ length p
   pub level : (k : ℕ) → k < n → levelIn p k ≡ pixelLevel b (pixelOf d k)
   pub guide : (k : ℕ) → k < n → guideIn p k ≡ pixelGuide b (pixelOf d k)
 
-pub held-none : (b : List ℕ) (d : Line) (p : List ℕ) → 62 ≤ length p → Held b d 0 p
-held-none b d p e = record { long = e; level = λ k h. absurd (omega arith); guide = λ k h. absurd (omega arith) }
+pub read-none : (b : List ℕ) (d : Line) (p : List ℕ) → 62 ≤ length p → ReadTo b d 0 p
+read-none b d p e = record { long = e; level = λ k h. absurd (omega arith); guide = λ k h. absurd (omega arith) }
 
-module _ {b : List ℕ} {d : Line} {k i f : ℕ} {p : List ℕ} (h : k < 31) (v : Held b d k p) (ei : i ≡ pixelLevel b (pixelOf d k))
+module _ {b : List ℕ} {d : Line} {k i f : ℕ} {p : List ℕ} (h : k < 31) (v : ReadTo b d k p) (ei : i ≡ pixelLevel b (pixelOf d k))
     (ef : f ≡ pixelGuide b (pixelOf d k)) where
   inside : 2 * k + 1 < length p
   inside = omega (arith, v .long)
 
-  pub held-next : Held b d (k + 1) (set (set p (2 * k) i) (2 * k + 1) f)
-  held-next = record {
+  pub read-next : ReadTo b d (k + 1) (set (set p (2 * k) i) (2 * k + 1) f)
+  read-next = record {
     long = rw (put-long p k i f) (v .long);
     level = λ j l. getD-set-other (set p (2 * k) i) (2 * k + 1) (2 * j) f 0 (λ e. absurd (omega arith))
         ∙ ⊎-elim (λ q. rw q (getD-set-same p (2 * k) i 0 (omega (arith, inside)) ∙ ei))
@@ -56,13 +56,13 @@ module _ {b : List ℕ} {d : Line} {k i f : ℕ} {p : List ℕ} (h : k < 31) (v 
   }
 
 -- every sum over the list is that over the line
-held-fold : {A : Type 0} (_⊕_ : A → A → A) (o : A) → Sums _⊕_ o → (b : List ℕ) (d : Line) (n : ℕ) (p : List ℕ)
+read-fold : {A : Type 0} (_⊕_ : A → A → A) (o : A) → AdditionLaws _⊕_ o → (b : List ℕ) (d : Line) (n : ℕ) (p : List ℕ)
     → ((k : ℕ) → k < n → levelIn p k ≡ pixelLevel b (pixelOf d k)) → ((k : ℕ) → k < n → guideIn p k ≡ pixelGuide b (pixelOf d k))
     → (h : ℕ → ℕ → A) → pixelFoldTo _⊕_ o p h n ≡ lineFoldTo _⊕_ o b d h n
 unfolding pixelFoldTo lineFoldTo
-held-fold _⊕_ o laws b d n p level guide h = fold-same _⊕_ o laws _ _ 0 _ (λ k x y. ap₂ h (level k (omega arith)) (guide k (omega arith)))
+read-fold _⊕_ o laws b d n p level guide h = fold-same _⊕_ o laws _ _ 0 _ (λ k x y. ap₂ h (level k (omega arith)) (guide k (omega arith)))
 
-module _ {b : List ℕ} {z : Plan} {d : Line} {p : List ℕ} (pl : Planned b z) (ins : InPlanes z d) (v : Held b d (d .count) p) where
+module _ {b : List ℕ} {z : Plan} {d : Line} {p : List ℕ} (pl : Planned b z) (ins : InPlanes z d) (v : ReadTo b d (d .count) p) where
   abbrev n : ℕ
   n = d .count
 
@@ -88,8 +88,8 @@ module _ {b : List ℕ} {z : Plan} {d : Line} {p : List ℕ} (pl : Planned b z) 
       level = λ k h. let l : k < n = omega (arith, many, h) in rw (level k l) (level-low pl (ins .inside k l));
       guide = λ k h. let l : k < n = omega (arith, many, h) in rw (guide k l) (guide-low pl (ins .inside k l));
     };
-    sum = λ h. ap (pixelFoldTo _+_ 0 part h) many ∙ held-fold _+_ 0 natSums b d n part level guide h;
-    sumℤ = λ h. ap (pixelFoldTo _+ℤ_ (pos 0) part h) many ∙ held-fold _+ℤ_ (pos 0) intSums b d n part level guide h;
+    sum = λ h. ap (pixelFoldTo _+_ 0 part h) many ∙ read-fold _+_ 0 natSums b d n part level guide h;
+    sumℤ = λ h. ap (pixelFoldTo _+ℤ_ (pos 0) part h) many ∙ read-fold _+ℤ_ (pos 0) intSums b d n part level guide h;
   }
 
 -- the part of the places that a line was read into

@@ -19,7 +19,7 @@ use Rattle.window.specs.Sums.{one, itself, squared, SumsAt}
 use Rattle.window.proofs.FormLaws.{both-in}
 use Rattle.window.proofs.PixelLaws.{guides-high, levels-high}
 use Rattle.pixels.specs.Pixels.{countOf, guideIn, PixelsBelow, LinePixels}
-use Rattle.pixels.specs.Sums.{ListSums, ColumnSums, Movable, Moved}
+use Rattle.pixels.specs.Sums.{ListSums, ColumnSums, MovableByLists, MovedByLists}
 use Rattle.pixels.proofs.AdditiveLaws.{pixels-none, pixels-more, columns-none, columns-more, columns-window, stepped}
 
 abbrev sums : ℕ → ℕ → ℕ → Sums
@@ -92,8 +92,8 @@ module _ {b : List ℕ} {z : Plan} {x t : ℕ} where
   }
 
 -- ---- one list in, another out
-pub exchanged : {e l : List ℕ} {a less more : Sums} → Movable e l a → ListSums l (countOf l) less → ListSums e (countOf e) more
-    → Moved e l a (sums (a .count + more .count - less .count) (a .sum + more .sum - less .sum) (a .squares + more .squares - less .squares))
+pub exchanged : {e l : List ℕ} {a less more : Sums} → MovableByLists e l a → ListSums l (countOf l) less → ListSums e (countOf e) more
+    → MovedByLists e l a (sums (a .count + more .count - less .count) (a .sum + more .sum - less .sum) (a .squares + more .squares - less .squares))
 exchanged m l e = record {
   count = omega (arith, m .count-enough, l .count, e .count);
   sum = omega (arith, m .sum-enough, l .sum, e .sum);
@@ -103,7 +103,7 @@ exchanged m l e = record {
 -- ---- a step of the window
 module _ {b : List ℕ} {z : Plan} (pl : Planned b z) {s t s′ t′ : ℕ} (adj : Adjacent z s t s′ t′) {d : Step} (ed : d ≡ stepOf z s t s′ t′)
     {e l : List ℕ} (re : LinePixels b z (d .entering) e) (rl : LinePixels b z (d .leaving) l) {a : Sums} (v : SumsAt (frameOf b) s t a) where
-  pub movable : Movable e l a
+  pub movable : MovableByLists e l a
   unfolding pixelCount guideSum squareSum
   movable =
       let k = pixel-of pl (both-in adj .0) (both-in adj .1) in
@@ -116,7 +116,7 @@ module _ {b : List ℕ} {z : Plan} (pl : Planned b z) {s t s′ t′ : ℕ} (adj
         squares-enough = omega (arith, stepped (λ (g : ℕ → ℕ → ℕ). g) pl adj ed re rl squared, v .squares);
       }
 
-  pub sums-moved : {r : Sums} → Moved e l a r → SumsAt (frameOf b) s′ t′ r
+  pub sums-moved : {r : Sums} → MovedByLists e l a r → SumsAt (frameOf b) s′ t′ r
   unfolding pixelCount guideSum squareSum
   sums-moved m = record {
     count = omega (arith, stepped (λ (g : ℕ → ℕ → ℕ). g) pl adj ed re rl one, v .count, m .count);

@@ -40,6 +40,6 @@ module _ {A : Type 0} (_⊕_ : A → A → A) (o : A) {Q : Type 0} (share : Q �
   windowSum p s t q = over _⊕_ o p s t (λ x y. share q (level p x y) (guide p x y))
 
 -- what an exchange asks of natural numbers: nothing overflows, and what leaves is there
-pub record Exchangeable {Q : Type 0} (share : Q → ℕ → ℕ → ℕ) (limit : ℕ) (e l : List ℕ) (c : Q → ℕ) : Type 0 where
+pub record SharesExchangeable {Q : Type 0} (share : Q → ℕ → ℕ → ℕ) (limit : ℕ) (e l : List ℕ) (c : Q → ℕ) : Type 0 where
   pub room : (q : Q) → c q + pixelFold _+_ 0 e (share q) < limit
   pub there : (q : Q) → pixelFold _+_ 0 l (share q) ≤ c q + pixelFold _+_ 0 e (share q)

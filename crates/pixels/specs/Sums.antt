@@ -27,7 +27,7 @@ pub record ColumnSums (b : List ℕ) (plan : Plan) (x t k : ℕ) (a : Sums) : Ty
   pub squares-high : a .squares ≤ 2015775 * k
 
 -- before a step: nothing overflows, and what leaves is there
-pub record Movable (e l : List ℕ) (a : Sums) : Type 0 where
+pub record MovableByLists (e l : List ℕ) (a : Sums) : Type 0 where
   pub count-high : a .count ≤ 961
   pub sum-high : a .sum ≤ 245055
   pub squares-high : a .squares ≤ 62489025
@@ -36,7 +36,7 @@ pub record Movable (e l : List ℕ) (a : Sums) : Type 0 where
   pub squares-enough : pixelFold _+_ 0 l squared ≤ a .squares + pixelFold _+_ 0 e squared
 
 -- after it
-pub record Moved (e l : List ℕ) (a r : Sums) : Type 0 where
+pub record MovedByLists (e l : List ℕ) (a r : Sums) : Type 0 where
   pub count : r .count + pixelFold _+_ 0 l one ≡ a .count + pixelFold _+_ 0 e one
   pub sum : r .sum + pixelFold _+_ 0 l itself ≡ a .sum + pixelFold _+_ 0 e itself
   pub squares : r .squares + pixelFold _+_ 0 l squared ≡ a .squares + pixelFold _+_ 0 e squared

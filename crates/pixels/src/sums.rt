@@ -10,7 +10,7 @@ ghost use Rattle.spec.specs.Checks.{Planned};
 ghost use Rattle.spec.specs.Frame.{frameOf};
 ghost use Rattle.window.specs.Sums.{SumsAt};
 ghost use Rattle.pixels.specs.Pixels.{countOf, PixelsBelow};
-ghost use Rattle.pixels.specs.Sums.{ListSums, Movable, Moved};
+ghost use Rattle.pixels.specs.Sums.{ListSums, MovableByLists, MovedByLists};
 
 // Of a list's pixels.
 pub fn list_sums(p: &[u16]) -> Sums
@@ -67,8 +67,8 @@ pub fn start(file: &[u8], plan: Plan, s: usize, t: usize) -> Sums
 // After a step.
 pub fn moved(a: Sums, entering: &[u16], leaving: &[u16]) -> Sums
     requires { ⌜ (PixelsBelow 1024 256 (now entering)) × (PixelsBelow 1024 256 (now leaving)) ⌝ }
-    requires { ⌜ Movable (now entering) (now leaving) a ⌝ }
-    ensures { λ r. ⌜ Moved (now (entering .entry)) (now (leaving .entry)) a r ⌝ }
+    requires { ⌜ MovableByLists (now entering) (now leaving) a ⌝ }
+    ensures { λ r. ⌜ MovedByLists (now (entering .entry)) (now (leaving .entry)) a r ⌝ }
 {
     let less = list_sums(leaving);
     let more = list_sums(entering);

@@ -10,7 +10,7 @@ ghost use Rattle.spec.specs.Refusal.{accepted};
 ghost use Rattle.spec.specs.Frame.{frameOf};
 ghost use Rattle.spec.specs.Filter.{filterEnd};
 ghost use Rattle.spec.specs.Program.{outputText};
-ghost use Rattle.text.specs.Text.{Room, Puts};
+ghost use Rattle.text.specs.Text.{TextRoom, Puts};
 ghost use Rattle.program_checks.specs.Admitted.{Admitted};
 ghost use Rattle.program.specs.Answer.{longest, Filterable, Filtered, guidedText};
 
@@ -45,7 +45,7 @@ fn put_guided(
     plane: &mut [u16; PIXELS],
 ) -> usize
     requires { ⌜ Admitted (now input) plan ⌝ }
-    requires { ⌜ Room (now out) at (guidedText (plan .kind) (filterEnd (frameOf (now input)) .shifts)) ⌝ }
+    requires { ⌜ TextRoom (now out) at (guidedText (plan .kind) (filterEnd (frameOf (now input)) .shifts)) ⌝ }
     ensures { λ r. ⌜ Puts (now (out .entry)) (now (out .exit)) at r (guidedText (plan .kind) (filterEnd (frameOf (now (input .entry))) .shifts)) ⌝ }
 {
     if plan.kind != 2 {

@@ -55,7 +55,8 @@ pub squareSum-high : {p : Frame} {s t : ℕ} → Pixel p s t → squareSum p s t
 unfolding squareSum
 squareSum-high {p} k = over-high k (λ x y. guide p x y * guide p x y) 65025 (λ x y h. mul-le-mul (guide-high k x y h) (guide-high k x y h))
 
-if-high : (b : Bool) (n B : ℕ) → n ≤ B → (if b then n else 0) ≤ B
+-- a number or 0
+pub if-high : (b : Bool) (n B : ℕ) → n ≤ B → (if b then n else 0) ≤ B
 if-high true n B h = h
 if-high false n B h = omega arith
 

@@ -59,12 +59,12 @@ unfolding frameOf
 pixel-of-call b s t ok e = let q = pixel-in (settingsOf b) s t e in record { good = limits-of b ok; in-column = q .0; in-row = q .1 }
 
 -- ---- check 11
-pub record Fits (need have : Room) : Type 0 where
+pub record RoomFits (need have : Room) : Type 0 where
   pub counts : need .counts ≤ have .counts
   pub words : need .words ≤ have .words
   pub numbers : need .numbers ≤ have .numbers
 
-pub fits-of : (need have : Room) → lacks need have ≡ false → Fits need have
+pub fits-of : (need have : Room) → lacks need have ≡ false → RoomFits need have
 unfolding lacks
 fits-of need have e =
     let c = ltb (have .counts) (need .counts) in
@@ -80,7 +80,7 @@ pub record WalkAccepted (b : List ℕ) (way s t n : ℕ) (have : Room) (out : �
   pub serves : badWay (settingsOf b) way ≡ false
   pub pixel : Pixel (frameOf b) s t
   pub moves : n ≤ 1048576
-  pub room : Fits (roomOf (wayOf way) (settingsOf b)) have
+  pub room : RoomFits (roomOf (wayOf way) (settingsOf b)) have
   pub answers : n + 1 ≤ out
 
 pub walk-accepted : (b : List ℕ) (way s t n : ℕ) (have : Room) (out : ℕ) → walkOutcome b way s t n have out ≡ accepted →
@@ -111,7 +111,7 @@ walk-accepted b way s t n have out e =
 pub record FilterAccepted (b : List ℕ) (way : ℕ) (have : Room) (out : ℕ) : Type 0 where
   pub file : verdict b ≡ accepted
   pub serves : badWay (settingsOf b) way ≡ false
-  pub room : Fits (roomOf (wayOf way) (settingsOf b)) have
+  pub room : RoomFits (roomOf (wayOf way) (settingsOf b)) have
   pub plane : pixels (settingsOf b) ≤ out
 
 pub filter-accepted : (b : List ℕ) (way : ℕ) (have : Room) (out : ℕ) → filterOutcome b way have out ≡ accepted → FilterAccepted b way have out

@@ -117,7 +117,7 @@ near at t e =
     record { value-long = v .0; value-in = v .1; guide-long = g .0; guide-in = g .1; table-long = a .0; table-in = a .1 }
 
 -- ---- what an accepted file has passed
-pub record Passed (b : List ℕ) : Type 0 where
+pub record FilePassed (b : List ℕ) : Type 0 where
   pub long : 28 ≤ length b
   pub settings : settingsOutcome (settingsOf b) ≡ accepted
   pub near : Near (trailerAt b) (trailerOf b)
@@ -129,7 +129,7 @@ pub mark-long : (b : List ℕ) → badMark b ≡ false → 28 ≤ length b
 unfolding badMark
 mark-long b e = ltb-false _ _ (neither _ _ e .0)
 
-pub passed : (b : List ℕ) → verdict b ≡ accepted → Passed b
+pub passed : (b : List ℕ) → verdict b ≡ accepted → FilePassed b
 unfolding verdict trailerOutcome contents
 passed b e =
     let m = refuse 1 (badMark b) in

@@ -11,7 +11,7 @@ use borrow.Author.Tests.{eq-eqb, ne-eqb}
 use Rattle.spec.specs.Base.{if_then_else_, indicator, fold, foldRect}
 use Rattle.spec.specs.Frame.{Frame, level, guide}
 use Rattle.spec.specs.Window.{span, over, count, inCell}
-use Rattle.spec.proofs.Ranges.{Sums, fold-none, fold-same, foldRect-turn}
+use Rattle.spec.proofs.Ranges.{AdditionLaws, fold-none, fold-same, foldRect-turn}
 
 module _ {A : Type 0} (_⊕_ : A → A → A) (z : A) where
   infixl 6 _⊕_
@@ -20,7 +20,7 @@ module _ {A : Type 0} (_⊕_ : A → A → A) (z : A) where
   times zero x = z
   times (suc n) x = times n x ⊕ x
 
-module _ {A : Type 0} (_⊕_ : A → A → A) (z : A) (laws : Sums _⊕_ z) where
+module _ {A : Type 0} (_⊕_ : A → A → A) (z : A) (laws : AdditionLaws _⊕_ z) where
   infixl 6 _⊕_
   pub times-add : (m n : ℕ) (x : A) → times _⊕_ z (m + n) x ≡ times _⊕_ z m x ⊕ times _⊕_ z n x
   unfolding times

@@ -10,8 +10,8 @@ use lib.ListN.{getD}
 use lib.IntN.{ℤ, pos, negsuc, _+ℤ_, _-ℤ_, _*ℤ_, +ℤ-idl, +ℤ-idr, zero-*ℤ, *ℤ-zero, sucℤ-*ℤ, *ℤ-comm}
 use borrow.Author.Tests.{eq-eqb, ne-eqb, le-leb, lt-leb}
 use Rattle.ints.specs.Ring.{mul-one}
-use Rattle.ints.specs.Polynomial.{_⊕_, _⊖_, _⊗_, opposite, #_, _≐_, solve1, solve5}
-use Rattle.spec.specs.Base.{if_then_else_, sumℤ}
+use Rattle.ints.specs.Polynomial.{_⊕_, _⊖_, _⊗_, opposite, #_, _≐_, solve1, solve5, solve6}
+use Rattle.spec.specs.Base.{if_then_else_, sum, sumℤ}
 use Rattle.spec.specs.declared.Settings.{Settings}
 use Rattle.spec.specs.Frame.{Frame, level, guide, table}
 use Rattle.spec.specs.Window.{Σℤ, pixelCount, guideSum, squareSum, count, InWindow}
@@ -19,10 +19,10 @@ use Rattle.spec.specs.Weight.{scaledVariance, guidedWeight, weight, vari
 use Rattle.spec.specs.Median.{totalWeight, cumulative, balance}
 use Rattle.spec.specs.Joint.{balanceBox}
 use Rattle.spec.specs.Window.{levelSum}
-use Rattle.spec.proofs.Ranges.{Sums, fold-same, intSums}
+use Rattle.spec.proofs.Ranges.{AdditionLaws, fold-same, intSums}
 use Rattle.spec.proofs.Histogram.{times, pick-inner, fold-pick, over-fold, over-count}
 use Rattle.spec.proofs.First.{getD-tabulate}
-use Rattle.spec.proofs.Sums.{over-inWindow, over-add, over-scale, over-pos}
+use Rattle.spec.proofs.Sums.{sum-none, sum-suc, over-inWindow, over-add, over-scale, over-pos}
 use Rattle.spec.specs.Checks.{SettingsLimits}
 use Rattle.spec.proofs.Limits.{FrameLimits, Pixel}
 
@@ -121,6 +121,25 @@ level-linear p s t i e =
     (over-pos p s t (λ x y. if eqb (level p x y) i then guide p x y else 0)))
     (over-scale p s t (offset p s t) (λ x y. pos (if eqb (level p x y) i then 1 else 0)) ∙ ap (λ (q : ℤ). offset p s t *ℤ q)
     (over-pos p s t (λ x y. if eqb (level p x y) i then 1 else 0)))
+
+-- so the cumulative weight is linear in the levels' guide sums and counts
+module _ (p : Frame) (s t : ℕ) (two : p .set .kind ≡ 2) where
+  abbrev sums : ℕ → ℕ
+  sums = levelSum p s t (guide p)
+
+  abbrev counts : ℕ → ℕ
+  counts = levelSum p s t (λ x y. 1)
+
+  pub cumulative-linear : (i : ℕ) → cumulative p s t i ≡ slope p s t *ℤ pos (sum sums 0 (suc i)) +ℤ offset p s t *ℤ pos (sum counts 0 (suc i))
+  cumulative-linear zero =
+      let g : sums 0 ≡ sum sums 0 1 = omega (arith, sum-suc sums 0, sum-none sums) in
+      let f : counts 0 ≡ sum counts 0 1 = omega (arith, sum-suc counts 0, sum-none counts) in
+      cumulative-zero p s t ∙ level-linear p s t 0 two ∙ ap₂ (λ (x y : ℕ). slope p s t *ℤ pos x +ℤ offset p s t *ℤ pos y) g f
+  cumulative-linear (suc i) =
+      cumulative-next p s t i ∙ ap₂ _+ℤ_ (cumulative-linear i) (level-linear p s t (suc i) two)
+      ∙ solve6 (λ c d g f x y. (c ⊗ g ⊕ d ⊗ f) ⊕ (c ⊗ x ⊕ d ⊗ y) ≐ c ⊗ (g ⊕ x) ⊕ d ⊗ (f ⊕ y)) refl (slope p s t) (offset p s t)
+      (pos (sum sums 0 (suc i))) (pos (sum counts 0 (suc i))) (pos (sums (suc i))) (pos (counts (suc i)))
+      ∙ sym (ap₂ (λ (x y : ℕ). slope p s t *ℤ pos x +ℤ offset p s t *ℤ pos y) (sum-suc sums (suc i)) (sum-suc counts (suc i)))
 
 -- ---- the balance by the box
 -- cell f of the box at the cut c

@@ -46,7 +46,7 @@ use Rattle.spec.specs.Checks.{
   verdict,
   SettingsLimits,
 }
-use Rattle.spec.proofs.Checks.{both-accepted, not-fired, neither, inside, scan-accepted, Passed, passed}
+use Rattle.spec.proofs.Checks.{both-accepted, not-fired, neither, inside, scan-accepted, FilePassed, passed}
 
 pub record FrameLimits (p : Frame) : Type 0 where
   pub sound : SettingsLimits (p .set)

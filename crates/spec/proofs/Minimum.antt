@@ -17,15 +17,14 @@ use Rattle.spec.specs.Base.{if_then_else_, distance}
 use Rattle.spec.specs.declared.Settings.{Settings}
 use Rattle.spec.specs.Frame.{Frame, level, guide}
 use Rattle.spec.specs.Weight.{weight}
-use Rattle.spec.specs.Median.{totalWeight, balance, weightless, median, answer, differences}
+use Rattle.spec.specs.Median.{totalWeight, balance, weightless, median, answer, differences, NoneNegative, NotAllZero}
 use Rattle.spec.proofs.Ranges.{intSums}
-use Rattle.spec.specs.Window.{InWindow}
 use Rattle.spec.proofs.Sums.{over-inWindow, over-add, over-termℤ}
 use Rattle.spec.specs.Checks.{SettingsLimits}
 use Rattle.spec.proofs.Limits.{FrameLimits, Pixel}
 use Rattle.spec.proofs.Levels.{balance-signed}
 use Rattle.spec.proofs.Totals.{median-at, median-before, weightless-total}
-use Rattle.spec.proofs.Monotone.{NoneNegative, balance-mono}
+use Rattle.spec.proofs.Monotone.{balance-mono}
 
 -- ---- from level to level the sum changes by the balance
 apart : (v i : ℕ) (w : ℤ) → w *ℤ pos (distance v (suc i)) ≡ w *ℤ pos (distance v i) +ℤ (if leb v i then pos 1 else negsuc 0) *ℤ w
@@ -93,9 +92,6 @@ least {p} {s} {t} k light i = go (decLt i (median p s t))
         subst (λ (n : ℕ). differences p s t (median p s t) ≤ℤ differences p s t n) e (rises k light (i - median p s t))
 
 -- ---- demand 3: none negative, and not all zero
-abbrev pub NotAllZero : Frame → ℕ → ℕ → Type 0
-NotAllZero p s t = ((x y : ℕ) → InWindow p s t x y → weight p s t (guide p x y) ≡ pos 0) → ⊥
-
 pub not-weightless : (p : Frame) (s t : ℕ) → NoneNegative p s t → NotAllZero p s t → weightless p s t ≡ false
 unfolding totalWeight
 not-weightless p s t light some = go (weightless p s t) refl

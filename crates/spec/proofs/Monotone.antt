@@ -19,7 +19,7 @@ use Rattle.spec.specs.declared.Settings.{Settings}
 use Rattle.spec.specs.Frame.{Frame, level, guide}
 use Rattle.spec.specs.Window.{pixelCount, inCell, count, InWindow}
 use Rattle.spec.specs.Weight.{weight, monotone, slope, offset}
-use Rattle.spec.specs.Median.{totalWeight, cumulative, balance, median}
+use Rattle.spec.specs.Median.{totalWeight, cumulative, balance, median, NoneNegative}
 use Rattle.spec.proofs.Ranges.{intSums}
 use Rattle.spec.proofs.Sums.{over-inWindow, over-add, over-scale, over-pos, over-nonneg, over-constantℤ}
 use Rattle.spec.proofs.Checks.{both}
@@ -27,10 +27,6 @@ use Rattle.spec.specs.Checks.{SettingsLimits}
 use Rattle.spec.proofs.Limits.{FrameLimits, Pixel}
 use Rattle.spec.proofs.Levels.{levelWeight, cumulative-zero, cumulative-next, weight-table, weight-linear, cell}
 use Rattle.spec.proofs.Totals.{nonNeg-le, median-at, median-before, median-is}
-
--- no pixel of the window weighs less than 0
-abbrev pub NoneNegative : Frame → ℕ → ℕ → Type 0
-NoneNegative p s t = (x y : ℕ) → InWindow p s t x y → pos 0 ≤ℤ weight p s t (guide p x y)
 
 -- ---- steady
 -- between two places where it is not negative, what is linear is not negative

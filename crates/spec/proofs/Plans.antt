@@ -34,7 +34,7 @@ use Rattle.spec.specs.Frame.{
   frameOf,
 }
 use Rattle.spec.specs.Checks.{verdict, Planned, SettingsLimits}
-use Rattle.spec.proofs.Checks.{Near, Passed, passed}
+use Rattle.spec.proofs.Checks.{Near, FilePassed, passed}
 use Rattle.spec.proofs.Limits.{FrameLimits, Pixel, limits-of}
 
 pub record Facts (b : List ℕ) (z : Plan) : Type 0 where

@@ -15,7 +15,7 @@ use Rattle.spec.specs.Window.{span, over, inColumn, inRow}
 
 module _ {A : Type 0} (_⊕_ : A → A → A) (z : A) where
   infixl 6 _⊕_
-  pub record Sums : Type 0 where
+  pub record AdditionLaws : Type 0 where
     pub idl : (x : A) → z ⊕ x ≡ x
     pub idr : (x : A) → x ⊕ z ≡ x
     pub assoc : (x y w : A) → (x ⊕ y) ⊕ w ≡ x ⊕ (y ⊕ w)
@@ -28,7 +28,7 @@ module _ {A : Type 0} (_⊕_ : A → A → A) (z : A) where
   unfoldable pub gained : (ℕ → A) → ℕ → ℕ → ℕ → A
   gained f r c size = if ltb (c + r + 1) size then f (c + r + 1) else z
 
-module _ {A : Type 0} (_⊕_ : A → A → A) (z : A) (laws : Sums _⊕_ z) where
+module _ {A : Type 0} (_⊕_ : A → A → A) (z : A) (laws : AdditionLaws _⊕_ z) where
   infixl 6 _⊕_
   -- at the left end
   pub fold-left : (f : ℕ → A) (a n : ℕ) → fold _⊕_ z f a (suc n) ≡ f a ⊕ fold _⊕_ z f (suc a) n
@@ -138,8 +138,8 @@ module _ {A : Type 0} (_⊕_ : A → A → A) (z : A) (laws : Sums _⊕_ z) wher
       (p .set .height) h
       ∙ ap (λ (q : A). q ⊕ gained _⊕_ z (inRow _⊕_ z p s f) (p .set .radius) t (p .set .height)) (sym (foldRect-turn f _ _ _ _))
 
-pub natSums : Sums _+_ 0
+pub natSums : AdditionLaws _+_ 0
 natSums = record { idl = zero-add; idr = add-zero; assoc = add-assoc; comm = add-comm }
 
-pub intSums : Sums _+ℤ_ (pos 0)
+pub intSums : AdditionLaws _+ℤ_ (pos 0)
 intSums = record { idl = +ℤ-idl; idr = +ℤ-idr; assoc = +ℤ-assoc; comm = +ℤ-comm }

@@ -3,7 +3,7 @@
 use mathlib.Core.Path.{_≡_, refl, sym, ap, _∙_, subst}
 use mathlib.Core.Logic.{_⊎_, inl, inr}
 use Prim.Native.Nat.{ℕ, zero, suc, _+_, _-_, _*_, _≤_, _<_}
-use native.Mathlib.Nat.{le-trans}
+use native.Mathlib.Nat.{le-trans, zero-add}
 use native.Mathlib.Omega.{arith}
 use lib.IntN.{ℤ, pos, natAbs, _+ℤ_, _*ℤ_, *ℤ-zero}
 use lib.Signed.{_≤ℤ_, ≤ℤ-refl}
@@ -15,9 +15,17 @@ use Rattle.spec.specs.Base.{fold, foldRect, sum, sumℤ}
 use Rattle.spec.specs.declared.Settings.{Settings}
 use Rattle.spec.specs.Frame.{Frame}
 use Rattle.spec.specs.Window.{span, over, Σ, Σℤ, pixelCount, InWindow}
-use Rattle.spec.proofs.Ranges.{Sums, fold-both, fold-same, natSums, intSums}
+use Rattle.spec.proofs.Ranges.{AdditionLaws, fold-both, fold-same, natSums, intSums}
 
 -- ---- ranges
+pub sum-none : (f : ℕ → ℕ) → sum f 0 0 ≡ 0
+unfolding fold
+sum-none f = refl
+
+pub sum-suc : (f : ℕ → ℕ) (n : ℕ) → sum f 0 (suc n) ≡ sum f 0 n + f n
+unfolding fold
+sum-suc f n = ap (λ (k : ℕ). sum f 0 n + f k) (zero-add n)
+
 pub sum-scale : (c : ℤ) (f : ℕ → ℤ) (a n : ℕ) → sumℤ (λ k. c *ℤ f k) a n ≡ c *ℤ sumℤ f a n
 unfolding fold
 sum-scale c f a zero = sym (*ℤ-zero c)
@@ -97,7 +105,7 @@ unfolding span
 inWindow-bottom h = omega arith
 
 -- ---- the same over the window
-module _ {A : Type 0} (_⊕_ : A → A → A) (z : A) (laws : Sums _⊕_ z) (p : Frame) (s t : ℕ) where
+module _ {A : Type 0} (_⊕_ : A → A → A) (z : A) (laws : AdditionLaws _⊕_ z) (p : Frame) (s t : ℕ) where
   infixl 6 _⊕_
   pub over-inWindow : (f g : ℕ → ℕ → A) → ((x y : ℕ) → InWindow p s t x y → f x y ≡ g x y) → over _⊕_ z p s t f ≡ over _⊕_ z p s t g
   unfolding over foldRect

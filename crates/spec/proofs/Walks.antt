@@ -104,7 +104,7 @@ unfolding step follow
 step-nowhere p x b m e = rw e refl
 
 -- ---- the walk's state: inside the picture, its cut a level, its shift count at most 1,023 for each window
-pub record Held (p : Frame) (x : State) (n : ℕ) : Type 0 where
+pub record StateBounded (p : Frame) (x : State) (n : ℕ) : Type 0 where
   pub good : FrameLimits p
   pub in-column : x .column < p .set .width
   pub in-row : x .row < p .set .height
@@ -115,8 +115,8 @@ shift-low : (b : Bool) (m c l : ℕ) → m < l → c < l → l ≤ 1024 → (if 
 shift-low true m c l h k z = omega arith
 shift-low false m c l h k z = omega arith
 
-pub held-arrive : {p : Frame} {s t : ℕ} → Pixel p s t → (c n k : ℕ) → c < p .set .levels → n ≤ k * 1023 → Held p (arrive p s t c n) (suc k)
-held-arrive {p} {s} {t} w c n k hc hn =
+pub bounded-arrive : {p : Frame} {s t : ℕ} → Pixel p s t → (c n k : ℕ) → c < p .set .levels → n ≤ k * 1023 → StateBounded p (arrive p s t c n) (suc k)
+bounded-arrive {p} {s} {t} w c n k hc hn =
     record {
       good = w .good;
       in-column = rw arrive-column (w .in-column);
@@ -135,24 +135,24 @@ held-arrive {p} {s} {t} w c n k hc hn =
         rw (arrive-full p s t c n e)
         (let q = shift-low (monotone p s t) (median p s t) c (p .set .levels) (median-low w) hc (w .good .sound .levels-high) in omega (arith, q))
 
-pub held-start : {p : Frame} {s t : ℕ} → Pixel p s t → Held p (arrive p s t 0 0) 1
-held-start w = held-arrive w 0 0 0 (omega (arith, w .good .sound .levels-low)) (omega arith)
+pub bounded-start : {p : Frame} {s t : ℕ} → Pixel p s t → StateBounded p (arrive p s t 0 0) 1
+bounded-start w = bounded-arrive w 0 0 0 (omega (arith, w .good .sound .levels-low)) (omega arith)
 
-pub held-step : {p : Frame} {x : State} {n : ℕ} → Held p x n → (b : ℕ) → Held p (step p x b) (suc n)
-held-step {p} {x} {n} h b = go (move (p .set) (x .column) (x .row) b) refl (move-fine (p .set) (x .column) (x .row) b (h .in-column) (h .in-row))
+pub bounded-step : {p : Frame} {x : State} {n : ℕ} → StateBounded p x n → (b : ℕ) → StateBounded p (step p x b) (suc n)
+bounded-step {p} {x} {n} h b = go (move (p .set) (x .column) (x .row) b) refl (move-fine (p .set) (x .column) (x .row) b (h .in-column) (h .in-row))
   where
-    go : (m : Move) → move (p .set) (x .column) (x .row) b ≡ m → Fine (p .set) b m → Held p (step p x b) (suc n)
+    go : (m : Move) → move (p .set) (x .column) (x .row) b ≡ m → Fine (p .set) b m → StateBounded p (step p x b) (suc n)
     go (To s t) e f =
-        subst (λ (y : State). Held p y (suc n)) (sym (step-to p x b s t e))
-        (held-arrive (record { good = h .good; in-column = f .0; in-row = f .1 }) (x .cut) (x .shifts) n (h .cut-low) (h .shifts-low))
+        subst (λ (y : State). StateBounded p y (suc n)) (sym (step-to p x b s t e))
+        (bounded-arrive (record { good = h .good; in-column = f .0; in-row = f .1 }) (x .cut) (x .shifts) n (h .cut-low) (h .shifts-low))
     go (Nowhere m) e f =
-        subst (λ (y : State). Held p y (suc n)) (sym (step-nowhere p x b m e))
+        subst (λ (y : State). StateBounded p y (suc n)) (sym (step-nowhere p x b m e))
         (record { good = h .good; in-column = h .in-column; in-row = h .in-row; cut-low = h .cut-low; shifts-low = omega (arith, h .shifts-low) })
 
-pub held-after : {p : Frame} {x : State} {n : ℕ} → Held p x n → (bs : List ℕ) → Held p (after p x bs) (n + length bs)
+pub bounded-after : {p : Frame} {x : State} {n : ℕ} → StateBounded p x n → (bs : List ℕ) → StateBounded p (after p x bs) (n + length bs)
 unfolding after
-held-after {p} {x} {n} h [] = let e : n + 0 ≡ n = omega arith in rw e h
-held-after {p} {x} {n} h (b ∷ bs) = let e : n + suc (length bs) ≡ suc n + length bs = omega arith in rw e (held-after (held-step h b) bs)
+bounded-after {p} {x} {n} h [] = let e : n + 0 ≡ n = omega arith in rw e h
+bounded-after {p} {x} {n} h (b ∷ bs) = let e : n + suc (length bs) ≡ suc n + length bs = omega arith in rw e (bounded-after (bounded-step h b) bs)
 
 -- ---- what a byte's answer says
 pub step-level : (p : Frame) (x : State) (b s t : ℕ) → move (p .set) (x .column) (x .row) b ≡ To s t → step p x b .answer ≡ answer p s t
@@ -166,7 +166,7 @@ abbrev pub Told : Frame → State → ℕ → Move → Type 0
 Told p x b (To s t) = (step p x b .answer ≡ answer p s t) × (answer p s t < 1024) × (s < p .set .width) × (t < p .set .height) × (b ≤ 3)
 Told p x b (Nowhere m) = ((step p x b .answer ≡ 65534) × (b ≤ 3)) ⊎ ((step p x b .answer ≡ 65533) × (3 < b))
 
-pub told : {p : Frame} {x : State} {n : ℕ} → Held p x n → (b : ℕ) → Told p x b (move (p .set) (x .column) (x .row) b)
+pub told : {p : Frame} {x : State} {n : ℕ} → StateBounded p x n → (b : ℕ) → Told p x b (move (p .set) (x .column) (x .row) b)
 told {p} {x} {n} h b = go (move (p .set) (x .column) (x .row) b) refl (move-fine (p .set) (x .column) (x .row) b (h .in-column) (h .in-row))
   where
     go : (m : Move) → move (p .set) (x .column) (x .row) b ≡ m → Fine (p .set) b m → Told p x b m
@@ -193,7 +193,7 @@ apart-moves {A} {s} {t} {m} e = absurd (subst (λ (q : Move). Is q) e tt)
     Is (To s t) = Unit {0}
     Is (Nowhere m) = ⊥
 
-pub marks : {p : Frame} {x : State} {n : ℕ} → Held p x n → (b : ℕ) → Marks p x b
+pub marks : {p : Frame} {x : State} {n : ℕ} → StateBounded p x n → (b : ℕ) → Marks p x b
 marks {p} {x} {n} h b =
     go (move (p .set) (x .column) (x .row) b) refl (told h b) (move-fine (p .set) (x .column) (x .row) b (h .in-column) (h .in-row))
   where
@@ -240,9 +240,9 @@ pub walk-next : (p : Frame) (s t : ℕ) (bs : List ℕ) (j : ℕ) → j < length
 unfolding walkAnswers walkEnd
 walk-next p s t bs j h = answers-next p (arrive p s t 0 0) bs j h
 
-pub walk-held : {p : Frame} {s t : ℕ} → Pixel p s t → (bs : List ℕ) → Held p (walkEnd p s t bs) (1 + length bs)
+pub walk-bounded : {p : Frame} {s t : ℕ} → Pixel p s t → (bs : List ℕ) → StateBounded p (walkEnd p s t bs) (1 + length bs)
 unfolding walkEnd
-walk-held w bs = held-after (held-start w) bs
+walk-bounded w bs = bounded-after (bounded-start w) bs
 
 pub walk-length : (p : Frame) (s t : ℕ) (bs : List ℕ) → length (walkAnswers p s t bs) ≡ suc (length bs)
 unfolding walkAnswers

@@ -16,6 +16,10 @@ abbrev pub indicator : Bool → ℕ
 indicator true = 1
 indicator false = 0
 
+-- n where the test passes, else 0
+abbrev pub when : Bool → ℕ → ℕ
+when b n = if b then n else 0
+
 -- the size of a − b
 abbrev pub distance : ℕ → ℕ → ℕ
 distance a b = (a - b) + (b - a)

@@ -2,13 +2,14 @@
 -- Assumes nothing.
 use Prim.Native.Nat.{ℕ}
 use mathlib.Core.Bool.{Bool, false}
+use mathlib.Core.Path.{_≡_}
 use lib.Dec.{leb, eqb}
 use lib.IntN.{ℤ, pos, negsuc, _-ℤ_, _*ℤ_}
-use lib.Signed.{leZ}
+use lib.Signed.{leZ, _≤ℤ_}
 use Rattle.spec.specs.declared.Settings.{Settings}
 use Rattle.spec.specs.Base.{if_then_else_, distance, first}
 use Rattle.spec.specs.Frame.{Frame, level, guide}
-use Rattle.spec.specs.Window.{Σℤ}
+use Rattle.spec.specs.Window.{Σℤ, InWindow}
 use Rattle.spec.specs.Weight.{weight}
 
 -- document 01: T
@@ -40,3 +41,10 @@ answer p s t = if weightless p s t then level p s t else median p s t
 -- the weighted sum of absolute differences of level i
 unfoldable pub differences : Frame → ℕ → ℕ → ℕ → ℤ
 differences p s t i = Σℤ p s t (λ x y. weight p s t (guide p x y) *ℤ pos (distance (level p x y) i))
+
+-- demand 3's condition on the window at (s, t): no weight of its pixels is negative, and not all are 0
+abbrev pub NoneNegative : Frame → ℕ → ℕ → Type 0
+NoneNegative p s t = (x y : ℕ) → InWindow p s t x y → pos 0 ≤ℤ weight p s t (guide p x y)
+
+abbrev pub NotAllZero : Frame → ℕ → ℕ → Type 0
+NotAllZero p s t = ((x y : ℕ) → InWindow p s t x y → weight p s t (guide p x y) ≡ pos 0) → ⊥

@@ -9,7 +9,7 @@ use native.Mathlib.Omega.{arith}
 use lib.ListN.{length, getD, take, drop, set, length-append}
 use lib.Seq.{sets, length-sets, sets-eq, take-suc}
 use Rattle.spec.proofs.Lists.{sets-append}
-use Rattle.text.specs.Text.{Room, Puts, pieces}
+use Rattle.text.specs.Text.{TextRoom, Puts, pieces}
 
 -- no text, and one text behind another
 pub none : (l : List ℕ) (at : ℕ) → Puts l l at at []
@@ -30,10 +30,10 @@ pub called : {l m : List ℕ} {at q : ℕ} {s t : List ℕ} → s ≡ t → Puts
 called {l} {m} {at} {q} e a = record { stored = a .stored ∙ ap (sets l at) e; behind = a .behind ∙ ap (λ (x : List ℕ). at + length x) e }
 
 -- ---- room: for the first of two texts, and for the second behind it
-pub room-first : (l : List ℕ) (at : ℕ) (s t : List ℕ) → Room l at (s ++ t) → Room l at s
+pub room-first : (l : List ℕ) (at : ℕ) (s t : List ℕ) → TextRoom l at (s ++ t) → TextRoom l at s
 room-first l at s t h = let e = length-append s t in omega arith
 
-pub room-next : {l m : List ℕ} {at q : ℕ} {s : List ℕ} (t : List ℕ) → Room l at (s ++ t) → Puts l m at q s → Room m q t
+pub room-next : {l m : List ℕ} {at q : ℕ} {s : List ℕ} (t : List ℕ) → TextRoom l at (s ++ t) → Puts l m at q s → TextRoom m q t
 room-next {l} {m} {at} {q} {s} t h a =
     let e = length-append s t in
     let n : length m ≡ length l = as-long a in
@@ -52,7 +52,8 @@ pieces-grow f k (suc n) =
     let h = pieces-grow f k n in
     rw (e, pieces-next f (k + n), length-append (pieces f (k + n)) (f (k + n))) (omega arith)
 
-pub room-piece : {l m : List ℕ} {at q : ℕ} (f : ℕ → List ℕ) (k n : ℕ) → k < n → Room l at (pieces f n) → Puts l m at q (pieces f k) → Room m q (f k)
+pub room-piece : {l m : List ℕ} {at q : ℕ} (f : ℕ → List ℕ) (k n : ℕ) → k < n → TextRoom l at (pieces f n) → Puts l m at q (pieces f k) →
+    TextRoom m q (f k)
 room-piece {l} {m} {at} {q} f k n h room a =
     let e : suc k + (n - suc k) ≡ n = omega arith in
     let g : length (pieces f (suc k)) ≤ length (pieces f n) = rw e at (pieces-grow f (suc k) (n - suc k)) in
@@ -78,16 +79,17 @@ joined-byte {l} {m} {at} {k} w h a =
     record { stored = p .stored; behind = sym n ∙ p .behind }
 
 -- ---- a line of two texts: the room for each, and for the end of the line
-pub room-line : (l : List ℕ) (at : ℕ) (s t : List ℕ) → Room l at (s ++ t ++ (10 ∷ [])) → Room l at s
+pub room-line : (l : List ℕ) (at : ℕ) (s t : List ℕ) → TextRoom l at (s ++ t ++ (10 ∷ [])) → TextRoom l at s
 room-line l at s t h = room-first l at s t (room-first l at (s ++ t) (10 ∷ []) h)
 
-pub room-second : {l m : List ℕ} {at q : ℕ} {s : List ℕ} (t : List ℕ) → Room l at (s ++ t ++ (10 ∷ [])) → Puts l m at q s → Room m q t
+pub room-second : {l m : List ℕ} {at q : ℕ} {s : List ℕ} (t : List ℕ) → TextRoom l at (s ++ t ++ (10 ∷ [])) → Puts l m at q s → TextRoom m q t
 room-second {l} {m} {at} {q} {s} t h a = room-next t (room-first l at (s ++ t) (10 ∷ []) h) a
 
-pub room-end : {l m o : List ℕ} {at q r : ℕ} {s t : List ℕ} → Room l at (s ++ t ++ (10 ∷ [])) → Puts l m at q s → Puts m o q r t → Room o r (10 ∷ [])
+pub room-end : {l m o : List ℕ} {at q r : ℕ} {s t : List ℕ} → TextRoom l at (s ++ t ++ (10 ∷ [])) → Puts l m at q s → Puts m o q r t →
+    TextRoom o r (10 ∷ [])
 room-end h a b = room-next (10 ∷ []) h (joined a b)
 
 -- ---- a text from the buffer's first byte on
-pub from-start : {l m : List ℕ} {q : ℕ} {s : List ℕ} → Room l 0 s → Puts l m 0 q s → (q ≡ length s) × (m ≡ s ++ drop (length s) l)
+pub from-start : {l m : List ℕ} {q : ℕ} {s : List ℕ} → TextRoom l 0 s → Puts l m 0 q s → (q ≡ length s) × (m ≡ s ++ drop (length s) l)
 from-start {l} {m} {q} {s} h a =
     (a .behind ∙ zero-add (length s), a .stored ∙ sets-eq s l 0 h ∙ ap (λ (j : ℕ). s ++ drop j l) (zero-add (length s)))

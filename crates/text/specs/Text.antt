@@ -10,8 +10,8 @@ use Rattle.spec.specs.Base.{if_then_else_}
 use Rattle.spec.specs.Program.{decimal, spaced, line, refusedWord, beside}
 
 -- a buffer l has room for a text from a place on
-abbrev pub Room : List ℕ → ℕ → List ℕ → Type 0
-Room l at text = at + length text ≤ length l
+abbrev pub TextRoom : List ℕ → ℕ → List ℕ → Type 0
+TextRoom l at text = at + length text ≤ length l
 
 -- the buffer l has become m: the text stands in it from a place on, the rest is as it was; and q is the place behind the text
 pub record Puts (l m : List ℕ) (at q : ℕ) (text : List ℕ) : Type 0 where

@@ -5,11 +5,11 @@ ghost use mathlib.Core.List.{[], _∷_};
 ghost use Prim.Native.Nat.{_+_, _*_, _<_, _≤_};
 ghost use lib.ListN.{length};
 ghost use Rattle.spec.specs.Program.{decimal};
-ghost use Rattle.text.specs.Text.{Room, Puts, pieces, spacedOne, follower, rowText, planeText, sizeText, wayText, refusalText};
+ghost use Rattle.text.specs.Text.{TextRoom, Puts, pieces, spacedOne, follower, rowText, planeText, sizeText, wayText, refusalText};
 
 // One byte.
 pub fn put_byte(out: &mut [u8], at: usize, b: u8) -> usize
-    requires { ⌜ Room (now out) at (b ∷ []) ⌝ }
+    requires { ⌜ TextRoom (now out) at (b ∷ []) ⌝ }
     ensures { λ r. ⌜ Puts (now (out .entry)) (now (out .exit)) at r (b ∷ []) ⌝ }
 {
     out[at] = b;
@@ -18,7 +18,7 @@ pub fn put_byte(out: &mut [u8], at: usize, b: u8) -> usize
 
 // The bytes of a word.
 pub fn put_word(out: &mut [u8], at: usize, word: &[u8]) -> usize
-    requires { ⌜ Room (now out) at (now word) ⌝ }
+    requires { ⌜ TextRoom (now out) at (now word) ⌝ }
     ensures { λ r. ⌜ Puts (now (out .entry)) (now (out .exit)) at r (now (word .entry)) ⌝ }
 {
     let mut k = 0;
@@ -31,7 +31,7 @@ pub fn put_word(out: &mut [u8], at: usize, word: &[u8]) -> usize
 
 // A number in decimal: the digits before the last one by the same function, which needs no array of its own.
 pub fn put_decimal(out: &mut [u8], at: usize, n: u64) -> usize
-    requires { ⌜ Room (now out) at (decimal n) ⌝ }
+    requires { ⌜ TextRoom (now out) at (decimal n) ⌝ }
     ensures { λ r. ⌜ Puts (now (out .entry)) (now (out .exit)) at r (decimal n) ⌝ }
 {
     let last = (48 + n % 10) as u8;
@@ -44,7 +44,7 @@ pub fn put_decimal(out: &mut [u8], at: usize, n: u64) -> usize
 
 // A number behind another in a line.
 pub fn put_spaced(out: &mut [u8], at: usize, n: u64) -> usize
-    requires { ⌜ Room (now out) at (spacedOne n) ⌝ }
+    requires { ⌜ TextRoom (now out) at (spacedOne n) ⌝ }
     ensures { λ r. ⌜ Puts (now (out .entry)) (now (out .exit)) at r (spacedOne n) ⌝ }
 {
     let next = put_byte(out, at, 32);
@@ -54,7 +54,7 @@ pub fn put_spaced(out: &mut [u8], at: usize, n: u64) -> usize
 // The n levels that follow the one at a place of a plane.
 fn put_followers(out: &mut [u8], at: usize, plane: &[u16], first: usize, n: usize) -> usize
     requires { ⌜ first + (n + 1) ≤ length (now plane) ⌝ }
-    requires { ⌜ Room (now out) at (pieces (follower (now plane) first) n) ⌝ }
+    requires { ⌜ TextRoom (now out) at (pieces (follower (now plane) first) n) ⌝ }
     ensures { λ r. ⌜ Puts (now (out .entry)) (now (out .exit)) at r (pieces (follower (now (plane .entry)) first) n) ⌝ }
 {
     let mut next = at;
@@ -69,7 +69,7 @@ fn put_followers(out: &mut [u8], at: usize, plane: &[u16], first: usize, n: usiz
 // A row of a plane: its levels, and the end of the line.
 pub fn put_row(out: &mut [u8], at: usize, plane: &[u16], first: usize, width: usize) -> usize
     requires { ⌜ (1 ≤ width) × (first + width ≤ length (now plane)) ⌝ }
-    requires { ⌜ Room (now out) at (rowText (now plane) first width) ⌝ }
+    requires { ⌜ TextRoom (now out) at (rowText (now plane) first width) ⌝ }
     ensures { λ r. ⌜ Puts (now (out .entry)) (now (out .exit)) at r (rowText (now (plane .entry)) first width) ⌝ }
 {
     let second = put_decimal(out, at, plane[first] as u64);
@@ -80,7 +80,7 @@ pub fn put_row(out: &mut [u8], at: usize, plane: &[u16], first: usize, width: us
 // The rows of a plane.
 pub fn put_rows(out: &mut [u8], at: usize, plane: &[u16], width: usize, height: usize) -> usize
     requires { ⌜ (1 ≤ width) × (height * width ≤ length (now plane)) ⌝ }
-    requires { ⌜ Room (now out) at (planeText (now plane) width height) ⌝ }
+    requires { ⌜ TextRoom (now out) at (planeText (now plane) width height) ⌝ }
     ensures { λ r. ⌜ Puts (now (out .entry)) (now (out .exit)) at r (planeText (now (plane .entry)) width height) ⌝ }
 {
     let mut next = at;
@@ -94,7 +94,7 @@ pub fn put_rows(out: &mut [u8], at: usize, plane: &[u16], width: usize, height: 
 
 // The first line: width and height.
 pub fn put_size(out: &mut [u8], at: usize, width: u64, height: u64) -> usize
-    requires { ⌜ Room (now out) at (sizeText width height) ⌝ }
+    requires { ⌜ TextRoom (now out) at (sizeText width height) ⌝ }
     ensures { λ r. ⌜ Puts (now (out .entry)) (now (out .exit)) at r (sizeText width height) ⌝ }
 {
     let second = put_decimal(out, at, width);
@@ -104,7 +104,7 @@ pub fn put_size(out: &mut [u8], at: usize, width: u64, height: u64) -> usize
 
 // A way's word, which ends with a space, and its shift count.
 pub fn put_way(out: &mut [u8], at: usize, word: &[u8], shifts: u64) -> usize
-    requires { ⌜ Room (now out) at (wayText (now word) shifts) ⌝ }
+    requires { ⌜ TextRoom (now out) at (wayText (now word) shifts) ⌝ }
     ensures { λ r. ⌜ Puts (now (out .entry)) (now (out .exit)) at r (wayText (now (word .entry)) shifts) ⌝ }
 {
     let second = put_word(out, at, word);
@@ -114,7 +114,7 @@ pub fn put_way(out: &mut [u8], at: usize, word: &[u8], shifts: u64) -> usize
 
 // A refusal by its number; 7 with its offset.
 pub fn put_refusal(out: &mut [u8], at: usize, number: u8, offset: usize) -> usize
-    requires { ⌜ Room (now out) at (refusalText number offset) ⌝ }
+    requires { ⌜ TextRoom (now out) at (refusalText number offset) ⌝ }
     ensures { λ r. ⌜ Puts (now (out .entry)) (now (out .exit)) at r (refusalText number offset) ⌝ }
 {
     let second = put_word(out, at, b"refused ");

@@ -31,7 +31,7 @@ use Rattle.visit.specs.declared.Visit.{Visit}
 use Rattle.visit.specs.Visit.{Within}
 use Rattle.columns_visit.specs.Visit.{ColumnsAt, ColumnsVisited}
 use Rattle.chain_visit.specs.Visit.{ChainAt, ChainVisited}
-use Rattle.ways.specs.Visit.{Stores, stores, KeptBeyond, Fit, Carried, Serves, AtWindow, Visited}
+use Rattle.ways.specs.Visit.{Stores, stores, KeptBeyond, Fit, WayCarries, Serves, AtWindow, Visited}
 
 -- the plan's settings are the file's
 pub settings-same : {b : List ℕ} {z : Plan} → Planned b z → settingsIn z ≡ frameOf b .set
@@ -107,7 +107,7 @@ module _ (way : Way) {b : List ℕ} {z : Plan} (k : Planned b z) (cs ws ns : Lis
         →
         Held b z (v .column) (v .row) (v .cut .0) cs ws d × joint.GuidedCarried (frameOf b) (v .column) (v .row) (v .cut .0) (v .running .sums)
         (v .running .below) hs
-    unfolding roomOf countsOf wordsOf boxOf Carried
+    unfolding roomOf countsOf wordsOf boxOf WayCarries
     joint-at e h w =
         let g : AtWindow Joint b (stores cs ws ns) hs d v = rw e at h in (
           record {
@@ -117,7 +117,7 @@ module _ (way : Way) {b : List ℕ} {z : Plan} (k : Planned b z) (cs ws ns : Lis
             joint = record {
               counts = joined (roomOf Joint (frameOf b .set) .counts) (jointCounts (frameOf b) (v .column) (v .row)) cs (g .holds .counts);
               words = joined (roomOf Joint (frameOf b .set) .words) (occupancyWords (frameOf b) (v .column) (v .row)) ws (g .holds .words);
-              box = g .holds .cells;
+              box = g .holds .balance-box;
             };
           },
           g .carried,
@@ -125,7 +125,7 @@ module _ (way : Way) {b : List ℕ} {z : Plan} (k : Planned b z) (cs ws ns : Lis
 
     pub joint-visited : (x : State) (cs′ ws′ : List ℕ) → way ≡ Joint → joint.JointVisited (frameOf b) x v cs ws cs′ ws′ d hs
         → Visited way b x (stores cs ws ns) (stores cs′ ws′ ns) hs d v
-    unfolding roomOf countsOf wordsOf NumbersOf boxOf Carried jointCounts occupancyWords
+    unfolding roomOf countsOf wordsOf NumbersOf boxOf WayCarries jointCounts occupancyWords
     joint-visited x cs′ ws′ e h =
         let p = frameOf b in
         let s = v .column in
@@ -142,7 +142,7 @@ module _ (way : Way) {b : List ℕ} {z : Plan} (k : Planned b z) (cs ws ns : Lis
               counts = front-of (p .set .levels * p .set .guides) (jointCounts p s t) cs cs′ cells (h .joint .counts);
               words = front-of (p .set .levels * wordsPerLevel (p .set)) (occupancyWords p s t) ws ws′ words (h .joint .words);
               numbers = tt;
-              cells = h .joint .box;
+              balance-box = h .joint .box;
             };
             carried = h .carried;
           };
@@ -154,20 +154,21 @@ module _ (way : Way) {b : List ℕ} {z : Plan} (k : Planned b z) (cs ws ns : Lis
         })
 
     pub columns-at : way ≡ Columns → AtWindow way b (stores cs ws ns) hs d v → ColumnsAt (frameOf b) v ns × (d ≡ zeros)
-    unfolding NumbersOf boxOf Carried
+    unfolding NumbersOf boxOf WayCarries
     columns-at e h =
         let g : AtWindow Columns b (stores cs ws ns) hs d v = rw e at h in (
           record {
+            state = refl;
             sums = g .carried .0;
             below = g .carried .1;
             store = joined (roomOf Columns (frameOf b .set) .numbers) (columnStore (frameOf b) (v .column) (v .row)) ns (g .holds .numbers);
           },
-          g .holds .cells,
+          g .holds .balance-box,
         )
 
     pub columns-visited : (x : State) (ns′ : List ℕ) → way ≡ Columns → ColumnsVisited (frameOf b) x ns v ns′ → d ≡ zeros
         → Visited way b x (stores cs ws ns) (stores cs ws ns′) hs d v
-    unfolding roomOf countsOf wordsOf NumbersOf boxOf Carried
+    unfolding roomOf countsOf wordsOf NumbersOf boxOf WayCarries
     columns-visited x ns′ e h q =
         let p = frameOf b in
         let front : length (columnStore p (v .column) (v .row)) ≡ roomOf Columns (p .set) .numbers = length-columns p (v .column) (v .row) in
@@ -179,7 +180,7 @@ module _ (way : Way) {b : List ℕ} {z : Plan} (k : Planned b z) (cs ws ns : Lis
               counts = refl;
               words = refl;
               numbers = front-of (roomOf Columns (p .set) .numbers) (columnStore p (v .column) (v .row)) ns ns′ front (h .store);
-              cells = q;
+              balance-box = q;
             };
             carried = (h .sums, h .below);
           };
@@ -191,7 +192,7 @@ module _ (way : Way) {b : List ℕ} {z : Plan} (k : Planned b z) (cs ws ns : Lis
         })
 
     pub chain-at : way ≡ Chain → AtWindow way b (stores cs ws ns) hs d v → ChainAt b z v ns × (d ≡ zeros)
-    unfolding boxOf Carried
+    unfolding boxOf WayCarries
     chain-at e h =
         let g : AtWindow Chain b (stores cs ws ns) hs d v = rw e at h in (
           record {
@@ -199,18 +200,18 @@ module _ (way : Way) {b : List ℕ} {z : Plan} (k : Planned b z) (cs ws ns : Lis
             listed =
                 subst (λ (q : Plan). Listed b q (v .column) (v .row) (v .running .free) ns) (sym (k .plan)) (g .carried .1);
           },
-          g .holds .cells,
+          g .holds .balance-box,
         )
 
     pub chain-visited : (x : State) (ns′ : List ℕ) → way ≡ Chain → ChainVisited b z x ns v ns′ → d ≡ zeros →
         Visited way b x (stores cs ws ns) (stores cs ws ns′) hs d v
-    unfolding roomOf countsOf wordsOf NumbersOf boxOf Carried
+    unfolding roomOf countsOf wordsOf NumbersOf boxOf WayCarries
     chain-visited x ns′ e h q =
         rw e
         (record {
           state = h .state;
           here = record {
-            holds = record { counts = refl; words = refl; numbers = h .stored .store; cells = q };
+            holds = record { counts = refl; words = refl; numbers = h .stored .store; balance-box = q };
             carried = (h .sums, subst (λ (q : Plan). Listed b q (v .column) (v .row) (v .running .free) ns′) (k .plan) (h .stored .listed));
           };
           kept =

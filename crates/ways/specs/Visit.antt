@@ -47,7 +47,7 @@ pub record Holds (way : Way) (p : Frame) (s t c : ℕ) (held : Stores) (box : Li
   pub counts : take (roomOf way (p .set) .counts) (held .counts) ≡ countsOf way p s t
   pub words : take (roomOf way (p .set) .words) (held .words) ≡ wordsOf way p s t
   pub numbers : NumbersOf way p s t (held .numbers)
-  pub cells : box ≡ boxOf way p s t c
+  pub balance-box : box ≡ boxOf way p s t c
 
 -- a list keeps its length, and all that lies beyond its first n numbers
 pub record KeptBeyond (n : ℕ) (before after : List ℕ) : Type 0 where
@@ -62,10 +62,10 @@ pub record Kept (way : Way) (settings : Settings) (before after : Stores) : Type
 
 -- what the way carries to the next window of a file, beside the window's sums: columns the tally up to the cut point, joint that tally and the
 -- histogram of levels, the chain its free list in the numbers
-unfoldable pub Carried : Way → List ℕ → ℕ → ℕ → ℕ → (numbers histogram : List ℕ) → Running → Type 0
-Carried Joint b s t c numbers histogram r = joint.GuidedCarried (frameOf b) s t c (r .sums) (r .below) histogram
-Carried Columns b s t c numbers histogram r = SumsAt (frameOf b) s t (r .sums) × BelowAt (frameOf b) s t (c + 1) (r .below)
-Carried Chain b s t c numbers histogram r = SumsAt (frameOf b) s t (r .sums) × Listed b (planOf b) s t (r .free) numbers
+unfoldable pub WayCarries : Way → List ℕ → ℕ → ℕ → ℕ → (numbers histogram : List ℕ) → Running → Type 0
+WayCarries Joint b s t c numbers histogram r = joint.GuidedCarried (frameOf b) s t c (r .sums) (r .below) histogram
+WayCarries Columns b s t c numbers histogram r = SumsAt (frameOf b) s t (r .sums) × BelowAt (frameOf b) s t (c + 1) (r .below)
+WayCarries Chain b s t c numbers histogram r = SumsAt (frameOf b) s t (r .sums) × Listed b (planOf b) s t (r .free) numbers
 
 -- the way serves the plan's kind
 abbrev pub Serves : Way → Plan → Type 0
@@ -74,7 +74,7 @@ Serves way plan = (way ≡ Joint) ⊎ (plan .kind ≡ 2)
 -- the stores, the box and what is carried are those of the visit's window in the file b
 pub record AtWindow (way : Way) (b : List ℕ) (held : Stores) (histogram : List ℕ) (box : List ℤ) (v : Visit) : Type 0 where
   pub holds : Holds way (frameOf b) (v .column) (v .row) (v .cut .0) held box
-  pub carried : Carried way b (v .column) (v .row) (v .cut .0) (held .numbers) histogram (v .running)
+  pub carried : WayCarries way b (v .column) (v .row) (v .cut .0) (held .numbers) histogram (v .running)
 
 -- what each call on a window leaves: the state x, the window's stores, histogram and box, and the rest as it was
 pub record Visited (way : Way) (b : List ℕ) (x : State) (before after : Stores) (histogram : List ℕ) (box : List ℤ) (v : Visit) : Type 0 where

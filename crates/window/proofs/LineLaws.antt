@@ -15,7 +15,7 @@ use Rattle.spec.specs.Base.{if_then_else_, fold, foldRect}
 use Rattle.spec.specs.Frame.{level, guide, pixelLevel, pixelGuide, frameOf}
 use Rattle.spec.specs.Checks.{Planned}
 use Rattle.spec.specs.Window.{span, over, inColumn, inRow}
-use Rattle.spec.proofs.Ranges.{Sums, natSums, lost, gained, over-right, over-down}
+use Rattle.spec.proofs.Ranges.{AdditionLaws, natSums, lost, gained, over-right, over-down}
 use Rattle.spec.proofs.Plans.{facts, place-low}
 use Rattle.window.specs.declared.line.Line.{Line}
 use Rattle.window.specs.declared.line.Step.{Step}
@@ -161,7 +161,7 @@ module _ {A : Type 0} (_⊕_ : A → A → A) (e : A) where
         ∙ ap (λ (H : ℕ → A). fold _⊕_ e H (s - z .radius) (span (z .radius) s (z .width))) (fun-ext (λ x. sym (column-fold x t)))
 
     -- ---- a step
-    module _ (laws : Sums _⊕_ e) where
+    module _ (laws : AdditionLaws _⊕_ e) where
       column-law : (s t : ℕ) → s + 1 < z .width
           →
           over _⊕_ e (frameOf b) (s + 1) t at ⊕ lineFold _⊕_ e b (columnStep z s t .leaving) h ≡ over _⊕_ e (frameOf b) s t at ⊕ lineFold _⊕_ e b

@@ -53,7 +53,7 @@ part-answer-end-2 c =
 answer-requires : tie.Need-answer-requires
 answer-requires c κs =
     let x = c .before .before .before .before .args in
-    lent-blocks (x .plan) (x .numbers .now) (Answerable (x .coefficients) (x .plan .guides) (x .monotone) (x .cut .0) (x .shifts) (x .below))
+    lent-blocks (x .plan) (x .blocks .now) (Answerable (x .coefficients) (x .plan .guides) (x .monotone) (x .cut .0) (x .shifts) (x .below))
     (c .before .before .before .before .pre .1)
 
 returns : tie.Need-returns
@@ -62,9 +62,9 @@ returns c =
     let z = st .args .plan in
     let h = c .answer .ensures in
     rw (
-      part-is (2 * z .width * z .levels) (z .levels) (st .args .numbers .now),
+      part-is (2 * z .width * z .levels) (z .levels) (st .args .blocks .now),
       part-is (2 * z .width * z .levels + z .levels) (z .levels)
-          (st .args .numbers .now),
+          (st .args .blocks .now),
     ) at h
 
 pub answer-from-spec : {M : Type 1} → statement M

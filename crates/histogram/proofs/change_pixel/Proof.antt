@@ -25,7 +25,7 @@ change-requires-2 c κs =
     let k = c .before .before .before in
     let at = begin (k .before .before) in
     rw (k .change .ensures)
-    (sum-asks (at .args .enters) (at .args .l) (at .args .level .0) (at .args .guide .0) (at .args .numbers .now) (at .pre .0 .0) (at .pre .0 .2)
+    (sum-asks (at .args .enters) (at .args .l) (at .args .level .0) (at .args .guide .0) (at .args .histogram .now) (at .pre .0 .0) (at .pre .0 .2)
     (at .pre .1 .1))
 
 same-length : tie.Need-same-length
@@ -37,7 +37,7 @@ returns c =
     let k = o .before .before .before .before in
     let at = begin (k .before .before) in
     rw (o .change2 .ensures, k .change .ensures)
-    (pixel-changed (at .args .enters) (at .args .l) (at .args .level .0) (at .args .guide .0) (at .args .numbers .now) (at .pre .0 .0)
+    (pixel-changed (at .args .enters) (at .args .l) (at .args .level .0) (at .args .guide .0) (at .args .histogram .now) (at .pre .0 .0)
     (at .pre .0 .2))
 
 pub change-pixel-spec : {M : Type 1} → statement M

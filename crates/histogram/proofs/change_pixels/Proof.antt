@@ -13,11 +13,11 @@ use Rattle.histogram.proofs.change_pixels.Statement.{statement}
 use Rattle.histogram.proofs.change_pixels.Tie as tie
 
 abbrev Inv-loop : tie.InvT-loop
-Inv-loop p l enters numbers₀ n k₀ numbers k =
-    (k ≤ n) × PassedTo _+_ 0 (shareAt l) changed enters p k (numberAt l numbers₀) (numberAt l numbers) × (length numbers ≡ length numbers₀)
+Inv-loop p l enters histogram₀ n k₀ histogram k =
+    (k ≤ n) × PassedTo _+_ 0 (shareAt l) changed enters p k (numberAt l histogram₀) (numberAt l histogram) × (length histogram ≡ length histogram₀)
 
 abbrev μ-loop : tie.MeasureT-loop
-μ-loop p l enters numbers₀ n k₀ numbers k = n - k
+μ-loop p l enters histogram₀ n k₀ histogram k = n - k
 
 abbrev start : tie.At-loop Inv-loop μ-loop → tie.Start Inv-loop μ-loop
 start h = h .before .before .before
@@ -52,7 +52,7 @@ change-pixel-requires : tie.Need-change-pixel-requires Inv-loop μ-loop
 change-pixel-requires c κs =
     let t = c .before .before .before in
     let at = start (t .before) in
-    let a = turn-asks (at .pre .0 .2) (at .pre .1) (t .loop-test .taken) (t .before .loop .numbers) (t .before .loop .inv .1) in
+    let a = turn-asks (at .pre .0 .2) (at .pre .1) (t .loop-test .taken) (t .before .loop .histogram) (t .before .loop .inv .1) in
     ((a .0, at .pre .0 .0, rw (t .before .loop .inv .2) (at .pre .0 .1)), (a .1, a .2))
 
 add-k : tie.Need-add-k Inv-loop μ-loop
@@ -68,7 +68,7 @@ loop-again c =
     let at = start (t .before) in
     let new = g .change-pixel .ensures in (
       omega (arith, t .loop-test .taken),
-      turn-next (at .pre .0 .2) (at .pre .1) (t .loop-test .taken) (t .before .loop .numbers) (t .before .loop .inv .1) new,
+      turn-next (at .pre .0 .2) (at .pre .1) (t .loop-test .taken) (t .before .loop .histogram) (t .before .loop .inv .1) new,
       new .long ∙ t .before .loop .inv .2,
     )
 

@@ -1,4 +1,4 @@
--- `start` meets its contract: after k turns the numbers have k columns. Assumes nothing.
+-- `start` meets its contract: after k turns the histogram has k columns. Assumes nothing.
 use mathlib.Core.Path.{_≡_, refl, _∙_, subst}
 use lib.ListN.{length, take, drop}
 use native.Mathlib.Omega.{arith}
@@ -8,16 +8,16 @@ use Rattle.window.proofs.PixelLaws.{plan-limits}
 use Rattle.window.proofs.LineLaws.{column-in, span-in, span-high}
 use Rattle.pixels.specs.Pixels.{LinePixels}
 use Rattle.pixels.proofs.Laws.{line-part}
-use Rattle.histogram.specs.Histogram.{Filled}
+use Rattle.histogram.specs.Histogram.{HistogramFilled}
 use Rattle.histogram.proofs.PixelLaws.{filled-start, fill-asks, filled-next, filled-end}
 use Rattle.histogram.proofs.start.Statement.{statement}
 use Rattle.histogram.proofs.start.Tie as tie
 
 abbrev Inv-loop : tie.InvT-loop
-Inv-loop file plan s t numbers₀ x n k₀ numbers k = (k ≤ n) × Filled file plan x t k numbers × (length numbers ≡ length numbers₀)
+Inv-loop file plan s t histogram₀ x n k₀ histogram k = (k ≤ n) × HistogramFilled file plan x t k histogram × (length histogram ≡ length histogram₀)
 
 abbrev μ-loop : tie.MeasureT-loop
-μ-loop file plan s t numbers₀ x n k₀ numbers k = n - k
+μ-loop file plan s t histogram₀ x n k₀ histogram k = n - k
 
 abbrev begin : tie.At-loop Inv-loop μ-loop → tie.Start Inv-loop μ-loop
 begin h = h .before .before .before .before .before

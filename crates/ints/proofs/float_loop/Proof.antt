@@ -9,7 +9,7 @@ use lib.ListN.{length, getD}
 use lib.Ieee.{binary64}
 use Rattle.ints.specs.Polynomial.{_⊕_, x₀ as acc, x₁ as x}
 use Rattle.ints.specs.Sum.{Σ, Σ-zero, Σ-more, Σ-abs}
-use Rattle.ints.specs.Float.{Rep, FloatCell, knownFloat, unsignedFloat, rep-computed, rep-at, rep-zero}
+use Rattle.ints.specs.Float.{FloatOf, FloatCell, knownFloat, unsignedFloat, rep-computed, rep-at, rep-zero}
 use Rattle.ints.proofs.float_loop.Statement.{statement}
 use Rattle.ints.proofs.float_loop.Tie as tie
 
@@ -17,7 +17,7 @@ abbrev total : List ℕ → ℕ → ℤ
 total a i = Σ i (λ k. pos (getD a k 0))
 
 abbrev Inv-loop : tie.InvT-loop
-Inv-loop a acc₀ i₀ acc i = (i ≤ length a) × Rep binary64 acc (total a i)
+Inv-loop a acc₀ i₀ acc i = (i ≤ length a) × FloatOf binary64 acc (total a i)
 
 abbrev μ-loop : tie.MeasureT-loop
 μ-loop a acc₀ i₀ acc i = length a - i

@@ -6,14 +6,14 @@ use lib.IntN.{ℤ}
 use lib.Ieee.{binary64, ofInt, inSigned, toSigned}
 use mir.Syntax.{w64}
 use mir.Val.{hbits}
-use Rattle.ints.specs.Machine.{stored, read}
+use Rattle.ints.specs.Machine.{readBack, read}
 use Rattle.ints.specs.Float.{float-need, float-back}
 use Rattle.ints.proofs.float_to_signed.Statement.{statement}
 use Rattle.ints.proofs.float_to_signed.Tie as tie
 
 comes-back : (st : tie.Start) →
-    T (inSigned binary64 (hbits w64) (ofInt binary64 (stored w64 (st .args .a)))) ×
-    (toSigned (hbits w64) (ofInt binary64 (stored w64 (st .args .a))) ≡ st .args .a)
+    T (inSigned binary64 (hbits w64) (ofInt binary64 (readBack w64 (st .args .a)))) ×
+    (toSigned (hbits w64) (ofInt binary64 (readBack w64 (st .args .a))) ≡ st .args .a)
 comes-back st =
     subst (λ (z : ℤ). T (inSigned binary64 (hbits w64) (ofInt binary64 z)) × (toSigned (hbits w64) (ofInt binary64 z) ≡ st .args .a))
     (sym (read w64 (st .fits .a)))
@@ -26,7 +26,7 @@ float-to-int-result : tie.Need-float-to-int-result
 float-to-int-result c = comes-back (c .before .before) .0
 
 returns : tie.Need-returns
-returns c = ap (stored w64) (comes-back (c .before .before) .1) ∙ read w64 (c .before .before .fits .a)
+returns c = ap (readBack w64) (comes-back (c .before .before) .1) ∙ read w64 (c .before .before .fits .a)
 
 pub float-to-signed-spec : {M : Type 1} → statement M
 float-to-signed-spec = tie.close (tie.spec int-to-float-x float-to-int-result returns)

@@ -10,7 +10,7 @@ use mir.Syntax.{w64}
 use mir.Val.{toZ}
 use Rattle.ints.specs.Polynomial.{_⊕_, _⊖_, _⊗_, x₀ as n, x₁ as x, x₂ as s, x₃ as acc}
 use Rattle.ints.specs.Bound.{eval-within, sfits-pos}
-use Rattle.ints.specs.Machine.{Cell, stored, paramCell, unsignedCell, localCell, read, need, computes}
+use Rattle.ints.specs.Machine.{Cell, readBack, paramCell, unsignedCell, localCell, read, need, computes}
 use Rattle.ints.specs.Sum.{Σ, Σ-zero, Σ-more, Σ-abs}
 use Rattle.ints.proofs.signed_loop.Statement.{statement}
 use Rattle.ints.proofs.signed_loop.Tie as tie
@@ -45,7 +45,7 @@ byte : (c : Body) (k : ℕ) → getD (start c .args .a .now) k 0 ≤ 255
 byte c k = omega (arith, c .shared-slice-known .given k)
 
 -- the sum over the parameters' bits is that over the parameters
-given : (st : Start) (i : ℕ) → Σ i (term (st .args .a .now) (stored w64 (st .args .n)) (stored w64 (st .args .s))) ≡ total st i
+given : (st : Start) (i : ℕ) → Σ i (term (st .args .a .now) (readBack w64 (st .args .n)) (readBack w64 (st .args .s))) ≡ total st i
 given st i = ap₂ (λ (n s : ℤ). Σ i (term (st .args .a .now) n s)) (read w64 (st .fits .n)) (read w64 (st .fits .s))
 
 acc-is : (c : Body) → toZ w64 (c .before .before .loop .acc) ≡ total (start c) (i c)

@@ -4,13 +4,13 @@ use mathlib.Core.Path.{_≡_, refl, _∙_}
 use Prim.Native.Nat.{_-_, _*_, _≤_, _<_}
 use lib.ListN.{length, length-set}
 use Rattle.window.proofs.PixelLaws.{place-small}
-use Rattle.pixels.proofs.Laws.{put-long, Held, held-none, held-next, line-pixels}
+use Rattle.pixels.proofs.Laws.{put-long, ReadTo, read-none, read-next, line-pixels}
 use Rattle.pixels.proofs.read.Statement.{statement}
 use Rattle.pixels.proofs.read.Tie as tie
 
 abbrev Inv-loop : tie.InvT-loop
 Inv-loop file plan places₀ first stride n k₀ places k =
-    (k ≤ n) × Held file (record { first = first; stride = stride; count = n }) k places × (length places ≡ length places₀)
+    (k ≤ n) × ReadTo file (record { first = first; stride = stride; count = n }) k places × (length places ≡ length places₀)
 
 abbrev μ-loop : tie.MeasureT-loop
 μ-loop file plan places₀ first stride n k₀ places k = n - k
@@ -19,7 +19,7 @@ abbrev start : tie.At-loop Inv-loop μ-loop → tie.Start Inv-loop μ-loop
 start h = h .before .before .before
 
 loop-holds : tie.Need-loop-holds Inv-loop μ-loop
-loop-holds c = (omega arith, held-none _ _ _ (c .before .before .pre .2), refl)
+loop-holds c = (omega arith, read-none _ _ _ (c .before .before .pre .2), refl)
 
 mul-q : tie.Need-mul-q Inv-loop μ-loop
 mul-q c = let at = start (c .before) in omega (arith, place-small (at .pre .0) (at .pre .1 .inside _ (c .loop-test .taken)))
@@ -69,7 +69,7 @@ loop-again : tie.Need-loop-again Inv-loop μ-loop
 loop-again c =
     let t = c .before .before in (
       omega (arith, t .loop-test .taken),
-      held-next (turn-low c) (t .before .loop .inv .1) (c .before .level-at .ensures) (c .guide-at .ensures),
+      read-next (turn-low c) (t .before .loop .inv .1) (c .before .level-at .ensures) (c .guide-at .ensures),
       put-long (t .before .loop .places) (t .before .loop .k) (c .before .level-at .result .0) (c .guide-at .result .0) ∙ t .before .loop .inv .2,
     )
 

@@ -7,7 +7,7 @@ use lib.ListN.{length-append}
 use native.Mathlib.Omega.{arith}
 use Rattle.spec.specs.Base.{if_then_else_}
 use Rattle.spec.specs.Program.{decimal, refusedWord, beside}
-use Rattle.text.specs.Text.{Room, refusalText, spacedOne}
+use Rattle.text.specs.Text.{TextRoom, refusalText, spacedOne}
 use Rattle.text.proofs.Putting.{joined, called, room-first, room-next, room-line, room-second, room-end}
 use Rattle.text.proofs.Rows.{refusal-plain, refusal-seven}
 use borrow.Author.Needs.{needs}
@@ -15,14 +15,14 @@ use Rattle.text.proofs.put_refusal.Statement.{statement}
 use Rattle.text.proofs.put_refusal.Tie as tie
 
 -- room for the word and the number, whatever the number
-head : (s : tie.Start) → Room (s .args .out .now) (s .args .at) (refusedWord ++ decimal (s .args .number))
+head : (s : tie.Start) → TextRoom (s .args .out .now) (s .args .at) (refusedWord ++ decimal (s .args .number))
 unfolding refusalText
 head s =
     room-line (s .args .out .now) (s .args .at) (refusedWord ++ decimal (s .args .number))
     (beside (if eqb (s .args .number) 7 then s .args .offset ∷ [] else [])) (s .pre)
 
 -- and for the end of the line behind them
-ended : (s : tie.Start) → Room (s .args .out .now) (s .args .at) (refusedWord ++ decimal (s .args .number) ++ (10 ∷ []))
+ended : (s : tie.Start) → TextRoom (s .args .out .now) (s .args .at) (refusedWord ++ decimal (s .args .number) ++ (10 ∷ []))
 unfolding refusalText
 ended s = simp length-append (omega (arith, simp length-append at (s .pre)))
 

@@ -27,11 +27,11 @@ use Rattle.chain.proofs.moves.start.Statement.{statement}
 use Rattle.chain.proofs.moves.start.Tie as tie
 
 abbrev Inv-loop : tie.InvT-loop
-Inv-loop file z s t numbers₀ cap left columns free₀ k₀ numbers free k =
-    ColumnsListed file z s t k free numbers × (k ≤ columns) × (length numbers ≡ length numbers₀) × Beyond (nodesOf z) numbers₀ numbers
+Inv-loop file z s t nodes₀ cap left columns free₀ k₀ nodes free k =
+    ColumnsListed file z s t k free nodes × (k ≤ columns) × (length nodes ≡ length nodes₀) × Beyond (nodesOf z) nodes₀ nodes
 
 abbrev μ-loop : tie.MeasureT-loop
-μ-loop file z s t numbers₀ cap left columns free₀ k₀ numbers free k = columns - k
+μ-loop file z s t nodes₀ cap left columns free₀ k₀ nodes free k = columns - k
 
 -- the start, and the calls before the loop, from its head
 abbrev cleared : tie.At-loop Inv-loop μ-loop → tie.After-clear Inv-loop μ-loop

@@ -25,11 +25,11 @@ use Rattle.chain_search.proofs.climb.climb.Statement.{statement}
 use Rattle.chain_search.proofs.climb.climb.Tie as tie
 
 abbrev Inv-loop : tie.InvT-loop
-Inv-loop numbers k count₀ sum₀ at₀ next₀ count sum at next =
-    (l : ℕ) → l ≤ 1024 → (a : Climbs l k numbers) → AtNode l numbers k a count sum at next
+Inv-loop nodes k count₀ sum₀ at₀ next₀ count sum at next =
+    (l : ℕ) → l ≤ 1024 → (a : Climbs l k nodes) → AtNode l nodes k a count sum at next
 
 abbrev μ-loop : tie.MeasureT-loop
-μ-loop numbers k count₀ sum₀ at₀ next₀ count sum at next = ahead 1024 numbers next
+μ-loop nodes k count₀ sum₀ at₀ next₀ count sum at next = ahead 1024 nodes next
 
 -- the start, from the loop's head
 abbrev start : tie.At-loop Inv-loop μ-loop → tie.Start Inv-loop μ-loop
@@ -37,7 +37,7 @@ start h = h .before .before .before .before .before
 
 -- the state there, at the list of the `requires`
 state : (h : tie.At-loop Inv-loop μ-loop) →
-    AtNode (start h .pre .0 .0) (start h .args .numbers .now) (start h .args .coefficients) (start h .pre .0 .2) (h .loop .count) (h .loop .sum)
+    AtNode (start h .pre .0 .0) (start h .args .nodes .now) (start h .args .coefficients) (start h .pre .0 .2) (h .loop .count) (h .loop .sum)
     (h .loop .at) (h .loop .next)
 state h = h .loop .inv _ (start h .pre .0 .1) (start h .pre .0 .2)
 

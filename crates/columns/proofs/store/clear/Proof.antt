@@ -7,19 +7,19 @@ use Rattle.columns.proofs.store.clear.Statement.{statement}
 use Rattle.columns.proofs.store.clear.Tie as tie
 
 abbrev Inv-loop : tie.InvT-loop
-Inv-loop numbers₀ n j₀ numbers j = (j ≤ n) × Cleared j numbers₀ numbers
+Inv-loop blocks₀ n j₀ blocks j = (j ≤ n) × Cleared j blocks₀ blocks
 
 abbrev μ-loop : tie.MeasureT-loop
-μ-loop numbers₀ n j₀ numbers j = n - j
+μ-loop blocks₀ n j₀ blocks j = n - j
 
 loop-holds : tie.Need-loop-holds Inv-loop μ-loop
 loop-holds c = (omega arith, clear-none _)
 
-mul-numbers : tie.Need-mul-numbers Inv-loop μ-loop
-mul-numbers c = omega (arith, c .loop-test .taken, c .before .loop .inv .1 .len, c .before .before .pre, c .before .before .good)
+mul-blocks : tie.Need-mul-blocks Inv-loop μ-loop
+mul-blocks c = omega (arith, c .loop-test .taken, c .before .loop .inv .1 .len, c .before .before .pre, c .before .before .good)
 
-slice-write-numbers : tie.Need-slice-write-numbers Inv-loop μ-loop
-slice-write-numbers c = omega (arith, c .loop-test .taken, c .before .loop .inv .1 .len, c .before .before .pre)
+slice-write-blocks : tie.Need-slice-write-blocks Inv-loop μ-loop
+slice-write-blocks c = omega (arith, c .loop-test .taken, c .before .loop .inv .1 .len, c .before .before .pre)
 
 add-j : tie.Need-add-j Inv-loop μ-loop
 add-j c = omega (arith, c .loop-test .taken, c .before .before .pre, c .before .before .good)
@@ -47,8 +47,8 @@ clear-spec =
     Inv-loop
     μ-loop
     loop-holds
-    mul-numbers
-    slice-write-numbers
+    mul-blocks
+    slice-write-blocks
     add-j
     loop-less
     loop-again

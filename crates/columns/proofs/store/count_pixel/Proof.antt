@@ -5,8 +5,8 @@ use native.Mathlib.Omega.{arith}
 use Rattle.spec.specs.Frame.{frameOf, level, guide}
 use Rattle.spec.proofs.Plans.{facts, place-low}
 use Rattle.window.proofs.PixelLaws.{level-low, guide-low, guides-high, place-small}
-use Rattle.columns.specs.Blocks.{Put, Able, block, hit}
-use Rattle.columns.proofs.BlockLaws.{in-store, able-first, able-second, asks, changed, put-pixel}
+use Rattle.columns.specs.Blocks.{Put, Able, block, atLevel}
+use Rattle.columns.proofs.BlockLaws.{in-store, able-first, able-second, asks, count-put, put-pixel}
 use borrow.Author.Needs.{needs}
 use Rattle.columns.proofs.store.count_pixel.Statement.{statement}
 use Rattle.columns.proofs.store.count_pixel.Tie as tie
@@ -18,7 +18,7 @@ place : (c : tie.Start) → c .args .y * c .args .plan .width + c .args .x < c .
 place c = place-low (c .args .plan) (c .args .x) (c .args .y) (c .pre .1 .0 .0) (c .pre .1 .0 .1)
 
 first-able : (c : tie.Start) →
-    Able (c .args .add) (c .args .plan .levels) (block (c .args .a) (hit (frame c) (λ u v. 1) (c .args .x) (c .args .y))) (c .args .numbers .now)
+    Able (c .args .add) (c .args .plan .levels) (block (c .args .a) (atLevel (frame c) (λ u v. 1) (c .args .x) (c .args .y))) (c .args .blocks .now)
 first-able c = able-first (frame c) (c .args .x) (c .args .y) (c .args .add) (c .args .a) (c .args .b) (c .pre .1 .1 .1)
 
 -- the pixel's level and guide
@@ -69,12 +69,12 @@ counted : (c : tie.After-change) →
     Put (c .before .before .before .before .before .before .before .before .args .add)
     (c .before .before .before .before .before .before .before .before .args .plan .levels)
     (block (c .before .before .before .before .before .before .before .before .args .a)
-    (hit (frame (c .before .before .before .before .before .before .before .before)) (λ u v. 1)
+    (atLevel (frame (c .before .before .before .before .before .before .before .before)) (λ u v. 1)
     (c .before .before .before .before .before .before .before .before .args .x)
     (c .before .before .before .before .before .before .before .before .args .y)))
-    (c .before .before .before .before .before .before .before .before .args .numbers .now) (c .change .last .0)
+    (c .before .before .before .before .before .before .before .before .args .blocks .now) (c .change .last .0)
 counted c =
-    changed (frame (c .before .before .before .before .before .before .before .before))
+    count-put (frame (c .before .before .before .before .before .before .before .before))
     (c .before .before .before .before .before .before .before .before .args .x)
     (c .before .before .before .before .before .before .before .before .args .y) (λ u v. 1)
     (c .before .before .before .before .before .before .before .before .args .add)
@@ -87,7 +87,7 @@ second-able : (c : tie.After-change) →
     Able (c .before .before .before .before .before .before .before .before .args .add)
     (c .before .before .before .before .before .before .before .before .args .plan .levels)
     (block (c .before .before .before .before .before .before .before .before .args .b)
-    (hit (frame (c .before .before .before .before .before .before .before .before))
+    (atLevel (frame (c .before .before .before .before .before .before .before .before))
     (guide (frame (c .before .before .before .before .before .before .before .before)))
     (c .before .before .before .before .before .before .before .before .args .x)
     (c .before .before .before .before .before .before .before .before .args .y))) (c .change .last .0)
@@ -200,7 +200,7 @@ returns c =
     (c .before .before .before .before .before .before .before .before .before .before .before .before .before .before .before .args .a)
     (c .before .before .before .before .before .before .before .before .before .before .before .before .before .before .before .args .b)
     (counted (c .before .before .before .before .before .before .before))
-    (changed (frame (c .before .before .before .before .before .before .before .before .before .before .before .before .before .before .before))
+    (count-put (frame (c .before .before .before .before .before .before .before .before .before .before .before .before .before .before .before))
     (c .before .before .before .before .before .before .before .before .before .before .before .before .before .before .before .args .x)
     (c .before .before .before .before .before .before .before .before .before .before .before .before .before .before .before .args .y)
     (guide (frame (c .before .before .before .before .before .before .before .before .before .before .before .before .before .before .before)))

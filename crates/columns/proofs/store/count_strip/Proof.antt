@@ -9,11 +9,11 @@ use Rattle.columns.proofs.store.count_strip.Statement.{statement}
 use Rattle.columns.proofs.store.count_strip.Tie as tie
 
 abbrev Inv-loop : tie.InvT-loop
-Inv-loop file z numbers₀ y a b apart first count add k₀ numbers k =
-    Piled add (z .levels) (λ x. pixelD (frameOf file) (a + x * apart) (b + x * apart) x y) first count numbers₀ numbers k
+Inv-loop file z blocks₀ y a b apart first count add k₀ blocks k =
+    Piled add (z .levels) (λ x. pixelD (frameOf file) (a + x * apart) (b + x * apart) x y) first count blocks₀ blocks k
 
 abbrev μ-loop : tie.MeasureT-loop
-μ-loop file z numbers₀ y a b apart first count add k₀ numbers k = count - k
+μ-loop file z blocks₀ y a b apart first count add k₀ blocks k = count - k
 
 in-width : (c : tie.In-loop Inv-loop μ-loop) →
     c .before .before .before .before .args .first + c .before .loop .k < c .before .before .before .before .args .plan .width
@@ -52,8 +52,8 @@ count-pixel-requires c κs = let st = c .before .before .before .before .before 
         (
           (places (c .before) .0, places (c .before) .1, omega (arith, v .put .len, st .pre .1 .0 .2)),
           pile-able v (c .before .loop-test .taken)
-              (strip-able (frameOf (st .args .file .now)) (st .args .add) (st .args .y) (st .args .a) (st .args .b) (st .args .apart) (st .args .first)
-              (st .args .count) (st .pre .1 .1 .1)),
+              (strip-able (frameOf (st .args .file .now)) (st .args .add) (st .args .y) (st .args .a) (st .args .b) (st .args .apart)
+              (st .args .first) (st .args .count) (st .pre .1 .1 .1)),
         ),
       ),
     )

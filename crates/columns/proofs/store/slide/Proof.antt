@@ -5,7 +5,7 @@ use mathlib.Core.List.{_++_}
 use lib.ListN.{drop}
 use Rattle.spec.specs.Frame.{frameOf}
 use Rattle.spec.specs.Columns.{columnStore}
-use Rattle.columns.specs.Blocks.{storeSize}
+use Rattle.columns.specs.Blocks.{blocksSize}
 use Rattle.window.proofs.PixelLaws.{plan-limits, levels-high}
 use Rattle.columns.proofs.MoveLaws.{across-is, along-is, held-long, sides-in, sides-ready, sideways-done}
 use borrow.Author.Needs.{needs}
@@ -22,7 +22,7 @@ same-length c = search needs
 returns : tie.Need-returns
 returns c = let st = c .before .before .before .before .before .before .before in let p =
     frameOf (st .args .file .now) in c .before .before .vertical .ensures ∙ ap
-    (λ (q : ℕ). columnStore p q (st .args .t2) ++ drop (storeSize p) (st .args .numbers .now)) (c .before .before .before .before .if1 .taken)
+    (λ (q : ℕ). columnStore p q (st .args .t2) ++ drop (blocksSize p) (st .args .blocks .now)) (c .before .before .before .before .if1 .taken)
 
 exchange-of-requires : tie.Need-exchange-of-requires
 exchange-of-requires c κs =
@@ -40,10 +40,10 @@ sideways-requires c κs =
       (
         plan-limits pl .width,
         levels-high pl,
-        held-long pl (st .args .s) (st .args .t) (st .args .numbers .now) (st .pre .1 .1),
-        sides-in pl (st .args .s) (st .args .t) (st .args .numbers .now) (st .pre .1 .1) k ed,
+        held-long pl (st .args .s) (st .args .t) (st .args .blocks .now) (st .pre .1 .1),
+        sides-in pl (st .args .s) (st .args .t) (st .args .blocks .now) (st .pre .1 .1) k ed,
       ),
-      sides-ready pl (st .args .s) (st .args .t) (st .args .numbers .now) (st .pre .1 .1) k ed,
+      sides-ready pl (st .args .s) (st .args .t) (st .args .blocks .now) (st .pre .1 .1) k ed,
     )
 
 same-length-2 : tie.Need-same-length-2
@@ -55,9 +55,9 @@ returns-2 c =
     let st = x .before .before .before .before in
     let k = across-is (st .pre .1 .0) (x .before .if1 .left) in
     let p = frameOf (st .args .file .now) in
-    sideways-done (st .pre .0) (st .args .s) (st .args .t) (st .args .numbers .now) (st .pre .1 .1) (k .0) (x .exchange-of .ensures) _
+    sideways-done (st .pre .0) (st .args .s) (st .args .t) (st .args .blocks .now) (st .pre .1 .1) (k .0) (x .exchange-of .ensures) _
     (c .before .before .sideways .ensures)
-    ∙ ap (λ (q : ℕ). columnStore p (st .args .s2) q ++ drop (storeSize p) (st .args .numbers .now)) (sym (k .1))
+    ∙ ap (λ (q : ℕ). columnStore p (st .args .s2) q ++ drop (blocksSize p) (st .args .blocks .now)) (sym (k .1))
 
 pub slide-spec : {M : Type 1} → statement M
 slide-spec =

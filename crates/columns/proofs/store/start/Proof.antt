@@ -15,10 +15,10 @@ use Rattle.columns.proofs.store.start.Statement.{statement}
 use Rattle.columns.proofs.store.start.Tie as tie
 
 abbrev Inv-loop : tie.InvT-loop
-Inv-loop file z numbers₀ s t n top rows k₀ numbers k = Piled true (z .levels) (λ v. rowD (frameOf file) s v) top rows numbers₀ numbers k
+Inv-loop file z blocks₀ s t n top rows k₀ blocks k = Piled true (z .levels) (λ v. rowD (frameOf file) s v) top rows blocks₀ blocks k
 
 abbrev μ-loop : tie.MeasureT-loop
-μ-loop file z numbers₀ s t n top rows k₀ numbers k = rows - k
+μ-loop file z blocks₀ s t n top rows k₀ blocks k = rows - k
 
 in-rows : (c : tie.In-loop Inv-loop μ-loop) →
     c .before .before .before .low .result + c .before .loop .k < c .before .before .before .before .before .before .before .before .before .before
@@ -76,7 +76,7 @@ count-row-requires c κs = let st =
         pile-able v
             (c .before .loop-test .taken)
             (start-able (st .pre .0) (st .args .s) (st .args .t) (c .before .before .before .before .low .ensures)
-            (c .before .before .before .span-of .ensures) (st .args .numbers .now) _ cl
+            (c .before .before .before .span-of .ensures) (st .args .blocks .now) _ cl
             (λ j. omega (arith, c .before .before .before .before .before .before .before .before .before .before .before .slice-known .given j))),
       ),
     )
@@ -105,7 +105,7 @@ same-length c = c .before .loop .inv .put .len ∙ c .before .before .before .be
 returns : tie.Need-returns Inv-loop μ-loop
 returns c = let st =
     c .before .before .before .before .before .before .before .before .before .before .before .before in start-done (st .pre .0) (st .args .s)
-    (st .args .t) (c .before .before .before .low .ensures) (c .before .before .span-of .ensures) (st .args .numbers .now) _
+    (st .args .t) (c .before .before .before .low .ensures) (c .before .before .span-of .ensures) (st .args .blocks .now) _
     (c .before .before .before .before .before .before .clear .ensures) _ (st .pre .1 .2) (pile-end (c .before .loop .inv) (c .loop-test .left))
 
 pub start-spec : {M : Type 1} → statement M

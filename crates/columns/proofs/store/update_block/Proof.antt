@@ -5,16 +5,16 @@ use native.Mathlib.Omega.{arith}
 use native.Mathlib.Nat.{mul-le-mul}
 use lib.Arith.{digits-lt}
 use Rattle.columns.specs.Blocks.{cellOf}
-use Rattle.columns.proofs.SideLaws.{Slid, slid-none, slid-here, slid-pick, slid-next, slid-all}
+use Rattle.columns.proofs.SideLaws.{BlockSlid, slid-none, slid-here, slid-pick, slid-next, slid-all}
 use Rattle.columns.proofs.store.update_block.Statement.{statement}
 use Rattle.columns.proofs.store.update_block.Tie as tie
 
 abbrev Inv-loop : tie.InvT-loop
-Inv-loop numbers₀ l at more gain less lose a b c i₀ numbers i =
-    (i ≤ l) × Slid l at (cellOf gain l more numbers₀) (cellOf lose l less numbers₀) i numbers₀ numbers
+Inv-loop blocks₀ l at more gain less lose a b c i₀ blocks i =
+    (i ≤ l) × BlockSlid l at (cellOf gain l more blocks₀) (cellOf lose l less blocks₀) i blocks₀ blocks
 
 abbrev μ-loop : tie.MeasureT-loop
-μ-loop numbers₀ l at more gain less lose a b c i₀ numbers i = l - i
+μ-loop blocks₀ l at more gain less lose a b c i₀ blocks i = l - i
 
 products : (c : tie.Start Inv-loop μ-loop) →
     (c .args .at * c .args .l ≤ 4194304) × (c .args .more * c .args .l ≤ 4194304) × (c .args .less * c .args .l ≤ 4194304)
@@ -25,7 +25,7 @@ entered : (c : tie.After-slice-known2 Inv-loop μ-loop) →
     c .before .before .before .pick .result ≡ cellOf (c .before .before .before .before .before .before .before .before .args .gain)
     (c .before .before .before .before .before .before .before .before .args .l)
     (c .before .before .before .before .before .before .before .before .args .more)
-    (c .before .before .before .before .before .before .before .before .args .numbers .now)
+    (c .before .before .before .before .before .before .before .before .args .blocks .now)
     (c .before .before .before .before .before .before .loop .i)
 entered c =
     c .before .before .before .pick .ensures ∙ slid-pick (c .before .before .before .before .before .before .loop .inv .1)
@@ -37,7 +37,7 @@ left : (c : tie.After-slice-known2 Inv-loop μ-loop) →
     c .before .pick2 .result ≡ cellOf (c .before .before .before .before .before .before .before .before .args .lose)
     (c .before .before .before .before .before .before .before .before .args .l)
     (c .before .before .before .before .before .before .before .before .args .less)
-    (c .before .before .before .before .before .before .before .before .args .numbers .now)
+    (c .before .before .before .before .before .before .before .before .args .blocks .now)
     (c .before .before .before .before .before .before .loop .i)
 left c =
     c .before .pick2 .ensures ∙ slid-pick (c .before .before .before .before .before .before .loop .inv .1)
@@ -90,8 +90,8 @@ pick-requires-2 c κs =
       c .before .before .before .before .before .before .pre .0 .4,
     ))
 
-add-numbers : tie.Need-add-numbers Inv-loop μ-loop
-add-numbers c =
+add-blocks : tie.Need-add-blocks Inv-loop μ-loop
+add-blocks c =
     omega (
       arith,
       products (c .before .before .before .before .before .before .before),
@@ -100,8 +100,8 @@ add-numbers c =
           .before .before .before .before .before .before .pre .0,
     )
 
-mul-numbers : tie.Need-mul-numbers Inv-loop μ-loop
-mul-numbers c =
+mul-blocks : tie.Need-mul-blocks Inv-loop μ-loop
+mul-blocks c =
     omega (
       arith,
       c .before .before .before .before .before .before .before .good,
@@ -111,8 +111,8 @@ mul-numbers c =
       c .before .before .before .before .loop-test .taken,
     )
 
-slice-read-numbers : tie.Need-slice-read-numbers Inv-loop μ-loop
-slice-read-numbers c =
+slice-read-blocks : tie.Need-slice-read-blocks Inv-loop μ-loop
+slice-read-blocks c =
     omega (
       arith,
       c .before .before .before .before .before .before .loop .inv .1 .len,
@@ -121,8 +121,8 @@ slice-read-numbers c =
       c .before .before .before .before .before .loop-test .taken,
     )
 
-add-numbers-2 : tie.Need-add-numbers-2 Inv-loop μ-loop
-add-numbers-2 c =
+add-blocks-2 : tie.Need-add-blocks-2 Inv-loop μ-loop
+add-blocks-2 c =
     omega (
       arith,
       entered c,
@@ -132,8 +132,8 @@ add-numbers-2 c =
           (c .before .before .before .before .before .before .loop .i) (c .before .before .before .before .before .loop-test .taken),
     )
 
-sub-numbers : tie.Need-sub-numbers Inv-loop μ-loop
-sub-numbers c =
+sub-blocks : tie.Need-sub-blocks Inv-loop μ-loop
+sub-blocks c =
     omega (
       arith,
       entered c,
@@ -144,8 +144,8 @@ sub-numbers c =
           .enough (c .before .before .before .before .before .before .loop .i) (c .before .before .before .before .before .loop-test .taken),
     )
 
-add-numbers-3 : tie.Need-add-numbers-3 Inv-loop μ-loop
-add-numbers-3 c =
+add-blocks-3 : tie.Need-add-blocks-3 Inv-loop μ-loop
+add-blocks-3 c =
     omega (
       arith,
       products (c .before .before .before .before .before .before .before .before),
@@ -154,8 +154,8 @@ add-numbers-3 c =
       c .before .before .before .before .before .before .before .before .pre .0,
     )
 
-mul-numbers-2 : tie.Need-mul-numbers-2 Inv-loop μ-loop
-mul-numbers-2 c =
+mul-blocks-2 : tie.Need-mul-blocks-2 Inv-loop μ-loop
+mul-blocks-2 c =
     omega (
       arith,
       c .before .before .before .before .before .before .before .before .good,
@@ -165,8 +165,8 @@ mul-numbers-2 c =
       c .before .before .before .before .before .loop-test .taken,
     )
 
-slice-write-numbers : tie.Need-slice-write-numbers Inv-loop μ-loop
-slice-write-numbers c =
+slice-write-blocks : tie.Need-slice-write-blocks Inv-loop μ-loop
+slice-write-blocks c =
     omega (
       arith,
       c .before .before .before .before .before .before .loop .inv .1 .len,
@@ -218,14 +218,14 @@ update-block-spec =
     pick-requires
     add-pick-2
     pick-requires-2
-    add-numbers
-    mul-numbers
-    slice-read-numbers
-    add-numbers-2
-    sub-numbers
-    add-numbers-3
-    mul-numbers-2
-    slice-write-numbers
+    add-blocks
+    mul-blocks
+    slice-read-blocks
+    add-blocks-2
+    sub-blocks
+    add-blocks-3
+    mul-blocks-2
+    slice-write-blocks
     add-i
     loop-less
     loop-again

@@ -15,21 +15,21 @@ exchange-of-requires c κs = let st = c .before .before in let k =
 
 count-row-if-requires : tie.Need-count-row-if-requires
 count-row-if-requires c κs = let st = c .before .before .before .before in let q =
-    row-enters (st .pre .0) (st .args .s) (st .args .t) (st .args .numbers .now) (st .pre .1 .1) (st .pre .1 .0 .1) (c .before .exchange-of .ensures)
+    row-enters (st .pre .0) (st .args .s) (st .args .t) (st .args .blocks .now) (st .pre .1 .1) (st .pre .1 .0 .1) (c .before .exchange-of .ensures)
     (λ j. omega (arith, c .before .before .slice-known .given j)) in
-    (st .pre .0, ((st .pre .1 .0 .0, q .0, held-long (st .pre .0) (st .args .s) (st .args .t) (st .args .numbers .now) (st .pre .1 .1)), q .1))
+    (st .pre .0, ((st .pre .1 .0 .0, q .0, held-long (st .pre .0) (st .args .s) (st .args .t) (st .args .blocks .now) (st .pre .1 .1)), q .1))
 
 count-row-if-requires-2 : tie.Need-count-row-if-requires-2
 count-row-if-requires-2 c κs = let st = c .before .before .before .before .before .before .before .before in let u =
     c .before .before .before .count-row-if .ensures in let q =
-    row-leaves (st .pre .0) (st .args .s) (st .args .t) (st .args .numbers .now) (st .pre .1 .1) (st .pre .1 .0 .1)
+    row-leaves (st .pre .0) (st .args .s) (st .args .t) (st .args .blocks .now) (st .pre .1 .1) (st .pre .1 .0 .1)
     (c .before .before .before .before .before .exchange-of .ensures) _ u in (
       st .pre .0,
       (
         (
           st .pre .1 .0 .0,
           q .0,
-          le-trans (held-long (st .pre .0) (st .args .s) (st .args .t) (st .args .numbers .now) (st .pre .1 .1))
+          le-trans (held-long (st .pre .0) (st .args .s) (st .args .t) (st .args .blocks .now) (st .pre .1 .1))
               (le-of-eq (sym (u .len))),
         ),
         q .1,
@@ -42,7 +42,7 @@ same-length c = search needs
 returns : tie.Need-returns
 returns c = let st =
     c .before .before .before .before .before .before .before .before .before .before .before in vertical-done (st .pre .0) (st .args .s)
-    (st .args .t) (st .args .numbers .now) (st .pre .1 .1) (st .pre .1 .0 .1)
+    (st .args .t) (st .args .blocks .now) (st .pre .1 .1) (st .pre .1 .0 .1)
     (c .before .before .before .before .before .before .before .before .exchange-of .ensures) _ _
     (c .before .before .before .before .before .before .count-row-if .ensures) (c .before .before .count-row-if2 .ensures)
 

@@ -7,7 +7,7 @@ use lib.IntN.{ℤ, natAbs}
 use mir.Syntax.{w64}
 use Rattle.ints.specs.Order.{≤-of-eq, ≤-trans}
 use Rattle.ints.specs.Computation.{bounded}
-use Rattle.ints.specs.Machine.{Cell, paramCell, unsignedCell, stored, read-bounded, computes}
+use Rattle.ints.specs.Machine.{Cell, paramCell, unsignedCell, readBack, read-bounded, computes}
 use Rattle.ints.specs.Polynomial.{_⊕_, _⊗_, x₀, x₁, x₂}
 use Rattle.ints.specs.Auto.{signedCode, need! }
 use borrow.Author.Needs.{needs}
@@ -25,7 +25,7 @@ env c =
     ∷ unsignedCell w64 (c .args .guides - 1) 255 (guides-low c) tt
     ∷ []
 
-larger-is : (c : tie.After-larger) → stored w64 (c .larger .result) ≡ c .larger .result
+larger-is : (c : tie.After-larger) → readBack w64 (c .larger .result) ≡ c .larger .result
 larger-is c = read-bounded w64 240207812100 (c .larger .ensures .2) tt
 
 larger-requires : tie.Need-larger-requires

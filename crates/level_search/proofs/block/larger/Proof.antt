@@ -5,14 +5,14 @@ use lib.IntN.{ℤ, natAbs}
 use lib.Signed.{_≤ℤ_, ≤ℤ-refl}
 use mir.Syntax.{w64}
 use Rattle.ints.specs.Order.{<-to-≤}
-use Rattle.ints.specs.Machine.{stored, read-bounded, lt-true, lt-false}
+use Rattle.ints.specs.Machine.{readBack, read-bounded, lt-true, lt-false}
 use Rattle.level_search.proofs.block.larger.Statement.{statement}
 use Rattle.level_search.proofs.block.larger.Tie as tie
 
-first : (c : tie.Start) → stored w64 (c .args .a) ≡ c .args .a
+first : (c : tie.Start) → readBack w64 (c .args .a) ≡ c .args .a
 first c = read-bounded w64 240207812100 (c .pre .0) tt
 
-second : (c : tie.Start) → stored w64 (c .args .b) ≡ c .args .b
+second : (c : tie.Start) → readBack w64 (c .args .b) ≡ c .args .b
 second c = read-bounded w64 240207812100 (c .pre .1) tt
 
 returns : tie.Need-returns

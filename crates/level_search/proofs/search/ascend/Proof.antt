@@ -5,7 +5,7 @@ use native.Mathlib.Omega.{arith}
 use lib.IntN.{ℤ, natAbs}
 use lib.ListN.{length, getD}
 use mir.Syntax.{w64}
-use Rattle.ints.specs.Machine.{stored, read-bounded}
+use Rattle.ints.specs.Machine.{readBack, read-bounded}
 use Rattle.level_search.specs.Search.{TallyTo, passes}
 use Rattle.level_search.specs.Block.{Light}
 use Rattle.level_search.proofs.SearchLaws.{tally, Ascending, tally-next, half-at, fail-next, fail-inside, pass-last, found-at, shifted}
@@ -19,7 +19,7 @@ Inv-loop counts sums k heaviest shifts last first count₀ sum₀ i₀ count sum
 abbrev μ-loop : tie.MeasureT-loop
 μ-loop counts sums k heaviest shifts last first count₀ sum₀ i₀ count sum i = last - i
 
-heaviest-is : (c : tie.Start Inv-loop μ-loop) → stored w64 (c .args .heaviest) ≡ c .args .heaviest
+heaviest-is : (c : tie.Start Inv-loop μ-loop) → readBack w64 (c .args .heaviest) ≡ c .args .heaviest
 heaviest-is c = read-bounded w64 240207812100 (c .pre .0 .1 .small) tt
 
 -- a tally is small

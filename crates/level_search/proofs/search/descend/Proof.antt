@@ -163,8 +163,8 @@ loop-again c = let v =
       pass =
           sym
           (half-at (c .before .before .before .before .before .before .before .before .before .args .coefficients)
-          (c .before .before .before .before .before .loop .c - 1) (lower (c .before .before .before))) ∙ sym (c .before .reached .ensures) ∙ not-false _
-          (c .if1 .left);
+          (c .before .before .before .before .before .loop .c - 1) (lower (c .before .before .before)))
+          ∙ sym (c .before .reached .ensures) ∙ not-false _ (c .if1 .left);
       counted = omega (arith, v .counted, c .before .before .before .before .loop-test .taken);
     }
 

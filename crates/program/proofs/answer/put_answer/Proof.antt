@@ -11,7 +11,7 @@ use Rattle.spec.specs.declared.Plan.{Plan}
 use Rattle.spec.specs.Frame.{frameOf}
 use Rattle.spec.specs.Program.{jointWord, rows}
 use Rattle.spec.proofs.Plans.{facts}
-use Rattle.text.specs.Text.{Room, Puts, sizeText, wayText}
+use Rattle.text.specs.Text.{TextRoom, Puts, sizeText, wayText}
 use Rattle.text.proofs.Putting.{joined, called, room-first, room-next}
 use Rattle.program_checks.specs.Admitted.{Admitted}
 use Rattle.program.specs.Answer.{guidedText, Filtered}
@@ -32,17 +32,17 @@ abbrev joint : tie.Start → List ℕ
 joint s = wayText jointWord (shiftCount (s .args .input .now))
 
 room-all : (s : tie.Start) →
-    Room (s .args .out .now) 0 (parts (s .args .input .now) (s .args .plan .width) (s .args .plan .height) (s .args .plan .kind))
+    TextRoom (s .args .out .now) 0 (parts (s .args .input .now) (s .args .plan .width) (s .args .plan .height) (s .args .plan .kind))
 room-all s =
     let h = text-short (s .pre .0) in
     let e = ap length (whole (s .pre .0 .planned)) in
     omega (arith, h, e, s .pre .1)
 
-room-three : (s : tie.Start) → Room (s .args .out .now) 0 (size s ++ lines s ++ joint s)
+room-three : (s : tie.Start) → TextRoom (s .args .out .now) 0 (size s ++ lines s ++ joint s)
 room-three s =
     room-first (s .args .out .now) 0 (size s ++ lines s ++ joint s) (guidedText (s .args .plan .kind) (shiftCount (s .args .input .now))) (room-all s)
 
-room-two : (s : tie.Start) → Room (s .args .out .now) 0 (size s ++ lines s)
+room-two : (s : tie.Start) → TextRoom (s .args .out .now) 0 (size s ++ lines s)
 room-two s = room-first (s .args .out .now) 0 (size s ++ lines s) (joint s) (room-three s)
 
 -- after the rows, and after the line of the joint way

@@ -5,7 +5,7 @@ use mathlib.Core.Logic.{inl, inr}
 use mathlib.Core.List.{List, _++_}
 use Prim.Native.Nat.{ℕ}
 use Rattle.spec.specs.Program.{columnsWord, chainWord}
-use Rattle.text.specs.Text.{Room, Puts, wayText}
+use Rattle.text.specs.Text.{TextRoom, Puts, wayText}
 use Rattle.text.proofs.Putting.{none, joined, called, room-first, room-next}
 use Rattle.program.specs.Answer.{Filtered}
 use Rattle.program.proofs.Answering.{shiftCount, guided-none, guided-both}
@@ -21,7 +21,7 @@ abbrev second : tie.Start → List ℕ
 second s = wayText chainWord (shiftCount (s .args .input .now))
 
 both : (d : tie.Else1) →
-    Room (d .before .before .before .before .args .out .now) (d .before .before .before .before .args .at)
+    TextRoom (d .before .before .before .before .args .out .now) (d .before .before .before .before .args .at)
     (first (d .before .before .before .before) ++ second (d .before .before .before .before))
 both d =
     rw
