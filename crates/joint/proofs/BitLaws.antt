@@ -53,7 +53,7 @@ bit-and a b j =
     ap (λ (x : ℕ). x % 2) (and-shr a b j ∙ and-step (a / 2 ^ j) (b / 2 ^ j))
     ∙ digits-mod (bitAnd (a / 2 ^ j / 2) (b / 2 ^ j / 2)) (omega arith)
 
-bit-none : (j : ℕ) → bit 0 j ≡ 0
+pub bit-none : (j : ℕ) → bit 0 j ≡ 0
 bit-none zero = bit-zero 0
 bit-none (suc j) = bit-suc 0 j ∙ bit-none j
 

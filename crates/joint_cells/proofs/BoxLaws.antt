@@ -14,9 +14,9 @@ use mir.Facts.{toZ-ofZ}
 use Rattle.ints.specs.Bound.{abs-add-le, abs-mul-le}
 use Rattle.ints.specs.Machine.{read-bounded}
 use Rattle.spec.specs.Base.{fold}
+use Rattle.spec.proofs.Sums.{sum-suc}
 use Rattle.joint_cells.specs.Scan.{RowFits}
 use Rattle.joint_cells.specs.Box.{BoxInBounds, PartFits, boxPart, boxDot, boxSize}
-use Rattle.joint_cells.proofs.ScanLaws.{sum-next}
 
 module _ (bx : List ℤ) (row : List ℕ) where
   abbrev term : ℕ → ℤ
@@ -42,7 +42,7 @@ module _ (bx : List ℤ) (row : List ℕ) where
 
 size-next : (bx : List ℤ) (n : ℕ) → boxSize bx (suc n) ≡ boxSize bx n + natAbs (getD bx n (pos 0))
 unfolding boxSize
-size-next bx n = sum-next (λ f. natAbs (getD bx f (pos 0))) n
+size-next bx n = sum-suc (λ f. natAbs (getD bx f (pos 0))) n
 
 -- small numbers come back from 32 bits
 back : (v : ℤ) → natAbs v ≤ 62979135 → toZ w32 (ofZ w32 v) ≡ v

@@ -25,17 +25,15 @@ use lib.Dec.{lit<}
 use lib.ListN.{length, getD}
 use borrow.Author.Tests.{eq-eqb, ne-eqb}
 use Rattle.spec.specs.Base.{fold, sum}
+use Rattle.spec.proofs.Sums.{sum-none, sum-suc}
 use Rattle.joint.specs.Bit.{bit}
 use Rattle.joint.specs.Store.{cellAt, wordsPer}
-use Rattle.joint.proofs.BitLaws.{lt-or-le, bit-zero, bit-suc, bit-and, bit-high, tz-found, tz-below}
+use Rattle.joint.proofs.BitLaws.{lt-or-le, bit-none, bit-zero, bit-suc, bit-and, bit-high, tz-found, tz-below}
 use Rattle.joint.proofs.RepLaws.{count-in, count-out}
 use Rattle.joint_cells.specs.declared.scan.Scan.{Scan}
 use Rattle.joint_cells.specs.Scan.{NextGuide, placeOf, Scans, Follows, Marked, RowFits, cellSum}
 
 -- ---- the lowest bit of a word
-no-bit : (j : ℕ) → bit 0 j ≡ 0
-no-bit j = bit-high 0 0 j (lit< tt) (omega arith)
-
 tz-pos : (w : ℕ) → w < 2 ^ 64 → 0 < w → (bit w (trailingZeros 64 w) ≡ 1) × (trailingZeros 64 w < 64)
 tz-pos w h p =
     (found, ⊎-elim (λ l. l) (λ l. absurd (omega (arith, found, bit-high 64 w (trailingZeros 64 w) h l))) (lt-or-le (trailingZeros 64 w) 64))
@@ -114,7 +112,7 @@ passed-empty ws first k g j p e =
     let n : j * 64 + 64 ≡ (j + 1) * 64 = omega arith in
     let z : j * 64 ≡ j * 64 + 0 = omega arith in
     subst (λ (q : ℕ). Passed ws first k g q) n
-    (passed-word ws first k g j 0 64 (subst (λ (q : ℕ). Passed ws first k g q) z p) (omega arith) (λ i a b. rw e (no-bit i)))
+    (passed-word ws first k g j 0 64 (subst (λ (q : ℕ). Passed ws first k g q) z p) (omega arith) (λ i a b. rw e (bit-none i)))
 
 pub place-some : (c : Scan) → (c .rest ≡ 0 → ⊥) → placeOf c ≡ c .word * 64 + trailingZeros 64 (c .rest)
 unfolding placeOf
@@ -210,7 +208,7 @@ module _ (ws : List ℕ) (first k : ℕ) (hk : k ≤ 4) where
         let n : c .word * 64 + 64 ≡ (c .word + 1) * 64 = omega arith in
         let gap : Passed ws first k (placeOf c + 1) ((c .word + 1) * 64) = subst (λ (q : ℕ). Passed ws first k (placeOf c + 1) q) n
         (passed-word ws first k (placeOf c + 1) (c .word) (trailingZeros 64 (c .rest) + 1) 64 start (omega arith)
-        (zeros 64 (λ i l u. rw e (no-bit i)) (omega arith))) in
+        (zeros 64 (λ i l u. rw e (bit-none i)) (omega arith))) in
         record {
           scans = f .scans;
           next = record {
@@ -231,20 +229,12 @@ pub sum-skip : (F : ℕ → ℕ) (a r : ℕ) → a ≤ r → ((h : ℕ) → a �
 sum-skip F a r l z = let e : a + (r - a) ≡ r =
     omega arith in subst (λ (n : ℕ). sum F 0 n ≡ sum F 0 a) e (sum-run F a (r - a) (λ h x y. z h x (omega arith)))
 
-pub sum-next : (F : ℕ → ℕ) (a : ℕ) → sum F 0 (suc a) ≡ sum F 0 a + F a
-unfolding fold
-sum-next F a = ap (λ (q : ℕ). sum F 0 a + F q) (zero-add a)
-
 pub sum-upto : (F : ℕ → ℕ) (a n : ℕ) → a ≤ n → sum F 0 a ≤ sum F 0 n
 sum-upto F a n h = let e : a + (n - a) ≡ n = omega arith in subst (λ (q : ℕ). sum F 0 a ≤ sum F 0 q) e (go (n - a))
   where
     go : (k : ℕ) → sum F 0 a ≤ sum F 0 (a + k)
     go zero = rw (add-zero a) (omega arith)
-    go (suc k) = rw (add-suc a k) (omega (arith, go k, sum-next F (a + k)))
-
-pub sum-none : (F : ℕ → ℕ) → sum F 0 0 ≡ 0
-unfolding fold
-sum-none F = refl
+    go (suc k) = rw (add-suc a k) (omega (arith, go k, sum-suc F (a + k)))
 
 -- ---- a level
 module _ {m i : ℕ} {cs ws : List ℕ} (ok : Marked m i cs ws) where
@@ -282,7 +272,7 @@ module _ {m i : ℕ} {cs ws : List ℕ} (ok : Marked m i cs ws) where
         let before : x ≡ sum T 0 g = e ∙ ap (λ (q : ℕ). sum T 0 q) here in
         sym
         (sum-skip T (g + 1) (min r m) (omega (arith, n .from)) (λ q l u. zeros q (between (g + 1) r n q l u)) ∙ ap (λ (q : ℕ). sum T 0 q)
-        (add-one g) ∙ sum-next T g ∙ ap (λ (q : ℕ). q + T g) (sym before) ∙ sym d)
+        (add-one g) ∙ sum-suc T g ∙ ap (λ (q : ℕ). q + T g) (sym before) ∙ sym d)
 
     pub walk-done : (g x : ℕ) → m ≤ g → x ≡ sum T 0 (min g m) → x ≡ sum T 0 m
     walk-done g x h e = let d : min g m ≡ m = omega arith in e ∙ ap (λ (q : ℕ). sum T 0 q) d
@@ -302,7 +292,7 @@ module _ {m i : ℕ} {cs ws : List ℕ} (ok : Marked m i cs ws) where
   cells-mono n h = le-trans (sum-upto (λ f. getD cs (cellAt m i f) 0) n m h) (ok .few)
 
   pub cell-low : (f : ℕ) → f < m → getD cs (cellAt m i f) 0 ≤ 961
-  cell-low f h = omega (arith, sum-next (λ f. getD cs (cellAt m i f) 0) f, cells-mono (suc f) (omega arith))
+  cell-low f h = omega (arith, sum-suc (λ f. getD cs (cellAt m i f) 0) f, cells-mono (suc f) (omega arith))
 
   module _ {row : List ℕ} (rw′ : RowFits m row) where
     abbrev pub term : ℕ → ℕ
@@ -316,7 +306,7 @@ module _ {m i : ℕ} {cs ws : List ℕ} (ok : Marked m i cs ws) where
 
     pub dot-low : (n : ℕ) → n ≤ m → sum term 0 n ≤ sum (λ f. getD cs (cellAt m i f) 0) 0 n * 65535
     dot-low zero h = omega (arith, sum-none term)
-    dot-low (suc n) h = omega (arith, sum-next term n, sum-next (λ f. getD cs (cellAt m i f) 0) n, dot-low n (omega arith), term-low n (omega arith))
+    dot-low (suc n) h = omega (arith, sum-suc term n, sum-suc (λ f. getD cs (cellAt m i f) 0) n, dot-low n (omega arith), term-low n (omega arith))
 
     -- the sum as far as the scan has come
     pub sofar-low : (n y : ℕ) → y ≡ sum term 0 (min n m) → y ≤ 62979135

@@ -5,13 +5,14 @@ use mathlib.Core.List.{List}
 use Prim.Native.Nat.{ℕ, _+_, _-_, _≤_, _<_}
 use native.Mathlib.Nat.{zero-add}
 use native.Mathlib.Omega.{arith}
-use lib.ListN.{length, getD, take, drop, length-drop}
-use lib.Seq.{getD-take, getD-drop, length-take-le}
+use lib.ListN.{length, getD, take, drop}
+use lib.Seq.{length-take-le}
 use Rattle.spec.specs.declared.Plan.{Plan}
 use Rattle.spec.specs.Frame.{frameOf}
 use Rattle.spec.specs.Checks.{Planned}
 use Rattle.spec.specs.Median.{median}
 use Rattle.spec.specs.Walk.{arrive}
+use Rattle.spec.proofs.Lists.{part-long, part-cell}
 use Rattle.spec.proofs.Plans.{facts, kind-of, pixel-of}
 use Rattle.spec.proofs.Totals.{median-low}
 use Rattle.spec.proofs.Climb.{guided-full}
@@ -20,13 +21,6 @@ use Rattle.levels.specs.Answer.{Profiled, Answered}
 use Rattle.histogram.specs.Histogram.{Histogram}
 use Rattle.histogram.proofs.Laws.{count-at, sum-at}
 use Rattle.joint_guided.specs.Guided.{countsIn, guideSumsIn}
-
--- ---- a part of a list
-part-long : (xs : List ℕ) (i n : ℕ) → i + n ≤ length xs → length (take n (drop i xs)) ≡ n
-part-long xs i n h = length-take-le n (drop i xs) (rw length-drop (omega arith))
-
-part-cell : (xs : List ℕ) (i n k : ℕ) → k < n → getD (take n (drop i xs)) k 0 ≡ getD xs (i + k) 0
-part-cell xs i n k h = getD-take n (drop i xs) k 0 h ∙ getD-drop i xs k 0
 
 -- a histogram's two lists, as they are lent
 pub first-part : (l : ℕ) (ns : List ℕ) → take (l - 0) (drop 0 ns) ≡ countsIn l ns

@@ -6,14 +6,15 @@ use mathlib.Core.List.{List}
 use Prim.Native.Nat.{ℕ, _+_, _-_, _*_, _/_, _%_, _≤_, _<_}
 use native.Mathlib.Omega.{arith}
 use lib.Arith.{digits-div, digits-mod}
-use lib.ListN.{length, getD, set, take, drop, length-set, length-drop}
-use lib.Seq.{getD-set-same, getD-set-other, getD-take, getD-drop, length-take-le}
+use lib.ListN.{length, getD, set, take, drop, length-set}
+use lib.Seq.{getD-set-same, getD-set-other}
 use lib.IntN.{pos}
 use Rattle.spec.specs.declared.Plan.{Plan}
 use Rattle.spec.specs.Base.{distance}
 use Rattle.spec.specs.Bytes.{be16}
 use Rattle.spec.specs.Frame.{guide, table, plane, pixelGuide, builtIn, frameOf}
 use Rattle.spec.specs.Checks.{Planned}
+use Rattle.spec.proofs.Lists.{part-long, part-cell}
 use Rattle.spec.proofs.Plans.{facts, pixel-of, place-low, table-own, table-built}
 use Rattle.spec.proofs.Levels.{weight-table}
 use Rattle.joint.proofs.BitLaws.{eq-or-ne}
@@ -61,10 +62,9 @@ module _ {b : List ℕ} {z : Plan} (pl : Planned b z) {s t : ℕ} (hs : s < z .w
         RowWeighs (frameOf b) s t (take (end - from) (drop from row))
     mirror-weighs {row} {from} {end} one none mi ef ee =
         let n : end - from ≡ 256 = omega arith in
-        let inside : length (take (end - from) (drop from row)) ≡ end - from =
-        length-take-le (end - from) (drop from row) (rw length-drop (omega (arith, mi .long, centre-small))) in
+        let inside = part-long row from (end - from) (omega (arith, mi .long, centre-small)) in
         table-weighs one (omega (arith, inside, few))
-        (λ h l. getD-take (end - from) (drop from row) h 0 (omega (arith, few)) ∙ getD-drop from row h 0 ∙ mi .is (from + h)
+        (λ h l. part-cell row from (end - from) h (omega (arith, few)) ∙ mi .is (from + h)
         (omega (arith, few, centre-small)) ∙ ap (λ (q : ℕ). builtIn 255 (q + h)) ef ∙ mirror-built f h centre-small ∙ sym (table-built pl none f h))
 
     -- a row of 256 numbers that are the table's: the file's own, or made weight by weight
