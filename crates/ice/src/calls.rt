@@ -59,7 +59,7 @@ pub fn walk(
     if stops(w) {
         return refused(w);
     }
-    let by = checks::way_of(way);
+    let by = checks_room::way_of(way);
     travel(
         file,
         plan,
@@ -103,7 +103,7 @@ pub fn filter(
     if stops(w) {
         return refused(w);
     }
-    let by = checks::way_of(way);
+    let by = checks_room::way_of(way);
     sweep(file, plan, by, counts, words, numbers, output)
 }
 

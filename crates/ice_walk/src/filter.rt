@@ -1,8 +1,8 @@
 // The filter: the walk through the whole picture, each answer at its pixel's place.
 use crate::Walked;
 use crate::walk;
-use checks::moves::turn_at;
 use joint_rows::rows;
+use moves::turn_at;
 use spec::Plan;
 use spec::Verdict;
 use spec::Way;

@@ -1,7 +1,7 @@
 // The walk: its loop, and one byte of its list.
 use crate::Walked;
-use checks::moves::next;
 use joint_rows::rows;
+use moves::next;
 use spec::Answer;
 use spec::Move;
 use spec::Plan;

@@ -6,7 +6,7 @@ use Rattle.checks.proofs.balance_verdict.Statement.{statement}
 use Rattle.checks.proofs.balance_verdict.Tie as tie
 use Rattle.checks.proofs.balance_verdict.Reads as reads
 use Rattle.checks.proofs.balance_verdict.Lts as lts
-use Rattle.checks.proofs.bad_pixel.Reads as bad-pixel-reads
+use Rattle.checks_numbers.proofs.bad_pixel.Reads as bad-pixel-reads
 
 bad-pixel-requires : tie.Need-bad-pixel-requires
 bad-pixel-requires c κs = search needs

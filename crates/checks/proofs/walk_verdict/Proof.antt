@@ -6,9 +6,9 @@ use Rattle.checks.proofs.walk_verdict.Statement.{statement}
 use Rattle.checks.proofs.walk_verdict.Tie as tie
 use Rattle.checks.proofs.walk_verdict.Reads as reads
 use Rattle.checks.proofs.walk_verdict.Lts as lts
-use Rattle.checks.proofs.bad_pixel.Reads as bad-pixel-reads
-use Rattle.checks.proofs.bad_way.Reads as bad-way-reads
-use Rattle.checks.proofs.short.Reads as short-reads
+use Rattle.checks_numbers.proofs.bad_pixel.Reads as bad-pixel-reads
+use Rattle.checks_numbers.proofs.bad_way.Reads as bad-way-reads
+use Rattle.checks_room.proofs.short.Reads as short-reads
 
 bad-way-requires : tie.Need-bad-way-requires
 bad-way-requires c κs = search needs

@@ -20,7 +20,7 @@ use Rattle.frame.proofs.plan.open_plan.Reads as open-plan-reads
 use Rattle.ice_walk.proofs.filter.sweep.Reads as sweep-reads
 use Rattle.ice.proofs.calls.refused.Reads as refused-reads
 use Rattle.checks.proofs.filter_verdict.Reads as filter-verdict-reads
-use Rattle.checks.proofs.way_of.Reads as way-of-reads
+use Rattle.checks_room.proofs.way_of.Reads as way-of-reads
 
 abbrev held : tie.Start → Stores
 held at = stores (at .args .counts .now) (at .args .words .now) (at .args .numbers .now)

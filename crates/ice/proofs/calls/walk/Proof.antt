@@ -20,7 +20,7 @@ use Rattle.frame.proofs.plan.open_plan.Reads as open-plan-reads
 use Rattle.ice.proofs.calls.refused.Reads as refused-reads
 use Rattle.ice_walk.proofs.walk.travel.Reads as travel-reads
 use Rattle.checks.proofs.walk_verdict.Reads as walk-verdict-reads
-use Rattle.checks.proofs.way_of.Reads as way-of-reads
+use Rattle.checks_room.proofs.way_of.Reads as way-of-reads
 
 abbrev held : tie.Start → Stores
 held at = stores (at .args .counts .now) (at .args .words .now) (at .args .numbers .now)

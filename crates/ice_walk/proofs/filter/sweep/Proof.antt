@@ -13,7 +13,7 @@ use Rattle.ice_walk.proofs.filter.sweep.Statement.{statement}
 use Rattle.ice_walk.proofs.filter.sweep.Tie as tie
 use Rattle.ice_walk.proofs.filter.sweep.Reads as reads
 use Rattle.ice_walk.proofs.filter.sweep.Lts as lts
-use Rattle.checks.proofs.moves.turn_at.Reads as turn-at-reads
+use Rattle.moves.proofs.turn_at.Reads as turn-at-reads
 use Rattle.ice_walk.proofs.walk.step.Reads as step-reads
 use Rattle.spec.proofs.answer_number.Reads as answer-number-reads
 use Rattle.ways.proofs.dispatch.enter.Reads as enter-reads

@@ -6,7 +6,7 @@ use Rattle.ice_walk.proofs.walk.step.Statement.{statement}
 use Rattle.ice_walk.proofs.walk.step.Tie as tie
 use Rattle.ice_walk.proofs.walk.step.Reads as reads
 use Rattle.ice_walk.proofs.walk.step.Lts as lts
-use Rattle.checks.proofs.moves.next.Reads as next-reads
+use Rattle.moves.proofs.next.Reads as next-reads
 use Rattle.ways.proofs.dispatch.slide.Reads as slide-reads
 
 next-requires : tie.Need-next-requires

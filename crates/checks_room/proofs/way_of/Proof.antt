@@ -1,10 +1,10 @@
 use borrow.Author.Needs.{needs}
 use borrow.Author.Tests.{eq-eqb, ne-eqb, lt-ltb, le-ltb, le-leb, lt-leb}
 use Rattle.spec.specs.Calls.{wayOf}
-use Rattle.checks.proofs.way_of.Statement.{statement}
-use Rattle.checks.proofs.way_of.Tie as tie
-use Rattle.checks.proofs.way_of.Reads as reads
-use Rattle.checks.proofs.way_of.Lts as lts
+use Rattle.checks_room.proofs.way_of.Statement.{statement}
+use Rattle.checks_room.proofs.way_of.Tie as tie
+use Rattle.checks_room.proofs.way_of.Reads as reads
+use Rattle.checks_room.proofs.way_of.Lts as lts
 
 returns : tie.Need-returns
 unfolding wayOf

@@ -1,10 +1,10 @@
 use borrow.Author.Needs.{needs}
 use borrow.Author.Tests.{eq-eqb, ne-eqb, lt-ltb, le-ltb, le-leb, lt-leb}
 use Rattle.spec.specs.Calls.{lacks}
-use Rattle.checks.proofs.lacking.Statement.{statement}
-use Rattle.checks.proofs.lacking.Tie as tie
-use Rattle.checks.proofs.lacking.Reads as reads
-use Rattle.checks.proofs.lacking.Lts as lts
+use Rattle.checks_room.proofs.lacking.Statement.{statement}
+use Rattle.checks_room.proofs.lacking.Tie as tie
+use Rattle.checks_room.proofs.lacking.Reads as reads
+use Rattle.checks_room.proofs.lacking.Lts as lts
 
 returns : tie.Need-returns
 unfolding lacks

@@ -1,10 +1,10 @@
 use borrow.Author.Needs.{needs}
 use borrow.Author.Tests.{eq-eqb, ne-eqb, lt-ltb, le-ltb, le-leb, lt-leb}
 use Rattle.spec.specs.Calls.{badPixel}
-use Rattle.checks.proofs.bad_pixel.Statement.{statement}
-use Rattle.checks.proofs.bad_pixel.Tie as tie
-use Rattle.checks.proofs.bad_pixel.Reads as reads
-use Rattle.checks.proofs.bad_pixel.Lts as lts
+use Rattle.checks_numbers.proofs.bad_pixel.Statement.{statement}
+use Rattle.checks_numbers.proofs.bad_pixel.Tie as tie
+use Rattle.checks_numbers.proofs.bad_pixel.Reads as reads
+use Rattle.checks_numbers.proofs.bad_pixel.Lts as lts
 
 returns : tie.Need-returns
 unfolding badPixel

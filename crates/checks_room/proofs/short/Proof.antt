@@ -1,13 +1,13 @@
 use Rattle.spec.specs.Calls.{short}
-use Rattle.checks.proofs.Laws.{short-is}
+use Rattle.checks_room.proofs.Laws.{short-is}
 use borrow.Author.Needs.{needs}
-use Rattle.checks.proofs.short.Statement.{statement}
-use Rattle.checks.proofs.short.Tie as tie
-use Rattle.checks.proofs.short.Reads as reads
-use Rattle.checks.proofs.short.Lts as lts
-use Rattle.checks.proofs.lacking.Reads as lacking-reads
-use Rattle.checks.proofs.needed.Reads as needed-reads
-use Rattle.checks.proofs.way_of.Reads as way-of-reads
+use Rattle.checks_room.proofs.short.Statement.{statement}
+use Rattle.checks_room.proofs.short.Tie as tie
+use Rattle.checks_room.proofs.short.Reads as reads
+use Rattle.checks_room.proofs.short.Lts as lts
+use Rattle.checks_room.proofs.lacking.Reads as lacking-reads
+use Rattle.checks_room.proofs.needed.Reads as needed-reads
+use Rattle.checks_room.proofs.way_of.Reads as way-of-reads
 
 way-of-requires : tie.Need-way-of-requires
 way-of-requires c κs = search needs

@@ -1,10 +1,10 @@
 use borrow.Author.Needs.{needs}
 use borrow.Author.Tests.{eq-eqb, ne-eqb, lt-ltb, le-ltb, le-leb, lt-leb}
 use Rattle.spec.specs.Calls.{badWay}
-use Rattle.checks.proofs.bad_way.Statement.{statement}
-use Rattle.checks.proofs.bad_way.Tie as tie
-use Rattle.checks.proofs.bad_way.Reads as reads
-use Rattle.checks.proofs.bad_way.Lts as lts
+use Rattle.checks_numbers.proofs.bad_way.Statement.{statement}
+use Rattle.checks_numbers.proofs.bad_way.Tie as tie
+use Rattle.checks_numbers.proofs.bad_way.Reads as reads
+use Rattle.checks_numbers.proofs.bad_way.Lts as lts
 
 returns : tie.Need-returns
 unfolding badWay

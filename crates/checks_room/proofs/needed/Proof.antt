@@ -1,11 +1,11 @@
 use native.Mathlib.Omega.{arith}
 use Rattle.spec.specs.Calls.{roomOf}
-use Rattle.checks.proofs.Laws.{products}
+use Rattle.checks_room.proofs.Laws.{products}
 use borrow.Author.Needs.{needs}
-use Rattle.checks.proofs.needed.Statement.{statement}
-use Rattle.checks.proofs.needed.Tie as tie
-use Rattle.checks.proofs.needed.Reads as reads
-use Rattle.checks.proofs.needed.Lts as lts
+use Rattle.checks_room.proofs.needed.Statement.{statement}
+use Rattle.checks_room.proofs.needed.Tie as tie
+use Rattle.checks_room.proofs.needed.Reads as reads
+use Rattle.checks_room.proofs.needed.Lts as lts
 
 mul-side : tie.Need-mul-side
 mul-side c = search needs

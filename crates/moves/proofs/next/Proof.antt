@@ -1,10 +1,10 @@
 use borrow.Author.Tests.{eq-eqb, ne-eqb, lt-ltb, le-ltb, le-leb, lt-leb}
 use Rattle.spec.specs.Walk.{move}
 use borrow.Author.Needs.{needs}
-use Rattle.checks.proofs.moves.next.Statement.{statement}
-use Rattle.checks.proofs.moves.next.Tie as tie
-use Rattle.checks.proofs.moves.next.Reads as reads
-use Rattle.checks.proofs.moves.next.Lts as lts
+use Rattle.moves.proofs.next.Statement.{statement}
+use Rattle.moves.proofs.next.Tie as tie
+use Rattle.moves.proofs.next.Reads as reads
+use Rattle.moves.proofs.next.Lts as lts
 
 add-if2 : tie.Need-add-if2
 add-if2 c = search needs
