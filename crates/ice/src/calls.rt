@@ -3,9 +3,9 @@
 use crate::Balanced;
 use balance::balance_at;
 use frame::plan::open_plan;
-use ice_walk::Walked;
-use ice_walk::filter::sweep;
-use ice_walk::walk::travel;
+use ice_filter::sweep;
+use ice_step::Walked;
+use ice_walk::travel;
 use spec::Level;
 use spec::Room;
 use spec::Verdict;

@@ -1,11 +1,11 @@
 use mathlib.Core.Path.{sym, _∙_, refl}
-use Rattle.ice_walk.proofs.Laws.{settings-limits-in}
-use Rattle.ice_walk.proofs.Laws.{move-adjacent, visited-moves, visited-stays}
+use Rattle.ice_step.proofs.Laws.{settings-limits-in}
+use Rattle.ice_step.proofs.Laws.{move-adjacent, visited-moves, visited-stays}
 use borrow.Author.Needs.{needs}
-use Rattle.ice_walk.proofs.walk.step.Statement.{statement}
-use Rattle.ice_walk.proofs.walk.step.Tie as tie
-use Rattle.ice_walk.proofs.walk.step.Reads as reads
-use Rattle.ice_walk.proofs.walk.step.Lts as lts
+use Rattle.ice_step.proofs.step.Statement.{statement}
+use Rattle.ice_step.proofs.step.Tie as tie
+use Rattle.ice_step.proofs.step.Reads as reads
+use Rattle.ice_step.proofs.step.Lts as lts
 use Rattle.moves.proofs.next.Reads as next-reads
 use Rattle.ways.proofs.dispatch.slide.Reads as slide-reads
 

@@ -1,6 +1,6 @@
-// The filter: the walk through the whole picture, each answer at its pixel's place.
-use crate::Walked;
-use crate::walk;
+// The filter: the walk through the whole picture, each answer at its pixel's place. It comes after every check.
+use ice_step::Walked;
+use ice_step::step;
 use joint_rows::rows;
 use moves::turn_at;
 use spec::Plan;
@@ -16,7 +16,7 @@ ghost use Rattle.spec.specs.Frame.{frameOf, pixels, settingsIn};
 ghost use Rattle.spec.specs.Checks.{Planned};
 ghost use Rattle.spec.specs.Filter.{filtered, filterEnd};
 ghost use Rattle.ways.specs.Visit.{stores, Fit, Serves};
-ghost use Rattle.ice_walk.specs.Finished.{Finished};
+ghost use Rattle.ice_step.specs.Finished.{Finished};
 
 // The filter's work, after the checks. The built-in weights, the box and the histogram are its own, and made once.
 pub fn sweep(
@@ -60,7 +60,7 @@ pub fn sweep(
     output[0] = answer_number(first);
     let mut i = 0;
     while i + 1 < n {
-        let then = walk::step(
+        let then = step(
             file,
             plan,
             way,

@@ -6,7 +6,7 @@ use Rattle.spec.specs.declared.Way.{Way}
 use Rattle.spec.specs.Frame.{Frame}
 use Rattle.spec.specs.Walk.{State}
 use Rattle.ways.specs.Visit.{Stores, Holds, Kept}
-use Rattle.ice_walk.specs.declared.Walked.{Walked}
+use Rattle.ice_step.specs.declared.Walked.{Walked}
 
 -- its result, and the stores of its last window
 pub record Finished (way : Way) (p : Frame) (x : State) (before after : Stores) (r : Walked) : Type 0 where

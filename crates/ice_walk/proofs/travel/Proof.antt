@@ -5,13 +5,13 @@ use borrow.Author.Needs.{needs}
 use lib.ListN.{length, length-set}
 use Rattle.visit.specs.Visit.{stateOf}
 use Rattle.ways.specs.Visit.{stores}
-use Rattle.ice_walk.proofs.Laws.{histogram-blank, within-of, fit-going}
-use Rattle.ice_walk.proofs.WalkLoop.{Walking, held-first, finished, walking-start, walking-long, walking-more, walking-end}
-use Rattle.ice_walk.proofs.walk.travel.Statement.{statement}
-use Rattle.ice_walk.proofs.walk.travel.Tie as tie
-use Rattle.ice_walk.proofs.walk.travel.Reads as reads
-use Rattle.ice_walk.proofs.walk.travel.Lts as lts
-use Rattle.ice_walk.proofs.walk.step.Reads as step-reads
+use Rattle.ice_step.proofs.Laws.{histogram-blank, held-first, finished, within-of, fit-going}
+use Rattle.ice_walk.proofs.WalkLoop.{Walking, walking-start, walking-long, walking-more, walking-end}
+use Rattle.ice_walk.proofs.travel.Statement.{statement}
+use Rattle.ice_walk.proofs.travel.Tie as tie
+use Rattle.ice_walk.proofs.travel.Reads as reads
+use Rattle.ice_walk.proofs.travel.Lts as lts
+use Rattle.ice_step.proofs.step.Reads as step-reads
 use Rattle.spec.proofs.answer_number.Reads as answer-number-reads
 use Rattle.ways.proofs.dispatch.enter.Reads as enter-reads
 

@@ -6,15 +6,14 @@ use lib.ListN.{length, length-set}
 use Rattle.visit.specs.Visit.{stateOf}
 use Rattle.ways.specs.Visit.{stores}
 use Rattle.spec.proofs.Plans.{plane-small}
-use Rattle.ice_walk.proofs.Laws.{histogram-blank, within-of, fit-going}
-use Rattle.ice_walk.proofs.WalkLoop.{finished}
-use Rattle.ice_walk.proofs.FilterLoop.{Sweeping, first-in, some, sweeping-start, sweeping-low, sweeping-place, sweeping-more, sweeping-end}
-use Rattle.ice_walk.proofs.filter.sweep.Statement.{statement}
-use Rattle.ice_walk.proofs.filter.sweep.Tie as tie
-use Rattle.ice_walk.proofs.filter.sweep.Reads as reads
-use Rattle.ice_walk.proofs.filter.sweep.Lts as lts
+use Rattle.ice_step.proofs.Laws.{histogram-blank, finished, within-of, fit-going}
+use Rattle.ice_filter.proofs.FilterLoop.{Sweeping, first-in, some, sweeping-start, sweeping-low, sweeping-place, sweeping-more, sweeping-end}
+use Rattle.ice_filter.proofs.sweep.Statement.{statement}
+use Rattle.ice_filter.proofs.sweep.Tie as tie
+use Rattle.ice_filter.proofs.sweep.Reads as reads
+use Rattle.ice_filter.proofs.sweep.Lts as lts
 use Rattle.moves.proofs.turn_at.Reads as turn-at-reads
-use Rattle.ice_walk.proofs.walk.step.Reads as step-reads
+use Rattle.ice_step.proofs.step.Reads as step-reads
 use Rattle.spec.proofs.answer_number.Reads as answer-number-reads
 use Rattle.ways.proofs.dispatch.enter.Reads as enter-reads
 

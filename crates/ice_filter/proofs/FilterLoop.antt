@@ -42,9 +42,8 @@ use Rattle.spec.proofs.Serpentine.{
 use Rattle.visit.specs.declared.Visit.{Visit}
 use Rattle.visit.specs.Visit.{stateOf}
 use Rattle.ways.specs.Visit.{Stores, KeptBeyond, Kept, AtWindow, Visited}
-use Rattle.ice_walk.proofs.WalkLoop.{held-first}
 use Rattle.ways.proofs.WayLaws.{beyond-same}
-use Rattle.ice_walk.proofs.Laws.{beyond-trans, beyond-set, Going, going-start, going-more, going-end}
+use Rattle.ice_step.proofs.Laws.{held-first, beyond-trans, beyond-set, Going, going-start, going-more, going-end}
 
 -- ---- the plane, pixel by pixel, when i moves are done
 unfoldable pub Plane : Frame → List ℕ → ℕ → Type 0

@@ -1,4 +1,4 @@
--- Stores over several calls, one byte of a walk, and the two loops: each loop's invariant and what a turn does to it, over plain values.
+-- Stores over several calls, one byte of a walk, and what holds in any loop of such bytes, over plain values.
 -- Assumes nothing.
 use Prim.Native.Nat.{ℕ, suc, _+_, _-_, _≤_, _<_}
 use mathlib.Core.Path.{_≡_, refl, ap, sym, _∙_, subst}
@@ -15,19 +15,22 @@ use Rattle.spec.specs.declared.Settings.{Settings}
 use Rattle.spec.specs.declared.Plan.{Plan}
 use Rattle.spec.specs.declared.Way.{Way}
 use Rattle.spec.specs.declared.Move.the-variants.{To, Nowhere}
+use Rattle.spec.specs.declared.Verdict.the-variants.{Accepted}
 use Rattle.spec.specs.Base.{if_then_else_}
 use Rattle.spec.specs.Frame.{Frame, frameOf, settingsIn}
 use Rattle.spec.specs.Checks.{Planned, SettingsLimits}
 use Rattle.spec.specs.Walk.{State, arrive, toIf, move, step, after, answers}
-use Rattle.spec.proofs.Plans.{facts}
+use Rattle.spec.proofs.Plans.{facts, pixel-of}
 use Rattle.spec.proofs.Steps.{after-one}
-use Rattle.spec.proofs.Walks.{Held, held-step, step-to, step-nowhere}
+use Rattle.spec.proofs.Walks.{Held, held-start, held-step, step-to, step-nowhere}
 use Rattle.histogram.specs.Histogram.{Blank}
 use Rattle.window.specs.Line.{Adjacent, right, left, down, up}
 use Rattle.visit.specs.declared.Visit.{Visit}
 use Rattle.visit.specs.Visit.{stateOf, Within}
 use Rattle.ways.specs.Visit.{Stores, Fit, KeptBeyond, Kept, AtWindow, Visited}
 use Rattle.ways.proofs.WayLaws.{settings-same, beyond-same}
+use Rattle.ice_step.specs.declared.Walked.{Walked}
+use Rattle.ice_step.specs.Finished.{Finished}
 
 -- ---- the plan's settings are within document 01's limits
 pub settings-limits-in : {b : List ℕ} {z : Plan} → Planned b z → SettingsLimits (settingsIn z)
@@ -113,6 +116,19 @@ within-of {b} {z} k v n h l =
       cut = rw (f .levels) (h .cut-low);
       shifts = omega (arith, h .shifts-low);
     }
+
+-- ---- the first state of a walk that an accepted file makes
+pub held-first : {b : List ℕ} {z : Plan} → Planned b z → (s t : ℕ) (v : Visit) → s < z .width → t < z .height → stateOf v ≡ arrive (frameOf b) s t 0 0
+    → Held (frameOf b) (stateOf v) 1
+held-first {b} k s t v hs ht e = subst (λ (q : State). Held (frameOf b) q 1) (sym e) (held-start (pixel-of k hs ht))
+
+-- what a visit leaves, as a loop's result
+pub finished : {way : Way} {b : List ℕ} {x : State} {a z : Stores} {hs : List ℕ} {d : List ℤ} (v : Visit) (r : Walked) → Visited way b x a z hs d v →
+    r .verdict ≡ Accepted
+    → r .shifts ≡ v .shifts → r .cut .0 ≡ v .cut .0 → r .cells ≡ d → Finished way (frameOf b) x a z r
+finished {way} {b} {x} {a} {z} {hs} {d} v r h e s c k =
+    subst (λ (w : State). Finished way (frameOf b) w a z r) (h .state)
+    (record { verdict = e; shifts = s; cut = c; holds = rw k (h .here .holds); kept = h .kept })
 
 -- ---- a list with one more byte
 pub answers-one : (p : Frame) (x : State) (bs : List ℕ) (b : ℕ) →
