@@ -1,4 +1,4 @@
-use Prim.Native.Nat.{_+_, _*_, _-_, _<_, _≤_}
+use Prim.Native.Nat.{ℕ, _+_, _*_, _-_, _<_, _≤_}
 use mathlib.Core.Path.{_≡_, refl, _∙_}
 use native.Mathlib.Omega.{arith}
 use borrow.Author.Needs.{needs}
@@ -199,6 +199,7 @@ loop-less c =
           .loop-test .taken,
     )
 
+-- the place is the goal's own; c and l are put out of sight there, so that a wrong place is refused by its numbers alone
 loop-again : tie.Need-loop-again Inv-loop μ-loop
 unfolding entry
 loop-again c =
@@ -213,7 +214,7 @@ loop-again c =
     )) _
     (c .before .before .before .before .before .before .before .before .before .before .before .before .before .before .before .turn-at .ensures)
     _ _ _ _ (c .before .before .before .before .before .before .before .before .before .step .ensures) (simp length-set (room (l .before))) _
-    (c .answer-number2 .ensures)
+    (c .answer-number2 .ensures) _ (let c : ℕ = 0 in let l : ℕ = 0 in omega arith)
 
 same-length : tie.Need-same-length Inv-loop μ-loop
 same-length c =
