@@ -1,11 +1,11 @@
--- `text::put_way` meets its contract: the word, the shift count, the end of the line.
+-- `text_lines::put_way` meets its contract: the word, the shift count, the end of the line.
 -- Assumes nothing.
 use Rattle.text.proofs.Putting.{joined, room-line, room-second, room-end}
 use Rattle.spec.specs.Program.{decimal}
 use Rattle.text.specs.Text.{wayText}
 use borrow.Author.Needs.{needs}
-use Rattle.text.proofs.put_way.Statement.{statement}
-use Rattle.text.proofs.put_way.Tie as tie
+use Rattle.text_lines.proofs.put_way.Statement.{statement}
+use Rattle.text_lines.proofs.put_way.Tie as tie
 
 put-word-requires : tie.Need-put-word-requires
 unfolding wayText

@@ -1,13 +1,13 @@
--- `text::put_rows` meets its contract. The loop's invariant: the first t rows stand in the buffer. The measure is what is left of them.
+-- `text_lines::put_rows` meets its contract. The loop's invariant: the first t rows stand in the buffer. The measure is what is left of them.
 -- Assumes nothing.
 use mathlib.Core.Path.{_≡_, ap}
 use Prim.Native.Nat.{_-_, _*_, _≤_}
 use native.Mathlib.Omega.{arith}
 use Rattle.text.specs.Text.{Puts, pieces, rowText, planeText}
 use Rattle.text.proofs.Putting.{none, called, as-long, room-piece, joined-piece}
 use Rattle.text.proofs.Rows.{row-fits}
-use Rattle.text.proofs.put_rows.Statement.{statement}
-use Rattle.text.proofs.put_rows.Tie as tie
+use Rattle.text_lines.proofs.put_rows.Statement.{statement}
+use Rattle.text_lines.proofs.put_rows.Tie as tie
 
 abbrev Inv-loop : tie.InvT-loop
 Inv-loop out₀ at plane width height next₀ t₀ out next t = (t ≤ height) × (Puts out₀ out at next (planeText plane width t))

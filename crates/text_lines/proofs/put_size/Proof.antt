@@ -1,14 +1,14 @@
--- `text::put_size` meets its contract: width, height, the end of the line.
+-- `text_lines::put_size` meets its contract: width, height, the end of the line.
 -- Assumes nothing.
 use Prim.Native.Nat.{_+_, _≤_}
 use native.Mathlib.Omega.{arith}
 use lib.ListN.{length, length-append}
 use Rattle.text.proofs.Putting.{joined, as-long}
 use Rattle.spec.specs.Program.{decimal}
 use Rattle.text.specs.Text.{sizeText}
 use borrow.Author.Needs.{needs}
-use Rattle.text.proofs.put_size.Statement.{statement}
-use Rattle.text.proofs.put_size.Tie as tie
+use Rattle.text_lines.proofs.put_size.Statement.{statement}
+use Rattle.text_lines.proofs.put_size.Tie as tie
 
 -- room for both numbers and the end of the line
 room : (s : tie.Start) → s .args .at + (length (decimal (s .args .width)) + length (decimal (s .args .height)) + 2) ≤ length (s .args .out .now)

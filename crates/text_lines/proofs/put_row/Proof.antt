@@ -1,16 +1,16 @@
--- `text::put_row` meets its contract: the first level, those that follow it, the end of the line.
+-- `text_lines::put_row` meets its contract: the first level, those that follow it, the end of the line.
 -- Assumes nothing.
 use mathlib.Core.Path.{sym}
 use native.Mathlib.Omega.{arith}
 use Prim.Native.Nat.{_-_}
 use lib.ListN.{getD}
 use Rattle.spec.specs.Program.{decimal}
 use Rattle.text.specs.Text.{pieces, follower}
 use Rattle.text.proofs.Putting.{joined, called, room-line, room-second, room-end}
 use Rattle.text.proofs.Rows.{row-pieces}
 use borrow.Author.Needs.{needs}
-use Rattle.text.proofs.put_row.Statement.{statement}
-use Rattle.text.proofs.put_row.Tie as tie
+use Rattle.text_lines.proofs.put_row.Statement.{statement}
+use Rattle.text_lines.proofs.put_row.Tie as tie
 
 mul-put-decimal : tie.Need-mul-put-decimal
 mul-put-decimal c = search needs

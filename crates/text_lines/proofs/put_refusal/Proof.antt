@@ -1,4 +1,4 @@
--- `text::put_refusal` meets its contract: the word, the number, for 7 the offset, the end of the line.
+-- `text_lines::put_refusal` meets its contract: the word, the number, for 7 the offset, the end of the line.
 -- Assumes nothing.
 use mathlib.Core.Path.{sym}
 use mathlib.Core.List.{[], _∷_, _++_}
@@ -7,12 +7,12 @@ use lib.ListN.{length-append}
 use native.Mathlib.Omega.{arith}
 use Rattle.spec.specs.Base.{if_then_else_}
 use Rattle.spec.specs.Program.{decimal, refusedWord, beside}
 use Rattle.text.specs.Text.{Room, refusalText, spacedOne}
 use Rattle.text.proofs.Putting.{joined, called, room-first, room-next, room-line, room-second, room-end}
 use Rattle.text.proofs.Rows.{refusal-plain, refusal-seven}
 use borrow.Author.Needs.{needs}
-use Rattle.text.proofs.put_refusal.Statement.{statement}
-use Rattle.text.proofs.put_refusal.Tie as tie
+use Rattle.text_lines.proofs.put_refusal.Statement.{statement}
+use Rattle.text_lines.proofs.put_refusal.Tie as tie
 
 -- room for the word and the number, whatever the number
 head : (s : tie.Start) → Room (s .args .out .now) (s .args .at) (refusedWord ++ decimal (s .args .number))

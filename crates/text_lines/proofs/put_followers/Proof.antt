@@ -1,12 +1,12 @@
--- `text::put_followers` meets its contract. The loop's invariant: the first k levels stand in the buffer. The measure is what is left of them.
+-- `text_lines::put_followers` meets its contract. The loop's invariant: the first k levels stand in the buffer. The measure is what is left of them.
 -- Assumes nothing.
 use mathlib.Core.Path.{_≡_, ap}
 use Prim.Native.Nat.{_+_, _-_, _≤_}
 use native.Mathlib.Omega.{arith}
 use Rattle.text.specs.Text.{Puts, pieces, follower}
 use Rattle.text.proofs.Putting.{none, called, as-long, room-piece, joined-piece}
-use Rattle.text.proofs.put_followers.Statement.{statement}
-use Rattle.text.proofs.put_followers.Tie as tie
+use Rattle.text_lines.proofs.put_followers.Statement.{statement}
+use Rattle.text_lines.proofs.put_followers.Tie as tie
 
 abbrev Inv-loop : tie.InvT-loop
 Inv-loop out₀ at plane first n next₀ k₀ out next k = (k ≤ n) × (Puts out₀ out at next (pieces (follower plane first) k))
