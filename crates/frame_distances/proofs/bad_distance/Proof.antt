@@ -1,10 +1,10 @@
--- `frame_limits::bad_distance` meets its contract. Assumes nothing.
+-- `frame_distances::bad_distance` meets its contract. Assumes nothing.
 use Rattle.spec.specs.Checks.{badDistance}
 use Rattle.spec.proofs.Outcomes.{same}
 use borrow.Author.Tests.{eq-eqb, ne-eqb}
 use borrow.Author.Needs.{needs}
-use Rattle.frame_limits.proofs.bad_distance.Statement.{statement}
-use Rattle.frame_limits.proofs.bad_distance.Tie as tie
+use Rattle.frame_distances.proofs.bad_distance.Statement.{statement}
+use Rattle.frame_distances.proofs.bad_distance.Tie as tie
 
 plane-bytes-requires : tie.Need-plane-bytes-requires
 plane-bytes-requires c κs = search needs

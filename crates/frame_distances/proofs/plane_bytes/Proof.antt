@@ -1,8 +1,8 @@
--- `frame_limits::plane_bytes` meets its contract. Assumes nothing.
+-- `frame_distances::plane_bytes` meets its contract. Assumes nothing.
 use native.Mathlib.Omega.{arith}
 use borrow.Author.Needs.{needs}
-use Rattle.frame_limits.proofs.plane_bytes.Statement.{statement}
-use Rattle.frame_limits.proofs.plane_bytes.Tie as tie
+use Rattle.frame_distances.proofs.plane_bytes.Statement.{statement}
+use Rattle.frame_distances.proofs.plane_bytes.Tie as tie
 
 product-requires : tie.Need-product-requires
 product-requires c κs = search needs
