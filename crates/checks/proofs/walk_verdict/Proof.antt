@@ -1,3 +1,4 @@
+use native.Mathlib.Omega.{arith}
 use borrow.Author.Tests.{lt-ltb, le-ltb}
 use Rattle.spec.specs.Calls.{walkChecks}
 use Rattle.checks.proofs.Laws.{known}
@@ -32,7 +33,7 @@ returns-3 c =
       known (c .before .before .before .before .bad-way .ensures) (c .before .before .before .if1 .left),
       known
           (c .before .before .bad-pixel .ensures) (c .before .if2 .left),
-      lt-ltb _ _ (c .if3 .taken),
+      lt-ltb 1048576 (c .before .before .before .before .before .args .n) (omega arith),
     )
 
 add-short : tie.Need-add-short
@@ -48,7 +49,7 @@ returns-4 c =
       known (c .before .before .before .before .before .before .bad-way .ensures) (c .before .before .before .before .before .if1 .left),
       known
           (c .before .before .before .before .bad-pixel .ensures) (c .before .before .before .if2 .left),
-      le-ltb _ _ (c .before .before .if3 .left),
+      le-ltb 1048576 (c .before .before .before .before .before .before .before .args .n) (omega arith),
       known
           (c .before .short .ensures) (c .if4 .taken),
     )
@@ -60,7 +61,7 @@ returns-5 c =
       known (c .before .before .before .before .before .before .bad-way .ensures) (c .before .before .before .before .before .if1 .left),
       known
           (c .before .before .before .before .bad-pixel .ensures) (c .before .before .before .if2 .left),
-      le-ltb _ _ (c .before .before .if3 .left),
+      le-ltb 1048576 (c .before .before .before .before .before .before .before .args .n) (omega arith),
       known
           (c .before .short .ensures) (c .if4 .left),
     )

@@ -1,5 +1,5 @@
-use borrow.Author.Needs.{needs}
-use borrow.Author.Tests.{eq-eqb, ne-eqb, lt-ltb, le-ltb, le-leb, lt-leb}
+use native.Mathlib.Omega.{arith}
+use borrow.Author.Tests.{lt-ltb, le-ltb}
 use Rattle.spec.specs.Calls.{badPixel}
 use Rattle.checks_numbers.proofs.bad_pixel.Statement.{statement}
 use Rattle.checks_numbers.proofs.bad_pixel.Tie as tie
@@ -8,15 +8,19 @@ use Rattle.checks_numbers.proofs.bad_pixel.Lts as lts
 
 returns : tie.Need-returns
 unfolding badPixel
-returns c = search (needs, lt-ltb, le-ltb)
+returns c = let a = c .before .before .args in simp (le-ltb (a .column) (a .plan .width) (omega arith))
 
 returns-2 : tie.Need-returns-2
 unfolding badPixel
-returns-2 c = search (needs, lt-ltb, le-ltb)
+returns-2 c =
+    let a = c .before .before .before .before .args in
+    simp (lt-ltb (a .column) (a .plan .width) (omega arith), le-ltb (a .row) (a .plan .height) (omega arith))
 
 returns-3 : tie.Need-returns-3
 unfolding badPixel
-returns-3 c = search (needs, lt-ltb, le-ltb)
+returns-3 c =
+    let a = c .before .before .before .before .args in
+    simp (lt-ltb (a .column) (a .plan .width) (omega arith), lt-ltb (a .row) (a .plan .height) (omega arith))
 
 pub bad-pixel-spec : {M : Type 1} → statement M
 bad-pixel-spec = tie.close (tie.spec returns returns-2 returns-3)
