@@ -7,7 +7,6 @@ use Prim.Native.Nat.{ℕ, _+_, _≤_, _<_}
 use native.Mathlib.Omega.{arith}
 use lib.IntN.{ℤ, pos}
 use lib.Signed.{_<ℤ_}
-use Rattle.spec.specs.declared.Level.{Level}
 use Rattle.spec.specs.declared.Plan.{Plan}
 use Rattle.spec.specs.Base.{if_then_else_, distance, first}
 use Rattle.spec.specs.Frame.{guide, frameOf}
@@ -15,7 +14,7 @@ use Rattle.spec.specs.Checks.{Planned}
 use Rattle.spec.specs.Weight.{monotone}
 use Rattle.spec.specs.Window.{pixelCount, guideSum}
 use Rattle.spec.specs.Median.{median}
-use Rattle.spec.specs.Walk.{State, arrive}
+use Rattle.spec.specs.Walk.{answerNumber, arrive}
 use Rattle.spec.proofs.Plans.{facts, pixel-of}
 use Rattle.spec.proofs.Totals.{median-low}
 use Rattle.spec.proofs.Climb.{guided-full}
@@ -31,8 +30,8 @@ use Rattle.chain.specs.Moves.{levelCounts, levelGuides, Listed, Stored}
 use Rattle.chain.proofs.WindowLaws.{level-total}
 use Rattle.visit.specs.declared.Running.{Running}
 use Rattle.visit.specs.declared.Visit.{Visit}
-use Rattle.visit.specs.Visit.{stateOf, answered}
-use Rattle.visit.proofs.Laws.{state-is, at-visit}
+use Rattle.visit.specs.Visit.{stateOf}
+use Rattle.visit.proofs.Laws.{at-visit}
 use Rattle.chain_search.specs.Climb.{reachesAt, Climbs}
 use Rattle.chain_visit.specs.Visit.{ChainVisited}
 use Rattle.chain_search.proofs.ClimbLaws.{climb-median}
@@ -97,14 +96,14 @@ module _ {b : List ℕ} {z : Plan} (pl : Planned b z) where
       unfolding arrive
       arrive-is c n = rw (guided-full (pixel-of pl hs ht) kind-is .1) refl
 
-      pub answers : (c n : ℕ) (r : Level) (more : ℕ) (q : Bool) (g : Running) → r .0 ≡ median (frameOf b) s t → q ≡ monotone (frameOf b) s t
-          → more ≡ (if q then distance (r .0) c else r .0)
-          → stateOf (answered s t r (n + more) g) ≡ arrive (frameOf b) s t c n
-      answers c n r more q g er eq em =
-          state-is (frameOf b) s t c n r (n + more) r g (er ∙ sym (ap (λ (x : State). x .cut) (arrive-is c n)))
-          (ap (λ (x : ℕ). n + x) (em ∙ ap₂ (λ (y : Bool) (x : ℕ). if y then distance x c else x) eq er) ∙ sym
-          (ap (λ (x : State). x .shifts) (arrive-is c n)))
-          (er ∙ sym (ap (λ (x : State). x .answer) (arrive-is c n)))
+      -- a visit whose level is the median, with what it adds to the shift count
+      pub answers : (c n : ℕ) (v : Visit) (r more : ℕ) (q : Bool) → v .column ≡ s → v .row ≡ t → v .cut .0 ≡ r → answerNumber (v .answer) ≡ r
+          → v .shifts ≡ n + more → r ≡ median (frameOf b) s t → q ≡ monotone (frameOf b) s t → more ≡ (if q then distance r c else r)
+          → stateOf v ≡ arrive (frameOf b) s t c n
+      answers c n v r more q ec er eu ea eh em eq ek =
+          let added : v .shifts ≡ n + (if monotone (frameOf b) s t then distance (median (frameOf b) s t) c else median (frameOf b) s t) =
+          eh ∙ ap (λ (x : ℕ). n + x) (ek ∙ ap₂ (λ (y : Bool) (x : ℕ). if y then distance x c else x) eq em) in
+          (λ i. record { column = ec i; row = er i; cut = (eu ∙ em) i; shifts = added i; answer = (ea ∙ em) i }) ∙ sym (arrive-is c n)
 
 -- the visit's window is the one that it came to, and what ran along was handed in
 pub chain-visited : (b : List ℕ) (z : Plan) (s t c n : ℕ) (v : Visit) (g : Running) (m m′ : List ℕ) → stateOf v ≡ arrive (frameOf b) s t c n →

@@ -34,7 +34,7 @@ use Rattle.spec.proofs.Minimum.{minimum, answer-median, answer-weightless}
 use Rattle.spec.proofs.Walks.{StateBounded, Marks, marks, walk-first, walk-next, walk-bounded, walk-length, walk-shifts, step-level, Fine, move-fine}
 use Rattle.spec.proofs.First.{length-tabulate}
 use Rattle.spec.proofs.Serpentine.{filtered-at}
-use Rattle.ice_walk.specs.declared.Walked.{Walked}
+use Rattle.ice_step.specs.declared.Walked.{Walked}
 use Rattle.ice.specs.declared.Balanced.{Balanced}
 use Rattle.frame_write.specs.declared.Written.{Written}
 use Rattle.frame_write.specs.declared.Written.the-variants.{Length, Refused as Declined}

@@ -20,7 +20,7 @@ use Rattle.spec.specs.Walk.{State, move, start, walkEnd, walkAnswers, adds, add
 use Rattle.spec.specs.Filter.{filtered, filterEnd}
 use Rattle.spec.specs.Calls.{wayOf, walkOutcome, filterOutcome, balanceOutcome}
 use Rattle.spec.specs.Writer.{written, writtenSize, writerOutcome}
-use Rattle.ice_walk.specs.declared.Walked.{Walked}
+use Rattle.ice_step.specs.declared.Walked.{Walked}
 use Rattle.ice.specs.declared.Balanced.{Balanced}
 use Rattle.frame_write.specs.declared.Written.{Written}
 use Rattle.frame_write.specs.declared.Written.the-variants.{Length}

@@ -1,7 +1,7 @@
 // An opened frame: the caller's bytes beside the trailer, and the parts of them that it shows. A refused file is opened too, with its refusal and a
 // blank trailer, so that it shows nothing and no function here asks anything of its caller.
 use crate::check::check;
-use frame_limits::plane_bytes;
+use frame_distances::plane_bytes;
 use frame_trailer::TRAILER;
 use frame_trailer::own_weights;
 use frame_trailer::trailer_of;

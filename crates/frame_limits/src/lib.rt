@@ -1,13 +1,11 @@
-// Checks 2 to 6 of a trailer's numbers: no bytes are read here.
+// Checks 2 to 5 of a trailer's numbers: no bytes are read here.
 use spec::Refusal;
 use spec::Settings;
-use spec::Trailer;
 use spec::Verdict;
 ghost use mathlib.Core.Path.{_≡_};
 ghost use Prim.Native.Nat.{_*_, _<_};
 ghost use Rattle.spec.specs.Refusal.{numbered};
-ghost use Rattle.spec.specs.Frame.{pixels, tableSize};
-ghost use Rattle.spec.specs.Checks.{outside, badSize, badCounts, badKind, settingsOutcome, badDistance};
+ghost use Rattle.spec.specs.Checks.{outside, badSize, badCounts, badKind, settingsOutcome};
 
 pub fn product(a: u16, b: u16) -> usize
     ensures { λ r. ⌜ (r ≡ a * b) × (r < 4294967296) ⌝ }
@@ -15,7 +13,7 @@ pub fn product(a: u16, b: u16) -> usize
     (a as usize) * (b as usize)
 }
 
-fn outside(low: usize, high: usize, n: usize) -> bool
+pub fn outside(low: usize, high: usize, n: usize) -> bool
     ensures { λ r. ⌜ r ≡ outside low high n ⌝ }
 {
     if n < low {
@@ -74,38 +72,4 @@ pub fn check_settings(settings: Settings) -> Verdict
         return Verdict::Refused(Refusal::Radius);
     }
     Verdict::Accepted
-}
-
-// The bytes of a plane, of a table.
-pub fn plane_bytes(settings: Settings) -> usize
-    ensures { λ r. ⌜ (r ≡ 2 * pixels settings) × (r < 8589934592) ⌝ }
-{
-    2 * product(settings.width, settings.height)
-}
-
-fn table_bytes(settings: Settings) -> usize
-    ensures { λ r. ⌜ (r ≡ 2 * tableSize settings) × (r < 8589934592) ⌝ }
-{
-    2 * product(settings.guides, settings.guides)
-}
-
-// Check 6, of a trailer that begins at byte at.
-pub fn bad_distance(at: usize, t: Trailer) -> bool
-    ensures { λ r. ⌜ r ≡ badDistance at t ⌝ }
-{
-    let k = t.settings;
-    let plane = plane_bytes(k);
-    if outside(plane, at, t.value) {
-        return true;
-    }
-    if outside(plane, at, t.guide) {
-        return true;
-    }
-    if t.table == 0 {
-        return false;
-    }
-    if outside(table_bytes(k), at, t.table) {
-        return true;
-    }
-    k.kind == 2
 }

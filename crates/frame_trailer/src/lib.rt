@@ -1,7 +1,7 @@
 // The trailer of a file: its 28 bytes read, checks 1 to 6 of them, and the plan of the file that they give.
 use big_endian::be16;
 use big_endian::be32;
-use frame_limits::bad_distance;
+use frame_distances::bad_distance;
 use frame_limits::check_settings;
 use frame_limits::product;
 use spec::Plan;

@@ -23,10 +23,10 @@ use Rattle.spec.proofs.Plans.{facts}
 use Rattle.spec.proofs.Calls.{way-serves, RoomFits, walk-accepted, filter-accepted, balance-accepted}
 use Rattle.frame.specs.declared.plan.Opened.{Opened}
 use Rattle.frame.specs.Plan.{openedPlan}
-use Rattle.ice_walk.specs.declared.Walked.{Walked}
+use Rattle.ice_step.specs.declared.Walked.{Walked}
 use Rattle.ice.specs.declared.Balanced.{Balanced}
 use Rattle.ways.specs.Visit.{Stores, lent, Fit, Serves}
-use Rattle.ice_walk.specs.Finished.{Finished}
+use Rattle.ice_step.specs.Finished.{Finished}
 use Rattle.ice.specs.Result.{Zeroed}
 use Rattle.ice.specs.Contract.{Untouched, Ended, Walks, Filters, Balances}
 use Rattle.ways.proofs.WayLaws.{settings-same}

@@ -14,7 +14,7 @@ use Rattle.spec.specs.Median.{balance}
 use Rattle.spec.specs.Walk.{State, walkEnd, walkAnswers}
 use Rattle.spec.specs.Filter.{filtered, filterEnd}
 use Rattle.spec.specs.Calls.{wayOf, roomOf, countsOf, wordsOf, NumbersOf, boxOf, zeros, walkOutcome, filterOutcome, balanceOutcome}
-use Rattle.ice_walk.specs.declared.Walked.{Walked}
+use Rattle.ice_step.specs.declared.Walked.{Walked}
 use Rattle.ice.specs.declared.Balanced.{Balanced}
 use Rattle.ways.specs.Visit.{Stores, lent}
 

@@ -3,7 +3,7 @@
 use mathlib.Core.Path.{_≡_}
 use Rattle.spec.specs.declared.Verdict.{Verdict}
 use Rattle.spec.specs.Calls.{zeros}
-use Rattle.ice_walk.specs.declared.Walked.{Walked}
+use Rattle.ice_step.specs.declared.Walked.{Walked}
 
 -- the result of a refused call
 pub record Zeroed (v : Verdict) (r : Walked) : Type 0 where

@@ -3,9 +3,9 @@
 use crate::Balanced;
 use balance::balance_at;
 use frame::plan::open_plan;
-use ice_walk::Walked;
-use ice_walk::filter::sweep;
-use ice_walk::walk::travel;
+use ice_filter::sweep;
+use ice_step::Walked;
+use ice_walk::travel;
 use spec::Level;
 use spec::Room;
 use spec::Verdict;
@@ -59,7 +59,7 @@ pub fn walk(
     if stops(w) {
         return refused(w);
     }
-    let by = checks::way_of(way);
+    let by = checks_room::way_of(way);
     travel(
         file,
         plan,
@@ -103,7 +103,7 @@ pub fn filter(
     if stops(w) {
         return refused(w);
     }
-    let by = checks::way_of(way);
+    let by = checks_room::way_of(way);
     sweep(file, plan, by, counts, words, numbers, output)
 }
 

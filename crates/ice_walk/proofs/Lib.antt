@@ -1,3 +1,1 @@
-pub mod Laws
 pub mod WalkLoop
-pub mod FilterLoop

@@ -14,35 +14,18 @@ use Rattle.spec.specs.declared.Way.{Way}
 use Rattle.spec.specs.Frame.{Frame, frameOf, settingsIn}
 use Rattle.spec.specs.Checks.{Planned}
 use Rattle.spec.specs.Walk.{State, answerNumber, arrive, start, step, answers, walkEnd, walkAnswers}
-use Rattle.spec.proofs.Plans.{pixel-of}
 use Rattle.spec.proofs.Steps.{length-answers}
-use Rattle.spec.proofs.Walks.{StateBounded, bounded-start}
+use Rattle.spec.proofs.Walks.{StateBounded}
 use Rattle.visit.specs.declared.Visit.{Visit}
-use Rattle.ice_walk.specs.declared.Walked.{Walked}
-use Rattle.spec.specs.declared.Verdict.the-variants.{Accepted}
 use Rattle.visit.specs.Visit.{stateOf}
 use Rattle.ways.specs.Visit.{Stores, Kept, Holds, AtWindow, Visited}
-use Rattle.ice_walk.specs.Finished.{Finished}
-use Rattle.ice_walk.proofs.Laws.{Going, going-start, going-more, going-end, answers-one, told-more}
+use Rattle.ice_step.proofs.Laws.{Going, going-start, going-more, going-end, answers-one, told-more}
 
 -- A₀ are the answers where the loop begins
 pub record Walking (way : Way) (b ms : List ℕ) (x : State) (a : Stores) (A₀ : List ℕ) (z : Stores) (A hs : List ℕ) (d : List ℤ) (v : Visit) (i : ℕ) :
     Type 0 where
   pub going : Going way b ms x a z hs d v i
   pub told : A ≡ answers (frameOf b) x (take i ms) ++ drop (i + 1) A₀
-
--- the first state of a walk that an accepted file makes
-pub held-first : {b : List ℕ} {z : Plan} → Planned b z → (s t : ℕ) (v : Visit) → s < z .width → t < z .height → stateOf v ≡ arrive (frameOf b) s t 0 0
-    → StateBounded (frameOf b) (stateOf v) 1
-held-first {b} k s t v hs ht e = subst (λ (q : State). StateBounded (frameOf b) q 1) (sym e) (bounded-start (pixel-of k hs ht))
-
--- what a visit leaves, as a loop's result
-pub finished : {way : Way} {b : List ℕ} {x : State} {a z : Stores} {hs : List ℕ} {d : List ℤ} (v : Visit) (r : Walked) → Visited way b x a z hs d v →
-    r .verdict ≡ Accepted
-    → r .shifts ≡ v .shifts → r .cut .0 ≡ v .cut .0 → r .«balance_box» ≡ d → Finished way (frameOf b) x a z r
-finished {way} {b} {x} {a} {z} {hs} {d} v r h e s c k =
-    subst (λ (w : State). Finished way (frameOf b) w a z r) (h .state)
-    (record { verdict = e; shifts = s; cut = c; holds = rw k (h .here .holds); kept = h .kept })
 
 module _ (way : Way) (b ms : List ℕ) where
   pub walking-start : (z : Stores) (A hs : List ℕ) (d : List ℤ) (v : Visit) → 0 < length A → AtWindow way b z hs d v →

@@ -1,15 +1,91 @@
-// The two loops under the public calls: along a list of moves, and through the whole picture. They come after every check.
-pub mod filter;
-pub mod walk;
-
-use spec::Level;
+// The walk: the loop along a list of moves. It comes after every check.
+use ice_step::Walked;
+use ice_step::step;
+use joint_rows::rows;
+use spec::Plan;
 use spec::Verdict;
+use spec::Way;
+use spec::answer_number;
+use ways::dispatch;
+ghost use mathlib.Core.Path.{_≡_};
+ghost use mathlib.Core.List.{_++_};
+ghost use Prim.Native.Nat.{ℕ, _+_, _<_, _≤_};
+ghost use lib.ListN.{length, drop};
+ghost use Rattle.spec.specs.Frame.{frameOf, settingsIn};
+ghost use Rattle.spec.specs.Checks.{Planned};
+ghost use Rattle.spec.specs.Walk as definitions;
+ghost use Rattle.ways.specs.Visit.{stores, Fit, Serves};
+ghost use Rattle.ice_step.specs.Finished.{Finished};
 
-// What walk and filter give back beside the buffers: the verdict; the shift count, the last cut point and, for the joint way, the balance box (zeros
-// for the other ways; all zeros where refused).
-pub struct Walked {
-    pub verdict: Verdict,
-    pub shifts: u64,
-    pub cut: Level,
-    pub balance_box: [i16; 256],
+// The walk's work, after the checks. The built-in weights, the box and the histogram are its own, and made once.
+pub fn travel(
+    file: &[u8],
+    plan: Plan,
+    way: Way,
+    column: usize,
+    row: usize,
+    moves: &[u8],
+    counts: &mut [u16],
+    words: &mut [u64],
+    numbers: &mut [u32],
+    answers: &mut [u16],
+) -> Walked
+    requires { ⌜ (Planned (now file) plan) × (Serves way plan) ⌝ }
+    requires { ⌜ (column < plan .width) × (row < plan .height) ⌝ }
+    requires { ⌜ length (now moves) ≤ 1048576 ⌝ }
+    requires { ⌜ Fit way (settingsIn plan) (stores (now counts) (now words) (now numbers)) ⌝ }
+    requires { ⌜ length (now moves) + 1 ≤ length (now answers) ⌝ }
+    ensures { λ r. ⌜ Finished way (frameOf (now (file .entry))) (definitions.walkEnd (frameOf (now (file .entry))) column row (now (moves .entry)))
+        (stores (now (counts .entry)) (now (words .entry)) (now (numbers .entry)))
+        (stores (now (counts .exit)) (now (words .exit)) (now (numbers .exit))) r ⌝ }
+    ensures { λ _. ⌜ now (answers .exit) ≡ definitions.walkAnswers (frameOf (now (file .entry))) column row (now (moves .entry))
+        ++ drop (length (now (moves .entry)) + 1) (now (answers .entry)) ⌝ }
+{
+    let mut weights = [0u16; 511];
+    rows::built_rows(plan, &mut weights);
+    let mut balance_box = [0i16; 256];
+    let mut histogram = [0u32; 2048];
+    let mut visit = dispatch::enter(
+        file,
+        plan,
+        way,
+        &weights,
+        column,
+        row,
+        &mut balance_box,
+        &mut histogram,
+        counts,
+        words,
+        numbers,
+    );
+    let start = visit.answer;
+    answers[0] = answer_number(start);
+    let mut i = 0;
+    while i < moves.len() {
+        let then = step(
+            file,
+            plan,
+            way,
+            &weights,
+            visit,
+            moves[i],
+            &mut balance_box,
+            &mut histogram,
+            counts,
+            words,
+            numbers,
+        );
+        let answer = then.answer;
+        visit = then;
+        i += 1;
+        answers[i] = answer_number(answer);
+    }
+    let cut = visit.cut;
+    let shifts = visit.shifts;
+    Walked {
+        verdict: Verdict::Accepted,
+        shifts,
+        cut,
+        balance_box,
+    }
 }

@@ -17,7 +17,7 @@ use Rattle.spec.specs.Frame.{Frame}
 use Rattle.spec.specs.Walk.{State}
 use Rattle.spec.specs.Writer.{writerOutcome}
 use Rattle.ways.specs.Visit.{Stores, stores}
-use Rattle.ice_walk.specs.declared.Walked.{Walked}
+use Rattle.ice_step.specs.declared.Walked.{Walked}
 use Rattle.ice.specs.declared.Balanced.{Balanced}
 use Rattle.ice.specs.Contract.{Untouched, Ended, Walks, Filters, Balances}
 use Rattle.frame_write.specs.declared.Written.{Written}

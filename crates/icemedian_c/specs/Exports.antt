@@ -17,7 +17,7 @@ use Rattle.spec.specs.Calls.{wayOf, boxOf, walkOutcome, filterOutcome, balanceO
 use Rattle.spec.specs.Writer.{written, writtenSize, writerOutcome, stored}
 use Rattle.c_values.specs.Results.{given, Reported}
 use Rattle.ways.specs.Visit.{Stores, lent}
-use Rattle.ice_walk.specs.declared.Walked.{Walked}
+use Rattle.ice_step.specs.declared.Walked.{Walked}
 use Rattle.ice.specs.Contract.{Ended}
 
 -- ---- walk and filter

@@ -1,9 +1,9 @@
 // The text of an accepted frame: its size, its filtered rows, and each serving way with its shift count.
 use ice::calls::filter;
 use spec::Plan;
-use text::put_rows;
-use text::put_size;
-use text::put_way;
+use text_lines::put_rows;
+use text_lines::put_size;
+use text_lines::put_way;
 ghost use Prim.Native.Nat.{_≤_};
 ghost use lib.ListN.{length};
 ghost use Rattle.spec.specs.Refusal.{accepted};

@@ -8,7 +8,7 @@ use spec::Verdict;
 use spec::number_of;
 use spec::offset_of;
 use spec::stops;
-use text::put_refusal;
+use text_lines::put_refusal;
 ghost use mathlib.Core.Path.{_≡_};
 ghost use mathlib.Core.Bool.{true};
 ghost use mathlib.Core.List.{List, _++_};

@@ -1,8 +1,11 @@
 -- `chain_visit::answer_at` meets its contract.
 -- Assumes nothing.
-use mathlib.Core.Path.{refl, _∙_}
+use Prim.Native.Nat.{_+_}
+use mathlib.Core.Path.{_≡_, ap, _∙_}
 use native.Mathlib.Omega.{arith}
 use borrow.Author.Needs.{needs}
+use Rattle.spec.specs.Walk.{answerNumber}
+use Rattle.visit.specs.declared.Visit.{Visit}
 use Rattle.window.proofs.PixelLaws.{levels-high}
 use Rattle.window.proofs.CoefficientLaws.{ends-monotone}
 use Rattle.chain_visit.proofs.VisitLaws.{some-guides, climbs, total-pos, climbed, answers}
@@ -11,6 +14,9 @@ use Rattle.chain_visit.proofs.answer_at.Tie as tie
 
 abbrev start : tie.After-of-window → tie.Start
 start k = k .before .before .before .before
+
+abbrev window : tie.After-answered → tie.After-of-window
+window c = c .before .before .before .before
 
 of-window-requires : tie.Need-of-window-requires
 of-window-requires c κs = let at = c .before .before .before in (at .pre .0, (at .pre .1 .0 .0, at .pre .1 .0 .1, at .pre .1 .1 .0))
@@ -44,6 +50,22 @@ add-answered c = omega (arith, c .added .ensures .1, start (c .before .before .b
 answered-requires : tie.Need-answered-requires
 answered-requires c κs = search needs
 
+-- what the visit holds, each field by itself, so that a wrong one is refused as such
+column-is : (c : tie.After-answered) → c .answered .result .column ≡ start (window c) .args .column
+column-is c = omega (arith, ap (λ (v : Visit). v .column) (c .answered .ensures))
+
+row-is : (c : tie.After-answered) → c .answered .result .row ≡ start (window c) .args .row
+row-is c = omega (arith, ap (λ (v : Visit). v .row) (c .answered .ensures))
+
+cut-is : (c : tie.After-answered) → c .answered .result .cut .0 ≡ c .before .before .before .climb .result .0
+cut-is c = omega (arith, ap (λ (v : Visit). v .cut .0) (c .answered .ensures))
+
+answer-is : (c : tie.After-answered) → answerNumber (c .answered .result .answer) ≡ c .before .before .before .climb .result .0
+answer-is c = omega (arith, ap (λ (v : Visit). answerNumber (v .answer)) (c .answered .ensures))
+
+shifts-are : (c : tie.After-answered) → c .answered .result .shifts ≡ start (window c) .args .shifts + c .before .added .result
+shifts-are c = omega (arith, ap (λ (v : Visit). v .shifts) (c .answered .ensures))
+
 returns : tie.Need-returns
 returns c =
     let d = c .before in
@@ -54,12 +76,12 @@ returns c =
     let pl = at .pre .0 .0 in
     let s = at .pre .1 .0 .0 in
     let t = at .pre .1 .0 .1 in
-    let two = at .pre .0 .1 in
-    rw (c .answered .ensures) (
-      answers pl s t two _ _ _ _ (m .monotone .result) (at .args .running)
+    let two = at .pre .0 .1 in (
+      answers pl s t two _ _ (c .answered .result) (r .climb .result .0) _ (m .monotone .result) (column-is c) (row-is c) (cut-is c) (answer-is c)
+          (shifts-are c)
           (climbed pl s t two _ (k .of-window .ensures .0) _ _ (at .pre .1 .1 .1) _ (r .climb .ensures))
           (m .monotone .ensures ∙ ends-monotone pl two (k .of-window .ensures .0)) (d .added .ensures .0),
-      refl,
+      ap (λ (v : Visit). v .running) (c .answered .ensures),
     )
 
 pub answer-at-spec : {M : Type 1} → statement M

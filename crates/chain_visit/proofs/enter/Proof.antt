@@ -1,7 +1,11 @@
 -- `chain_visit::enter` meets its contract.
 -- Assumes nothing.
+use mathlib.Core.Path.{_≡_}
 use native.Mathlib.Omega.{arith}
 use borrow.Author.Needs.{needs}
+use Rattle.spec.specs.Frame.{frameOf}
+use Rattle.spec.specs.Walk.{arrive}
+use Rattle.visit.specs.Visit.{stateOf}
 use Rattle.chain_visit.proofs.VisitLaws.{chain-visited}
 use Rattle.chain_visit.proofs.enter.Statement.{statement}
 use Rattle.chain_visit.proofs.enter.Tie as tie
@@ -22,12 +26,17 @@ answer-at-requires c κs =
 same-length : tie.Need-same-length
 same-length c = search needs
 
+-- it begins at cut point 0 with no shift, said by itself so that another beginning is refused as such
+begins : (c : tie.After-answer-at) → let at = c .before .before .before .before .before .before .before .before .before in
+    stateOf (c .answer-at .result) ≡ arrive (frameOf (at .args .file .now)) (at .args .column) (at .args .row) 0 0
+begins c = c .answer-at .ensures .0
+
 returns : tie.Need-returns
 returns c =
     let n = c .before .before .before .before in
     let a = n .before .before in
     let e = c .answer-at .ensures in
-    chain-visited _ _ _ _ _ _ _ _ _ _ (e .0) (e .1) (a .start .ensures) (n .start2 .ensures)
+    chain-visited _ _ _ _ _ _ _ _ _ _ (begins c) (e .1) (a .start .ensures) (n .start2 .ensures)
 
 pub enter-spec : {M : Type 1} → statement M
 enter-spec = tie.close (tie.spec start-requires start-requires-2 answer-at-requires same-length returns)

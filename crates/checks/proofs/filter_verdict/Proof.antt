@@ -1,13 +1,13 @@
 use native.Mathlib.Omega.{arith}
 use Rattle.spec.specs.Calls.{filterChecks}
-use Rattle.checks.proofs.Laws.{known, products}
+use Rattle.checks.proofs.Laws.{known}
 use borrow.Author.Needs.{needs}
 use Rattle.checks.proofs.filter_verdict.Statement.{statement}
 use Rattle.checks.proofs.filter_verdict.Tie as tie
 use Rattle.checks.proofs.filter_verdict.Reads as reads
 use Rattle.checks.proofs.filter_verdict.Lts as lts
-use Rattle.checks.proofs.bad_way.Reads as bad-way-reads
-use Rattle.checks.proofs.short.Reads as short-reads
+use Rattle.checks_numbers.proofs.bad_way.Reads as bad-way-reads
+use Rattle.checks_room.proofs.short.Reads as short-reads
 
 bad-way-requires : tie.Need-bad-way-requires
 bad-way-requires c κs = search needs
@@ -17,7 +17,7 @@ unfolding filterChecks
 returns c = simp (known (c .before .bad-way .ensures) (c .if1 .taken))
 
 mul-short : tie.Need-mul-short
-mul-short c = omega (arith, products (c .before .before .before .args .plan) (c .before .before .before .pre) .pixels)
+mul-short c = omega (arith, c .before .before .before .pre .pixels-high)
 
 short-requires : tie.Need-short-requires
 short-requires c κs = search needs

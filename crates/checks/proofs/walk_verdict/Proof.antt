@@ -1,3 +1,4 @@
+use native.Mathlib.Omega.{arith}
 use borrow.Author.Tests.{lt-ltb, le-ltb}
 use Rattle.spec.specs.Calls.{walkChecks}
 use Rattle.checks.proofs.Laws.{known}
@@ -6,9 +7,9 @@ use Rattle.checks.proofs.walk_verdict.Statement.{statement}
 use Rattle.checks.proofs.walk_verdict.Tie as tie
 use Rattle.checks.proofs.walk_verdict.Reads as reads
 use Rattle.checks.proofs.walk_verdict.Lts as lts
-use Rattle.checks.proofs.bad_pixel.Reads as bad-pixel-reads
-use Rattle.checks.proofs.bad_way.Reads as bad-way-reads
-use Rattle.checks.proofs.short.Reads as short-reads
+use Rattle.checks_numbers.proofs.bad_pixel.Reads as bad-pixel-reads
+use Rattle.checks_numbers.proofs.bad_way.Reads as bad-way-reads
+use Rattle.checks_room.proofs.short.Reads as short-reads
 
 bad-way-requires : tie.Need-bad-way-requires
 bad-way-requires c κs = search needs
@@ -32,7 +33,7 @@ returns-3 c =
       known (c .before .before .before .before .bad-way .ensures) (c .before .before .before .if1 .left),
       known
           (c .before .before .bad-pixel .ensures) (c .before .if2 .left),
-      lt-ltb _ _ (c .if3 .taken),
+      lt-ltb 1048576 (c .before .before .before .before .before .args .n) (omega arith),
     )
 
 add-short : tie.Need-add-short
@@ -48,7 +49,7 @@ returns-4 c =
       known (c .before .before .before .before .before .before .bad-way .ensures) (c .before .before .before .before .before .if1 .left),
       known
           (c .before .before .before .before .bad-pixel .ensures) (c .before .before .before .if2 .left),
-      le-ltb _ _ (c .before .before .if3 .left),
+      le-ltb 1048576 (c .before .before .before .before .before .before .before .args .n) (omega arith),
       known
           (c .before .short .ensures) (c .if4 .taken),
     )
@@ -60,7 +61,7 @@ returns-5 c =
       known (c .before .before .before .before .before .before .bad-way .ensures) (c .before .before .before .before .before .if1 .left),
       known
           (c .before .before .before .before .bad-pixel .ensures) (c .before .before .before .if2 .left),
-      le-ltb _ _ (c .before .before .if3 .left),
+      le-ltb 1048576 (c .before .before .before .before .before .before .before .args .n) (omega arith),
       known
           (c .before .short .ensures) (c .if4 .left),
     )

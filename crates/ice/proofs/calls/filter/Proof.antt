@@ -8,7 +8,7 @@ use Rattle.spec.specs.Calls.{filterChecks, filterOutcome}
 use Rattle.ways.specs.Visit.{Stores, stores, lent}
 use Rattle.checks.proofs.Laws.{known}
 use Rattle.ice.proofs.OutcomeLaws.{quiet}
-use Rattle.ice_walk.proofs.Laws.{settings-limits-in}
+use Rattle.ice_step.proofs.Laws.{settings-limits-in}
 use Rattle.ice.proofs.CallLaws.{planned-of, file-decides, own-decides, filters-refused, filters-done, filter-granted}
 use borrow.Author.Needs.{needs}
 use Rattle.ice.proofs.calls.filter.Statement.{statement}
@@ -17,10 +17,10 @@ use Rattle.ice.proofs.calls.filter.Reads as reads
 use Rattle.ice.proofs.calls.filter.Lts as lts
 use Rattle.spec.proofs.stops.Reads as stops-reads
 use Rattle.frame.proofs.plan.open_plan.Reads as open-plan-reads
-use Rattle.ice_walk.proofs.filter.sweep.Reads as sweep-reads
+use Rattle.ice_filter.proofs.sweep.Reads as sweep-reads
 use Rattle.ice.proofs.calls.refused.Reads as refused-reads
 use Rattle.checks.proofs.filter_verdict.Reads as filter-verdict-reads
-use Rattle.checks.proofs.way_of.Reads as way-of-reads
+use Rattle.checks_room.proofs.way_of.Reads as way-of-reads
 
 abbrev held : tie.Start → Stores
 held at = stores (at .args .counts .now) (at .args .words .now) (at .args .numbers .now)

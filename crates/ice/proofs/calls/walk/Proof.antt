@@ -8,7 +8,7 @@ use Rattle.spec.specs.Calls.{walkChecks, walkOutcome}
 use Rattle.ways.specs.Visit.{Stores, stores, lent}
 use Rattle.checks.proofs.Laws.{known}
 use Rattle.ice.proofs.OutcomeLaws.{quiet}
-use Rattle.ice_walk.proofs.Laws.{settings-limits-in}
+use Rattle.ice_step.proofs.Laws.{settings-limits-in}
 use Rattle.ice.proofs.CallLaws.{planned-of, file-decides, own-decides, walks-refused, walks-done, granted}
 use borrow.Author.Needs.{needs}
 use Rattle.ice.proofs.calls.walk.Statement.{statement}
@@ -18,9 +18,9 @@ use Rattle.ice.proofs.calls.walk.Lts as lts
 use Rattle.spec.proofs.stops.Reads as stops-reads
 use Rattle.frame.proofs.plan.open_plan.Reads as open-plan-reads
 use Rattle.ice.proofs.calls.refused.Reads as refused-reads
-use Rattle.ice_walk.proofs.walk.travel.Reads as travel-reads
+use Rattle.ice_walk.proofs.travel.Reads as travel-reads
 use Rattle.checks.proofs.walk_verdict.Reads as walk-verdict-reads
-use Rattle.checks.proofs.way_of.Reads as way-of-reads
+use Rattle.checks_room.proofs.way_of.Reads as way-of-reads
 
 abbrev held : tie.Start → Stores
 held at = stores (at .args .counts .now) (at .args .words .now) (at .args .numbers .now)

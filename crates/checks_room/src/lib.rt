@@ -1,0 +1,73 @@
+// Check 11: how much of each store a way uses, and whether what is lent is enough.
+use spec::Plan;
+use spec::Room;
+use spec::Way;
+ghost use mathlib.Core.Path.{_≡_};
+ghost use Rattle.spec.specs.Calls.{wayOf, roomOf, lacks, short};
+ghost use Rattle.spec.specs.Checks.{SettingsLimits};
+ghost use Rattle.spec.specs.Frame.{settingsIn};
+
+// The way that a number names, where check 8 lets it pass.
+pub fn way_of(way: u32) -> Way
+    ensures { λ r. ⌜ r ≡ wayOf way ⌝ }
+{
+    if way == 1 {
+        return Way::Joint;
+    }
+    if way == 2 {
+        return Way::Columns;
+    }
+    Way::Chain
+}
+
+// How much of each store a way uses.
+fn needed(way: Way, plan: Plan) -> Room
+    requires { ⌜ SettingsLimits (settingsIn plan) ⌝ }
+    ensures { λ r. ⌜ r ≡ roomOf way (settingsIn plan) ⌝ }
+{
+    let l = plan.levels;
+    let m = plan.guides;
+    let side = 2 * plan.radius + 1;
+    match way {
+        Way::Joint => Room {
+            counts: l * m,
+            words: l * ((m + 63) / 64),
+            numbers: 0,
+        },
+        Way::Columns => Room {
+            counts: 0,
+            words: 0,
+            numbers: 2 * (plan.width * l) + 2 * l,
+        },
+        Way::Chain => Room {
+            counts: 0,
+            words: 0,
+            numbers: 1 + 4 * (side * side),
+        },
+    }
+}
+
+fn lacking(need: Room, have: Room) -> bool
+    ensures { λ r. ⌜ r ≡ lacks need have ⌝ }
+{
+    if have.counts < need.counts {
+        return true;
+    }
+    if have.words < need.words {
+        return true;
+    }
+    have.numbers < need.numbers
+}
+
+// Check 11: a store of the way, or an output that is to take n numbers, is too short.
+pub fn short(plan: Plan, way: u32, have: Room, out: usize, n: usize) -> bool
+    requires { ⌜ SettingsLimits (settingsIn plan) ⌝ }
+    ensures { λ r. ⌜ r ≡ short (settingsIn plan) way have out n ⌝ }
+{
+    let y = way_of(way);
+    let need = needed(y, plan);
+    if lacking(need, have) {
+        return true;
+    }
+    out < n
+}

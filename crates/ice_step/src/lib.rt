@@ -1,0 +1,80 @@
+// What the two loops under the public calls share: one byte of a list of moves, and the result.
+use moves::next;
+use spec::Answer;
+use spec::Level;
+use spec::Move;
+use spec::Plan;
+use spec::Verdict;
+use spec::Way;
+use visit::Visit;
+use ways::dispatch;
+ghost use mathlib.Core.Path.{_≡_};
+ghost use Rattle.spec.specs.Frame.{frameOf, settingsIn};
+ghost use Rattle.spec.specs.Checks.{Planned};
+ghost use Rattle.spec.specs.Walk as definitions;
+ghost use Rattle.joint_rows.specs.Rows.{WeightRows};
+ghost use Rattle.visit.specs.Visit.{stateOf, Within};
+ghost use Rattle.ways.specs.Visit.{stores, Fit, Serves, AtWindow, Visited};
+
+// What walk and filter give back beside the buffers: the verdict; the shift count, the last cut point and, for the joint way, the balance box (zeros
+// for the other ways; all zeros where refused).
+pub struct Walked {
+    pub verdict: Verdict,
+    pub shifts: u64,
+    pub cut: Level,
+    pub balance_box: [i16; 256],
+}
+
+// One byte of the list: the window that it leads to, or the mark.
+pub fn step(
+    file: &[u8],
+    plan: Plan,
+    way: Way,
+    weights: &[u16],
+    visit: Visit,
+    byte: u8,
+    balance_box: &mut [i16; 256],
+    histogram: &mut [u32; 2048],
+    counts: &mut [u16],
+    words: &mut [u64],
+    numbers: &mut [u32],
+) -> Visit
+    requires { ⌜ (Planned (now file) plan) × (WeightRows plan (now weights)) × (Serves way plan) ⌝ }
+    requires { ⌜ Within plan visit ⌝ }
+    requires { ⌜ Fit way (settingsIn plan) (stores (now counts) (now words) (now numbers)) ⌝ }
+    requires { ⌜ AtWindow way (now file) (stores (now counts) (now words) (now numbers)) (now histogram) (now «balance_box») visit ⌝ }
+    ensures { λ r. ⌜ Visited way (now (file .entry)) (definitions.step (frameOf (now (file .entry))) (stateOf visit) byte)
+        (stores (now (counts .entry)) (now (words .entry)) (now (numbers .entry)))
+        (stores (now (counts .exit)) (now (words .exit)) (now (numbers .exit)))
+        (now (histogram .exit)) (now («balance_box» .exit)) r ⌝ }
+{
+    let m = next(plan, visit.column, visit.row, byte);
+    match m {
+        Move::To(column, row) => dispatch::slide(
+            file,
+            plan,
+            way,
+            weights,
+            visit,
+            column,
+            row,
+            balance_box,
+            histogram,
+            counts,
+            words,
+            numbers,
+        ),
+        Move::Nowhere(mark) => {
+            let cut = visit.cut;
+            let running = visit.running;
+            Visit {
+                column: visit.column,
+                row: visit.row,
+                cut,
+                shifts: visit.shifts,
+                answer: Answer::Mark(mark),
+                running,
+            }
+        }
+    }
+}
