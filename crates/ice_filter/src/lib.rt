@@ -1,8 +1,8 @@
 // The filter: the walk through the whole picture, each answer at its pixel's place. It comes after every check.
+use ice_moves::turn_at;
 use ice_step::Walked;
 use ice_step::step;
 use joint_rows::rows;
-use moves::turn_at;
 use spec::Plan;
 use spec::Verdict;
 use spec::Way;

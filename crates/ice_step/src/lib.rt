@@ -1,5 +1,5 @@
 // What the two loops under the public calls share: one byte of a list of moves, and the result.
-use moves::next;
+use ice_moves::next;
 use spec::Answer;
 use spec::Level;
 use spec::Move;

@@ -119,9 +119,11 @@ module _ {sizes : Sizes} {cs ws : List ℕ} (st : Searchable sizes cs ws) where
   box-sizes : (c n : ℕ) → c < sizes .levels → n ≤ 256 → boxSize (boxIn sizes cs c) n ≤ 961
   unfolding boxSize pixelsIn
   box-sizes c n h l =
-      le-trans (sum-le _ (λ f. sum (λ i. countIn (sizes .guides) cs i f) 0 (sizes .levels)) 0 n (λ f x y. cell-size c f h (omega (arith, zero-add n))))
+      le-trans (sum-le _ (λ f. sum (λ i. countIn (sizes .guides) cs i f) 0 (sizes .levels)) 0 n
+      (λ f x y. cell-size c f h (omega (arith, zero-add n))))
       (le-trans (le-of-eq (turn _+_ 0 natSums (λ f i. countIn (sizes .guides) cs i f) 0 n 0 (sizes .levels)))
-      (le-trans (sum-le _ (λ i. cellSum (sizes .guides) i cs (sizes .guides)) 0 (sizes .levels) (λ i x y. guides-few (sizes .guides) i n cs)) (st .few)))
+      (le-trans (sum-le _ (λ i. cellSum (sizes .guides) i cs (sizes .guides)) 0 (sizes .levels)
+      (λ i x y. guides-few (sizes .guides) i n cs)) (st .few)))
 
   pub box-bounds : (c : ℕ) (bx : List ℤ) → c < sizes .levels → bx ≡ boxIn sizes cs c → BoxInBounds bx
   unfolding boxSize
@@ -160,7 +162,8 @@ module _ {sizes : Sizes} {cs ws row : List ℕ} (st : Searchable sizes cs ws) (f
   balance-abs c h =
       omega (
         arith,
-        balance-size (levelWeightIn (sizes .guides) cs row) (λ i. cellSum (sizes .guides) i cs (sizes .guides) * 65535) (sizes .levels) c h level-size,
+        balance-size (levelWeightIn (sizes .guides) cs row) (λ i. cellSum (sizes .guides) i cs (sizes .guides) * 65535) (sizes .levels) c h
+            level-size,
         sum-times (λ i. cellSum (sizes .guides) i cs (sizes .guides)) (sizes .levels),
         st .few,
       )

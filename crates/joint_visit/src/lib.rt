@@ -84,7 +84,8 @@ pub fn slide(
 ) -> Visit
     requires { ⌜ (Held (now file) plan (from .column) (from .row) (from .cut .0) (now counts) (now words) (now «balance_box»))
         × (Adjacent plan (from .column) (from .row) column row)
-        × (GuidedCarried (frameOf (now file)) (from .column) (from .row) (from .cut .0) (from .running .sums) (from .running .below) (now histogram)) ⌝ }
+        × (GuidedCarried (frameOf (now file)) (from .column) (from .row) (from .cut .0) (from .running .sums) (from .running .below)
+        (now histogram)) ⌝ }
     requires { ⌜ (WeightRows plan (now weights)) × (Within plan from) ⌝ }
     ensures { λ r. ⌜ JointVisited (frameOf (now (file .entry))) (arrive (frameOf (now (file .entry))) column row (from .cut .0) (from .shifts)) r
         (now (counts .entry)) (now (words .entry)) (now (counts .exit)) (now (words .exit)) (now («balance_box» .exit)) (now (histogram .exit)) ⌝ }

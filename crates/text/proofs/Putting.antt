@@ -52,7 +52,8 @@ pieces-grow f k (suc n) =
     let h = pieces-grow f k n in
     rw (e, pieces-next f (k + n), length-append (pieces f (k + n)) (f (k + n))) (omega arith)
 
-pub room-piece : {l m : List ℕ} {at q : ℕ} (f : ℕ → List ℕ) (k n : ℕ) → k < n → TextRoom l at (pieces f n) → Puts l m at q (pieces f k) → TextRoom m q (f k)
+pub room-piece : {l m : List ℕ} {at q : ℕ} (f : ℕ → List ℕ) (k n : ℕ) → k < n → TextRoom l at (pieces f n) → Puts l m at q (pieces f k) →
+    TextRoom m q (f k)
 room-piece {l} {m} {at} {q} f k n h room a =
     let e : suc k + (n - suc k) ≡ n = omega arith in
     let g : length (pieces f (suc k)) ≤ length (pieces f n) = rw e at (pieces-grow f (suc k) (n - suc k)) in
@@ -84,7 +85,8 @@ room-line l at s t h = room-first l at s t (room-first l at (s ++ t) (10 ∷ [])
 pub room-second : {l m : List ℕ} {at q : ℕ} {s : List ℕ} (t : List ℕ) → TextRoom l at (s ++ t ++ (10 ∷ [])) → Puts l m at q s → TextRoom m q t
 room-second {l} {m} {at} {q} {s} t h a = room-next t (room-first l at (s ++ t) (10 ∷ []) h) a
 
-pub room-end : {l m o : List ℕ} {at q r : ℕ} {s t : List ℕ} → TextRoom l at (s ++ t ++ (10 ∷ [])) → Puts l m at q s → Puts m o q r t → TextRoom o r (10 ∷ [])
+pub room-end : {l m o : List ℕ} {at q r : ℕ} {s t : List ℕ} → TextRoom l at (s ++ t ++ (10 ∷ [])) → Puts l m at q s → Puts m o q r t →
+    TextRoom o r (10 ∷ [])
 room-end h a b = room-next (10 ∷ []) h (joined a b)
 
 -- ---- a text from the buffer's first byte on

@@ -12,7 +12,7 @@ use Rattle.ice_filter.proofs.sweep.Statement.{statement}
 use Rattle.ice_filter.proofs.sweep.Tie as tie
 use Rattle.ice_filter.proofs.sweep.Reads as reads
 use Rattle.ice_filter.proofs.sweep.Lts as lts
-use Rattle.moves.proofs.turn_at.Reads as turn-at-reads
+use Rattle.ice_moves.proofs.turn_at.Reads as turn-at-reads
 use Rattle.ice_step.proofs.step.Reads as step-reads
 use Rattle.spec.proofs.answer_number.Reads as answer-number-reads
 use Rattle.ways.proofs.dispatch.enter.Reads as enter-reads

@@ -6,7 +6,7 @@ use Rattle.ice_step.proofs.step.Statement.{statement}
 use Rattle.ice_step.proofs.step.Tie as tie
 use Rattle.ice_step.proofs.step.Reads as reads
 use Rattle.ice_step.proofs.step.Lts as lts
-use Rattle.moves.proofs.next.Reads as next-reads
+use Rattle.ice_moves.proofs.next.Reads as next-reads
 use Rattle.ways.proofs.dispatch.slide.Reads as slide-reads
 
 next-requires : tie.Need-next-requires

@@ -3,10 +3,10 @@ use native.Mathlib.Omega.{arith}
 use borrow.Author.Tests.{eq-eqb, ne-eqb, lt-ltb, le-ltb, le-leb, lt-leb}
 use Rattle.spec.specs.Filter.{turn}
 use borrow.Author.Needs.{needs}
-use Rattle.moves.proofs.turn_at.Statement.{statement}
-use Rattle.moves.proofs.turn_at.Tie as tie
-use Rattle.moves.proofs.turn_at.Reads as reads
-use Rattle.moves.proofs.turn_at.Lts as lts
+use Rattle.ice_moves.proofs.turn_at.Statement.{statement}
+use Rattle.ice_moves.proofs.turn_at.Tie as tie
+use Rattle.ice_moves.proofs.turn_at.Reads as reads
+use Rattle.ice_moves.proofs.turn_at.Lts as lts
 
 add-if1 : tie.Need-add-if1
 add-if1 c = search needs

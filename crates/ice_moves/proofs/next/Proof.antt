@@ -1,10 +1,10 @@
 use Rattle.spec.specs.Frame.{settingsIn}
-use Rattle.moves.proofs.Laws.{right, right-off, left, left-off, down, down-off, up, up-off, unknown}
+use Rattle.ice_moves.proofs.Laws.{right, right-off, left, left-off, down, down-off, up, up-off, unknown}
 use borrow.Author.Needs.{needs}
-use Rattle.moves.proofs.next.Statement.{statement}
-use Rattle.moves.proofs.next.Tie as tie
-use Rattle.moves.proofs.next.Reads as reads
-use Rattle.moves.proofs.next.Lts as lts
+use Rattle.ice_moves.proofs.next.Statement.{statement}
+use Rattle.ice_moves.proofs.next.Tie as tie
+use Rattle.ice_moves.proofs.next.Reads as reads
+use Rattle.ice_moves.proofs.next.Lts as lts
 
 add-if2 : tie.Need-add-if2
 add-if2 c = search needs
