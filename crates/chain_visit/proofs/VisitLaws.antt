@@ -22,7 +22,7 @@ use Rattle.spec.proofs.Bounds.{pixelCount-high, guideSum-high}
 use Rattle.window.specs.declared.coefficients.Coefficients.{Coefficients}
 use Rattle.window.specs.Coefficients.{WeighsAt}
 use Rattle.window.specs.Sums.{SumsAt}
-use Rattle.window.proofs.PixelLaws.{guides-high, levels-high}
+use Rattle.window.proofs.PixelLaws.{levels-high}
 use Rattle.chain_nodes.specs.declared.FreeList.{FreeList}
 use Rattle.chain_list.specs.Chain.{sumBelow}
 use Rattle.chain.specs.Lines.{nodesOf, listSize}
@@ -37,9 +37,6 @@ use Rattle.chain_visit.specs.Visit.{ChainVisited}
 use Rattle.chain_search.proofs.ClimbLaws.{climb-median}
 
 module _ {b : List ℕ} {z : Plan} (pl : Planned b z) where
-  pub some-guides : (1 ≤ z .guides) × (z .guides ≤ 256)
-  some-guides = let f = facts pl in (omega (arith, f .guides, f .limits .sound .guides-low), guides-high pl)
-
   module _ {s t : ℕ} (hs : s < z .width) (ht : t < z .height) where
     module _ (two : z .kind ≡ 2) where
       kind-is : frameOf b .set .kind ≡ 2

@@ -87,11 +87,15 @@ pub record LowestLevel (p : Frame) (s t m : ℕ) : Type 0 where
   pub reaches : (totalWeight p s t ≡ pos 0 → ⊥) → totalWeight p s t ≤ℤ (pos 2 *ℤ cumulative p s t m)
   pub lowest : (totalWeight p s t ≡ pos 0 → ⊥) → (i : ℕ) → i < m → (pos 2 *ℤ cumulative p s t i) <ℤ totalWeight p s t
 
+-- the number at a pixel's place of a plane
+abbrev pub atPixel : Frame → List ℕ → ℕ → ℕ → ℕ
+atPixel p plane s t = getD plane (t * p .set .width + s) 0
+
 -- every pixel of a filtered frame
 abbrev pub EveryPixel : Type 0
 EveryPixel =
     (b : List ℕ) (way : ℕ) (before after : Stores) (old new : List ℕ) (r : Walked) → Filters b way before after old new r → r .verdict ≡ Accepted
-    → (s t : ℕ) → s < frameOf b .set .width → t < frameOf b .set .height → LowestLevel (frameOf b) s t (getD new (t * frameOf b .set .width + s) 0)
+    → (s t : ℕ) → s < frameOf b .set .width → t < frameOf b .set .height → LowestLevel (frameOf b) s t (atPixel (frameOf b) new s t)
 
 -- the first n bytes of the output of a writer that answers n: accepted, and the settings, planes and table as given
 abbrev pub ReadsBack : Type 0
@@ -138,7 +142,7 @@ AllWaysAgree =
 abbrev pub FilterMinimises : Type 0
 FilterMinimises =
     (b : List ℕ) (way : ℕ) (before after : Stores) (old new : List ℕ) (r : Walked) → Filters b way before after old new r → r .verdict ≡ Accepted
-    → (s t : ℕ) → s < frameOf b .set .width → t < frameOf b .set .height → Minimises (frameOf b) s t (getD new (t * frameOf b .set .width + s) 0)
+    → (s t : ℕ) → s < frameOf b .set .width → t < frameOf b .set .height → Minimises (frameOf b) s t (atPixel (frameOf b) new s t)
 
 pub record Demand3 : Type 0 where
   pub agree : AllWaysAgree

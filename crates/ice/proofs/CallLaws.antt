@@ -25,7 +25,7 @@ use Rattle.frame.specs.declared.plan.Opened.{Opened}
 use Rattle.frame.specs.Plan.{openedPlan}
 use Rattle.ice_step.specs.declared.Walked.{Walked}
 use Rattle.ice.specs.declared.Balanced.{Balanced}
-use Rattle.ways.specs.Visit.{Stores, lent, Fit, Serves}
+use Rattle.ways.specs.Visit.{Stores, lent, StoresFit, Serves}
 use Rattle.ice_step.specs.Finished.{Finished}
 use Rattle.ice.specs.Result.{Zeroed}
 use Rattle.ice.specs.Contract.{Untouched, Ended, Walks, Filters, Balances}
@@ -118,7 +118,7 @@ module _ {b : List ℕ} {z : Plan} (k : Planned b z) (way : ℕ) (y : Way) (ey :
   serves-by (inl e) = inl (ey ∙ e)
   serves-by (inr e) = inr (facts k .kind ∙ ap (λ (s : Settings). s .kind) (set-of b) ∙ e)
 
-  fits-by : (a : Stores) → RoomFits (roomOf (wayOf way) (settingsOf b)) (lent a) → Fit y (settingsIn z) a
+  fits-by : (a : Stores) → RoomFits (roomOf (wayOf way) (settingsOf b)) (lent a) → StoresFit y (settingsIn z) a
   fits-by a f =
       let e : settingsOf b ≡ settingsIn z = sym (settings-same k ∙ set-of b) in
       let g : RoomFits (roomOf y (settingsIn z)) (lent a) =
@@ -131,7 +131,7 @@ module _ {b : List ℕ} {z : Plan} (k : Planned b z) (way : ℕ) (y : Way) (ey :
     pub serves : Serves y z
     pub pixel : (s < z .width) × (t < z .height)
     pub moves : n ≤ 1048576
-    pub fit : Fit y (settingsIn z) a
+    pub fit : StoresFit y (settingsIn z) a
     pub answers : n + 1 ≤ out
 
   pub granted : (s t n : ℕ) (a : Stores) (out : ℕ) → walkOutcome b way s t n (lent a) out ≡ accepted → Granted s t n a out
@@ -148,7 +148,7 @@ module _ {b : List ℕ} {z : Plan} (k : Planned b z) (way : ℕ) (y : Way) (ey :
 
   pub record FilterGranted (a : Stores) (out : ℕ) : Type 0 where
     pub serves : Serves y z
-    pub fit : Fit y (settingsIn z) a
+    pub fit : StoresFit y (settingsIn z) a
     pub plane : z .width * z .height ≤ out
 
   pub filter-granted : (a : Stores) (out : ℕ) → filterOutcome b way (lent a) out ≡ accepted → FilterGranted a out

@@ -41,7 +41,7 @@ use Rattle.spec.proofs.Serpentine.{
 }
 use Rattle.visit.specs.declared.Visit.{Visit}
 use Rattle.visit.specs.Visit.{stateOf}
-use Rattle.ways.specs.Visit.{Stores, KeptBeyond, Kept, AtWindow, Visited}
+use Rattle.ways.specs.Visit.{Stores, KeptBeyond, RestKept, AtWindow, Visited}
 use Rattle.ways.proofs.WayLaws.{beyond-same}
 use Rattle.ice_step.proofs.Laws.{held-first, beyond-trans, beyond-set, Going, going-start, going-more, going-end}
 
@@ -172,7 +172,7 @@ module _ (way : Way) (b : List ℕ) (g : FrameLimits (frameOf b)) where
 
   pub sweep-end : (y : State) (a₀ a : Stores) (O₁ O₀ : List ℕ) (z : Stores) (O hs : List ℕ) (d : List ℤ) (v : Visit) (i : ℕ) →
       Sweeping way b y a O₀ z O hs d v i
-      → pixels (p .set) ≤ i + 1 → pixels (p .set) ≤ length O₀ → y ≡ start p 0 0 → Kept way (p .set) a₀ a → (q : ℕ) → O₀ ≡ set O₁ 0 q
+      → pixels (p .set) ≤ i + 1 → pixels (p .set) ≤ length O₀ → y ≡ start p 0 0 → RestKept way (p .set) a₀ a → (q : ℕ) → O₀ ≡ set O₁ 0 q
       → Visited way b (filterEnd p) a₀ z hs d v × (O ≡ filtered p ++ drop (pixels (p .set)) O₁)
   unfolding filterEnd walkEnd
   sweep-end y a₀ a O₁ O₀ z O hs d v i w l long e kept q e₀ =
@@ -229,7 +229,7 @@ module _ (way : Way) {b : List ℕ} {z : Plan} (k : Planned b z) where
       sweeping-more long m em place ep =
           rw (ep, facts k .width) (sweep-more way b (facts k .limits) x a O₀ s O hs d v i w inside (rw count-is at long) byte byte-is s′ hs′ d′ v′ h m em)
 
-    pub sweeping-end : (a₀ : Stores) (O₁ : List ℕ) → n ≤ i + 1 → n ≤ length O₀ → x ≡ start (frameOf b) 0 0 → Kept way (frameOf b .set) a₀ a →
+    pub sweeping-end : (a₀ : Stores) (O₁ : List ℕ) → n ≤ i + 1 → n ≤ length O₀ → x ≡ start (frameOf b) 0 0 → RestKept way (frameOf b .set) a₀ a →
         (q : ℕ) → O₀ ≡ set O₁ 0 q
         → Visited way b (filterEnd (frameOf b)) a₀ s hs d v × (O ≡ filtered (frameOf b) ++ drop (pixels (frameOf b .set)) O₁)
     sweeping-end a₀ O₁ l long e kept q e₀ =

@@ -15,7 +15,7 @@ ghost use lib.ListN.{length, drop};
 ghost use Rattle.spec.specs.Frame.{frameOf, pixels, settingsIn};
 ghost use Rattle.spec.specs.Checks.{Planned};
 ghost use Rattle.spec.specs.Filter.{filtered, filterEnd};
-ghost use Rattle.ways.specs.Visit.{stores, Fit, Serves};
+ghost use Rattle.ways.specs.Visit.{stores, StoresFit, Serves};
 ghost use Rattle.ice_step.specs.Finished.{Finished};
 
 // The filter's work, after the checks. The built-in weights, the box and the histogram are its own, and made once.
@@ -29,7 +29,7 @@ pub fn sweep(
     output: &mut [u16],
 ) -> Walked
     requires { ⌜ (Planned (now file) plan) × (Serves way plan) ⌝ }
-    requires { ⌜ Fit way (settingsIn plan) (stores (now counts) (now words) (now numbers)) ⌝ }
+    requires { ⌜ StoresFit way (settingsIn plan) (stores (now counts) (now words) (now numbers)) ⌝ }
     requires { ⌜ plan .width * plan .height ≤ length (now output) ⌝ }
     ensures { λ r. ⌜ Finished way (frameOf (now (file .entry))) (filterEnd (frameOf (now (file .entry))))
         (stores (now (counts .entry)) (now (words .entry)) (now (numbers .entry)))

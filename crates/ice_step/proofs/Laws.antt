@@ -27,7 +27,7 @@ use Rattle.histogram.specs.Histogram.{Blank}
 use Rattle.window.specs.Line.{Adjacent, right, left, down, up}
 use Rattle.visit.specs.declared.Visit.{Visit}
 use Rattle.visit.specs.Visit.{stateOf, Within}
-use Rattle.ways.specs.Visit.{Stores, Fit, KeptBeyond, Kept, AtWindow, Visited}
+use Rattle.ways.specs.Visit.{Stores, StoresFit, KeptBeyond, RestKept, AtWindow, Visited}
 use Rattle.ways.proofs.WayLaws.{settings-same, beyond-same}
 use Rattle.ice_step.specs.declared.Walked.{Walked}
 use Rattle.ice_step.specs.Finished.{Finished}
@@ -50,10 +50,10 @@ beyond-trans n a b c x y = record { long = y .long ∙ x .long; beyond = y .beyo
 pub beyond-set : (a : List ℕ) (i n x : ℕ) → i < n → KeptBeyond n a (set a i x)
 beyond-set a i n x h = record { long = length-set a i x; beyond = drop-set-lt n a i x h }
 
-pub kept-same : (way : Way) (k : Settings) (z : Stores) → Kept way k z z
+pub kept-same : (way : Way) (k : Settings) (z : Stores) → RestKept way k z z
 kept-same way k z = record { counts = beyond-same _ _; words = beyond-same _ _; numbers = beyond-same _ _ }
 
-pub kept-trans : (way : Way) (k : Settings) (a b c : Stores) → Kept way k a b → Kept way k b c → Kept way k a c
+pub kept-trans : (way : Way) (k : Settings) (a b c : Stores) → RestKept way k a b → RestKept way k b c → RestKept way k a c
 kept-trans way k a b c x y =
     record {
       counts = beyond-trans _ _ _ _ (x .counts) (y .counts);
@@ -61,7 +61,7 @@ kept-trans way k a b c x y =
       numbers = beyond-trans _ _ _ _ (x .numbers) (y .numbers);
     }
 
-pub fit-kept : (way : Way) (k : Settings) (a z : Stores) → Fit way k a → Kept way k a z → Fit way k z
+pub fit-kept : (way : Way) (k : Settings) (a z : Stores) → StoresFit way k a → RestKept way k a z → StoresFit way k z
 fit-kept way k a z f h =
     record {
       counts = omega (arith, f .counts, h .counts .long);
@@ -179,7 +179,7 @@ module _ (way : Way) (b ms : List ℕ) where
 
   pub going-end : (x y : State) (a₀ a z : Stores) (hs : List ℕ) (d : List ℤ) (v : Visit) (i : ℕ) → Going way b ms y a z hs d v i → length ms ≤ i →
       y ≡ x
-      → Kept way (frameOf b .set) a₀ a → Visited way b (after (frameOf b) x ms) a₀ z hs d v
+      → RestKept way (frameOf b .set) a₀ a → Visited way b (after (frameOf b) x ms) a₀ z hs d v
   going-end x y a₀ a z hs d v i w l e kept =
       let j : i ≡ length ms = omega (arith, w .most) in
       let all : take i ms ≡ ms = ap (λ (n : ℕ). take n ms) j ∙ take-length ms in
@@ -188,7 +188,7 @@ module _ (way : Way) (b ms : List ℕ) where
       record { state = h .state; here = h .here; kept = kept-trans way _ a₀ a z kept (h .kept) }
 
 -- what a turn's call asks: room is kept
-pub fit-going : (way : Way) {b : List ℕ} {z : Plan} → Planned b z → (a₀ a s : Stores) → Fit way (settingsIn z) a₀ → Kept way (frameOf b .set) a₀ a
-    → Kept way (frameOf b .set) a s → Fit way (settingsIn z) s
+pub fit-going : (way : Way) {b : List ℕ} {z : Plan} → Planned b z → (a₀ a s : Stores) → StoresFit way (settingsIn z) a₀ → RestKept way (frameOf b .set) a₀ a
+    → RestKept way (frameOf b .set) a s → StoresFit way (settingsIn z) s
 fit-going way {b} {z} k a₀ a s h x y = let e =
     sym (settings-same k) in fit-kept way (settingsIn z) a₀ s h (rw e at (kept-trans way (frameOf b .set) a₀ a s x y))

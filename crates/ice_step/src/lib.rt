@@ -14,7 +14,7 @@ ghost use Rattle.spec.specs.Checks.{Planned};
 ghost use Rattle.spec.specs.Walk as definitions;
 ghost use Rattle.joint_rows.specs.Rows.{WeightRows};
 ghost use Rattle.visit.specs.Visit.{stateOf, Within};
-ghost use Rattle.ways.specs.Visit.{stores, Fit, Serves, AtWindow, Visited};
+ghost use Rattle.ways.specs.Visit.{stores, StoresFit, Serves, AtWindow, Visited};
 
 // What walk and filter give back beside the buffers: the verdict; the shift count, the last cut point and, for the joint way, the balance box (zeros
 // for the other ways; all zeros where refused).
@@ -41,7 +41,7 @@ pub fn step(
 ) -> Visit
     requires { ⌜ (Planned (now file) plan) × (WeightRows plan (now weights)) × (Serves way plan) ⌝ }
     requires { ⌜ Within plan visit ⌝ }
-    requires { ⌜ Fit way (settingsIn plan) (stores (now counts) (now words) (now numbers)) ⌝ }
+    requires { ⌜ StoresFit way (settingsIn plan) (stores (now counts) (now words) (now numbers)) ⌝ }
     requires { ⌜ AtWindow way (now file) (stores (now counts) (now words) (now numbers)) (now histogram) (now «balance_box») visit ⌝ }
     ensures { λ r. ⌜ Visited way (now (file .entry)) (definitions.step (frameOf (now (file .entry))) (stateOf visit) byte)
         (stores (now (counts .entry)) (now (words .entry)) (now (numbers .entry)))

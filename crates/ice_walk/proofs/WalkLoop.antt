@@ -18,7 +18,7 @@ use Rattle.spec.proofs.Steps.{length-answers}
 use Rattle.spec.proofs.Walks.{StateBounded}
 use Rattle.visit.specs.declared.Visit.{Visit}
 use Rattle.visit.specs.Visit.{stateOf}
-use Rattle.ways.specs.Visit.{Stores, Kept, Holds, AtWindow, Visited}
+use Rattle.ways.specs.Visit.{Stores, RestKept, StoresHold, AtWindow, Visited}
 use Rattle.ice_step.proofs.Laws.{Going, going-start, going-more, going-end, answers-one, told-more}
 
 -- A₀ are the answers where the loop begins
@@ -68,7 +68,7 @@ module _ (way : Way) (b ms : List ℕ) where
 
   pub walking-end : (s t : ℕ) (y : State) (a₀ a : Stores) (A₁ A₀ : List ℕ) (z : Stores) (A hs : List ℕ) (d : List ℤ) (v : Visit) (i : ℕ) →
       Walking way b ms y a A₀ z A hs d v i
-      → length ms ≤ i → y ≡ start (frameOf b) s t → Kept way (frameOf b .set) a₀ a → (q : ℕ) → A₀ ≡ set A₁ 0 q
+      → length ms ≤ i → y ≡ start (frameOf b) s t → RestKept way (frameOf b .set) a₀ a → (q : ℕ) → A₀ ≡ set A₁ 0 q
       → Visited way b (walkEnd (frameOf b) s t ms) a₀ z hs d v × (A ≡ walkAnswers (frameOf b) s t ms ++ drop (length ms + 1) A₁)
   unfolding walkEnd walkAnswers
   walking-end s t y a₀ a A₁ A₀ z A hs d v i w l e kept q e₀ =

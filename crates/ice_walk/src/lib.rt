@@ -14,7 +14,7 @@ ghost use lib.ListN.{length, drop};
 ghost use Rattle.spec.specs.Frame.{frameOf, settingsIn};
 ghost use Rattle.spec.specs.Checks.{Planned};
 ghost use Rattle.spec.specs.Walk as definitions;
-ghost use Rattle.ways.specs.Visit.{stores, Fit, Serves};
+ghost use Rattle.ways.specs.Visit.{stores, StoresFit, Serves};
 ghost use Rattle.ice_step.specs.Finished.{Finished};
 
 // The walk's work, after the checks. The built-in weights, the box and the histogram are its own, and made once.
@@ -33,7 +33,7 @@ pub fn travel(
     requires { ⌜ (Planned (now file) plan) × (Serves way plan) ⌝ }
     requires { ⌜ (column < plan .width) × (row < plan .height) ⌝ }
     requires { ⌜ length (now moves) ≤ 1048576 ⌝ }
-    requires { ⌜ Fit way (settingsIn plan) (stores (now counts) (now words) (now numbers)) ⌝ }
+    requires { ⌜ StoresFit way (settingsIn plan) (stores (now counts) (now words) (now numbers)) ⌝ }
     requires { ⌜ length (now moves) + 1 ≤ length (now answers) ⌝ }
     ensures { λ r. ⌜ Finished way (frameOf (now (file .entry))) (definitions.walkEnd (frameOf (now (file .entry))) column row (now (moves .entry)))
         (stores (now (counts .entry)) (now (words .entry)) (now (numbers .entry)))

@@ -17,10 +17,11 @@ use Rattle.spec.specs.Checks.{Planned}
 use Rattle.spec.proofs.Lists.{part-long, part-cell}
 use Rattle.spec.proofs.Plans.{facts, pixel-of, place-low, table-own, table-built}
 use Rattle.spec.proofs.Levels.{weight-table}
+use Rattle.window.proofs.PixelLaws.{guides-range}
 use Rattle.joint.proofs.BitLaws.{eq-or-ne}
 use Rattle.joint_search.specs.Window.{RowWeighs}
 use Rattle.joint_rows.specs.Rows.{Lower, Mirror, TableRow, exchanged}
-use Rattle.joint_rows.proofs.TableLaws.{guides-within, weight-place}
+use Rattle.joint_rows.proofs.TableLaws.{weight-place}
 
 -- the mirrored constants, moved so that the centre's is at its guide
 mirror-built : (f h : ℕ) → f ≤ 255 → builtIn 255 (255 - f + h) ≡ builtIn f h
@@ -140,7 +141,7 @@ module _ {b : List ℕ} {z : Plan} (pl : Planned b z) {f : ℕ} (hf : f < z .gui
 
   pub row-inside : z .table + 2 * (f * z .guides) + 2 * z .guides ≤ length b
   row-inside =
-      let m : 2 ≤ z .guides = guides-within pl .0 in
+      let m : 1 ≤ z .guides = guides-range pl .0 in
       let last = weight-place pl own f (z .guides - 1) hf (omega arith) in
       omega (arith, last .1, row-place (z .guides - 1))
 

@@ -14,6 +14,7 @@ use Rattle.spec.specs.Base.{if_then_else_, distance}
 use Rattle.spec.specs.Frame.{tableSize, settingsOf, trailerOf, ownWeights, planOf}
 use Rattle.spec.specs.Checks.{Planned}
 use Rattle.spec.proofs.Plans.{facts}
+use Rattle.window.proofs.PixelLaws.{guides-range}
 
 -- ---- one weight of an accepted file
 own-cases : (c : Bool) (n : ℕ) → ((if c then 0 else n) ≡ 0 → ⊥) → (if c then 0 else n) ≡ n
@@ -25,15 +26,12 @@ unfolding planOf ownWeights trailerOf
 own-count b h = own-cases (eqb (trailerOf b .table) 0) (tableSize (settingsOf b)) h
 
 module _ {b : List ℕ} {z : Plan} (pl : Planned b z) where
-  pub guides-within : (2 ≤ z .guides) × (z .guides ≤ 256)
-  guides-within = let k = facts pl in rw (k .guides) (k .limits .sound .guides-low, k .limits .sound .guides-high)
-
   -- the constants reach as far as two guides can be apart
   pub apart-low : {f g d : ℕ} → f < z .guides → g < z .guides → d ≡ distance f g → d < 256
-  apart-low hf hg e = omega (arith, guides-within .1)
+  apart-low hf hg e = omega (arith, guides-range pl .1)
 
   count-within : z .guides * z .guides ≤ 65536
-  count-within = mul-le-mul {n₂ = 256} (guides-within .1) (guides-within .1)
+  count-within = mul-le-mul {n₂ = 256} (guides-range pl .1) (guides-range pl .1)
 
   weights-are : (z .weights ≡ 0 → ⊥) → z .weights ≡ z .guides * z .guides
   weights-are = subst (λ (q : Plan). (q .weights ≡ 0 → ⊥) → q .weights ≡ q .guides * q .guides) (sym (pl .plan)) (own-count b)

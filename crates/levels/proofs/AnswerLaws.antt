@@ -27,14 +27,14 @@ use Rattle.spec.proofs.First.{first-unique}
 use Rattle.spec.proofs.Ranges.{natSums}
 use Rattle.spec.proofs.Sums.{sum-none, sum-suc, over-inWindow, over-both, over-constant, over-mono, over-scale, over-pos}
 use Rattle.spec.proofs.Limits.{Pixel}
-use Rattle.spec.proofs.Plans.{facts, pixel-of, place-low}
+use Rattle.spec.proofs.Plans.{facts, pixel-of}
 use Rattle.spec.proofs.Levels.{levelWeight, weight-linear, level-linear, cumulative-linear}
 use Rattle.spec.proofs.Totals.{le-leZ, leZ-le, le-balance, balance-le, median-first, median-low}
 use Rattle.spec.proofs.Monotone.{monotone-none, balance-mono}
 use Rattle.spec.proofs.Climb.{guided-full}
 use Rattle.window.specs.declared.coefficients.Coefficients.{Coefficients}
 use Rattle.window.specs.Coefficients.{WeighsAt, CoefficientsSmall, endsNotNegative, weightOf, reachesHalf}
-use Rattle.window.proofs.PixelLaws.{guides-high, guide-low}
+use Rattle.window.proofs.PixelLaws.{guides-range}
 use Rattle.window.proofs.CoefficientLaws.{ends-monotone}
 use Rattle.level_search.specs.declared.Tally.{Tally}
 use Rattle.level_search.specs.declared.search.Found.{Found}
@@ -194,9 +194,6 @@ answered {p} {s} {t} q cells two w {c} {n} {f} {m} em e sh =
 
 -- ---- what a way asks and gets, of its window's two lists and its coefficients
 module _ {b : List ℕ} {z : Plan} (pl : Planned b z) (two : z .kind ≡ 2) {s t : ℕ} (hs : s < z .width) (ht : t < z .height) where
-  pub guides-range : (1 ≤ z .guides) × (z .guides ≤ 256)
-  guides-range = (omega (arith, guide-low pl (place-low z s t hs ht)), guides-high pl)
-
   q : Pixel (frameOf b) s t
   q = pixel-of pl hs ht
 
@@ -210,8 +207,8 @@ module _ {b : List ℕ} {z : Plan} (pl : Planned b z) (two : z .kind ≡ 2) {s t
     answerable lc ln below = record {
       search = searchable q v (guided pl two) (w .0) (w .1);
       heaviest = λ y e. heaviest q v (guided pl two) (w .0) (rw (facts pl .guides) at e);
-      guides-some = guides-range .0;
-      guides-high = guides-range .1;
+      guides-some = guides-range pl .0;
+      guides-high = guides-range pl .1;
       cut = omega (arith, v .count-long, facts pl .levels);
       shifts = ln;
       tally = λ e. below-tally q v (omega (arith, facts pl .levels)) (below e);

@@ -31,7 +31,7 @@ use Rattle.visit.specs.declared.Visit.{Visit}
 use Rattle.visit.specs.Visit.{Within}
 use Rattle.columns_visit.specs.Visit.{ColumnsAt, ColumnsVisited}
 use Rattle.chain_visit.specs.Visit.{ChainAt, ChainVisited}
-use Rattle.ways.specs.Visit.{Stores, stores, KeptBeyond, Fit, WayCarries, Serves, AtWindow, Visited}
+use Rattle.ways.specs.Visit.{Stores, stores, KeptBeyond, StoresFit, WayCarries, Serves, AtWindow, Visited}
 
 -- the plan's settings are the file's
 pub settings-same : {b : List ℕ} {z : Plan} → Planned b z → settingsIn z ≡ frameOf b .set
@@ -86,10 +86,10 @@ module _ (way : Way) (z : Plan) (s : Serves way z) where
   guided-chain e = guided (λ q. let n : Chain ≡ Joint = sym e ∙ q in cc)
 
 -- ---- what is asked, and what is left
-module _ (way : Way) {b : List ℕ} {z : Plan} (k : Planned b z) (cs ws ns : List ℕ) (f : Fit way (settingsIn z) (stores cs ws ns)) where
+module _ (way : Way) {b : List ℕ} {z : Plan} (k : Planned b z) (cs ws ns : List ℕ) (f : StoresFit way (settingsIn z) (stores cs ws ns)) where
   joint-room : way ≡ Joint → (roomOf Joint (frameOf b .set) .counts ≤ length cs) × (roomOf Joint (frameOf b .set) .words ≤ length ws)
   joint-room e =
-      let g : Fit Joint (settingsIn z) (stores cs ws ns) = rw e at f in
+      let g : StoresFit Joint (settingsIn z) (stores cs ws ns) = rw e at f in
       (room-of k Joint (λ q. q .counts) (length cs) (g .counts), room-of k Joint (λ q. q .words) (length ws) (g .words))
 
   pub fit-joint : (s t : ℕ) → way ≡ Joint → (s < z .width) × (t < z .height) → Fresh b z s t cs ws
@@ -97,10 +97,10 @@ module _ (way : Way) {b : List ℕ} {z : Plan} (k : Planned b z) (cs ws ns : Lis
   fit-joint s t e q = record { planned = k; column = q .0; row = q .1; cells = joint-room e .0; words = joint-room e .1 }
 
   pub fit-columns : way ≡ Columns → roomOf Columns (frameOf b .set) .numbers ≤ length ns
-  fit-columns e = let g : Fit Columns (settingsIn z) (stores cs ws ns) = rw e at f in room-of k Columns (λ q. q .numbers) (length ns) (g .numbers)
+  fit-columns e = let g : StoresFit Columns (settingsIn z) (stores cs ws ns) = rw e at f in room-of k Columns (λ q. q .numbers) (length ns) (g .numbers)
 
   pub fit-chain : way ≡ Chain → roomOf Chain (frameOf b .set) .numbers ≤ length ns
-  fit-chain e = let g : Fit Chain (settingsIn z) (stores cs ws ns) = rw e at f in room-of k Chain (λ q. q .numbers) (length ns) (g .numbers)
+  fit-chain e = let g : StoresFit Chain (settingsIn z) (stores cs ws ns) = rw e at f in room-of k Chain (λ q. q .numbers) (length ns) (g .numbers)
 
   module _ (hs : List ℕ) (d : List ℤ) (v : Visit) where
     pub joint-at : way ≡ Joint → AtWindow way b (stores cs ws ns) hs d v → Within z v

@@ -37,13 +37,13 @@ abbrev pub lent : Stores → Room
 lent held = record { counts = length (held .counts); words = length (held .words); numbers = length (held .numbers) }
 
 -- there is room for what the way uses
-pub record Fit (way : Way) (settings : Settings) (held : Stores) : Type 0 where
+pub record StoresFit (way : Way) (settings : Settings) (held : Stores) : Type 0 where
   pub counts : roomOf way settings .counts ≤ length (held .counts)
   pub words : roomOf way settings .words ≤ length (held .words)
   pub numbers : roomOf way settings .numbers ≤ length (held .numbers)
 
 -- the stores and the box are those of the window at (s, t), at the cut point c
-pub record Holds (way : Way) (p : Frame) (s t c : ℕ) (held : Stores) (box : List ℤ) : Type 0 where
+pub record StoresHold (way : Way) (p : Frame) (s t c : ℕ) (held : Stores) (box : List ℤ) : Type 0 where
   pub counts : take (roomOf way (p .set) .counts) (held .counts) ≡ countsOf way p s t
   pub words : take (roomOf way (p .set) .words) (held .words) ≡ wordsOf way p s t
   pub numbers : NumbersOf way p s t (held .numbers)
@@ -55,7 +55,7 @@ pub record KeptBeyond (n : ℕ) (before after : List ℕ) : Type 0 where
   pub beyond : drop n after ≡ drop n before
 
 -- the stores keep all that lies beyond what the way uses
-pub record Kept (way : Way) (settings : Settings) (before after : Stores) : Type 0 where
+pub record RestKept (way : Way) (settings : Settings) (before after : Stores) : Type 0 where
   pub counts : KeptBeyond (roomOf way settings .counts) (before .counts) (after .counts)
   pub words : KeptBeyond (roomOf way settings .words) (before .words) (after .words)
   pub numbers : KeptBeyond (roomOf way settings .numbers) (before .numbers) (after .numbers)
@@ -73,11 +73,11 @@ Serves way plan = (way ≡ Joint) ⊎ (plan .kind ≡ 2)
 
 -- the stores, the box and what is carried are those of the visit's window in the file b
 pub record AtWindow (way : Way) (b : List ℕ) (held : Stores) (histogram : List ℕ) (box : List ℤ) (v : Visit) : Type 0 where
-  pub holds : Holds way (frameOf b) (v .column) (v .row) (v .cut .0) held box
+  pub holds : StoresHold way (frameOf b) (v .column) (v .row) (v .cut .0) held box
   pub carried : WayCarries way b (v .column) (v .row) (v .cut .0) (held .numbers) histogram (v .running)
 
 -- what each call on a window leaves: the state x, the window's stores, histogram and box, and the rest as it was
 pub record Visited (way : Way) (b : List ℕ) (x : State) (before after : Stores) (histogram : List ℕ) (box : List ℤ) (v : Visit) : Type 0 where
   pub state : stateOf v ≡ x
   pub here : AtWindow way b after histogram box v
-  pub kept : Kept way (frameOf b .set) before after
+  pub kept : RestKept way (frameOf b .set) before after

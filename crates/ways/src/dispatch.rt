@@ -12,7 +12,7 @@ ghost use Rattle.window.specs.Line.{Adjacent};
 ghost use Rattle.histogram.specs.Histogram.{Blank};
 ghost use Rattle.joint_rows.specs.Rows.{WeightRows};
 ghost use Rattle.visit.specs.Visit.{Within};
-ghost use Rattle.ways.specs.Visit.{stores, Fit, Serves, AtWindow, Visited};
+ghost use Rattle.ways.specs.Visit.{stores, StoresFit, Serves, AtWindow, Visited};
 
 // The start window at (column, row), whatever the stores held. The box and the histogram are the walk's own, and 0.
 pub fn enter(
@@ -30,7 +30,7 @@ pub fn enter(
 ) -> Visit
     requires { ⌜ (Planned (now file) plan) × (WeightRows plan (now weights)) × (Serves way plan) ⌝ }
     requires { ⌜ (column < plan .width) × (row < plan .height) ⌝ }
-    requires { ⌜ Fit way (settingsIn plan) (stores (now counts) (now words) (now numbers)) ⌝ }
+    requires { ⌜ StoresFit way (settingsIn plan) (stores (now counts) (now words) (now numbers)) ⌝ }
     requires { ⌜ (now «balance_box» ≡ zeros) × (Blank (plan .levels) (now histogram)) ⌝ }
     ensures { λ r. ⌜ Visited way (now (file .entry)) (arrive (frameOf (now (file .entry))) column row 0 0)
         (stores (now (counts .entry)) (now (words .entry)) (now (numbers .entry)))
@@ -72,7 +72,7 @@ pub fn slide(
     requires { ⌜ (Planned (now file) plan) × (WeightRows plan (now weights)) × (Serves way plan) ⌝ }
     requires { ⌜ Within plan from ⌝ }
     requires { ⌜ Adjacent plan (from .column) (from .row) column row ⌝ }
-    requires { ⌜ Fit way (settingsIn plan) (stores (now counts) (now words) (now numbers)) ⌝ }
+    requires { ⌜ StoresFit way (settingsIn plan) (stores (now counts) (now words) (now numbers)) ⌝ }
     requires { ⌜ AtWindow way (now file) (stores (now counts) (now words) (now numbers)) (now histogram) (now «balance_box») from ⌝ }
     ensures { λ r. ⌜ Visited way (now (file .entry)) (arrive (frameOf (now (file .entry))) column row (from .cut .0) (from .shifts))
         (stores (now (counts .entry)) (now (words .entry)) (now (numbers .entry)))

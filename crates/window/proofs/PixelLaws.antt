@@ -49,5 +49,8 @@ module _ {b : List ℕ} {z : Plan} (pl : Planned b z) where
   pub guides-high : z .guides ≤ 256
   guides-high = let f = facts pl in omega (arith, f .guides, f .limits .sound .guides-high)
 
+  pub guides-range : (1 ≤ z .guides) × (z .guides ≤ 256)
+  guides-range = let f = facts pl in (omega (arith, f .guides, f .limits .sound .guides-low), guides-high)
+
   pub levels-high : z .levels ≤ 1024
   levels-high = let f = facts pl in omega (arith, f .levels, f .limits .sound .levels-high)

@@ -6,9 +6,9 @@ use native.Mathlib.Omega.{arith}
 use borrow.Author.Needs.{needs}
 use Rattle.spec.specs.Walk.{answerNumber}
 use Rattle.visit.specs.declared.Visit.{Visit}
-use Rattle.window.proofs.PixelLaws.{levels-high}
+use Rattle.window.proofs.PixelLaws.{guides-range, levels-high}
 use Rattle.window.proofs.CoefficientLaws.{ends-monotone}
-use Rattle.chain_visit.proofs.VisitLaws.{some-guides, climbs, total-pos, climbed, answers}
+use Rattle.chain_visit.proofs.VisitLaws.{climbs, total-pos, climbed, answers}
 use Rattle.chain_visit.proofs.answer_at.Statement.{statement}
 use Rattle.chain_visit.proofs.answer_at.Tie as tie
 
@@ -39,7 +39,7 @@ monotone-requires : tie.Need-monotone-requires
 monotone-requires c κs =
     let k = c .before in
     let at = start k in
-    (some-guides (at .pre .0 .0), k .of-window .ensures .1)
+    (guides-range (at .pre .0 .0), k .of-window .ensures .1)
 
 added-requires : tie.Need-added-requires
 added-requires c κs = search needs

@@ -6,9 +6,9 @@ use Rattle.spec.specs.Frame.{frameOf}
 use Rattle.window.specs.Sums.{SumsAt}
 use Rattle.window.proofs.FormLaws.{both-in}
 use Rattle.window.proofs.LineLaws.{lines-in}
-use Rattle.window.proofs.PixelLaws.{plan-limits}
+use Rattle.window.proofs.PixelLaws.{guides-range, plan-limits}
 use Rattle.levels.specs.Answer.{Profiled}
-use Rattle.levels.proofs.AnswerLaws.{guides-range, answerable, answered-at}
+use Rattle.levels.proofs.AnswerLaws.{answerable, answered-at}
 use Rattle.columns_visit.specs.Visit.{windowCounts, windowGuides}
 use Rattle.columns_visit.proofs.GuideSumLaws.{movable, moved-at}
 use Rattle.columns_visit.proofs.VisitLaws.{as-made, made-self, store-places, window-cells, visited}
@@ -73,7 +73,7 @@ monotone-requires : tie.Need-monotone-requires
 monotone-requires c κs =
     let at = opened (c .before .before .before) in
     let i = both-in (at .pre .1 .0 .1) in
-    (guides-range (at .pre .0 .0) (at .pre .0 .1) (i .2) (i .3), c .of-window .ensures .1)
+    (guides-range (at .pre .0 .0), c .of-window .ensures .1)
 
 carried-requires : tie.Need-carried-requires
 carried-requires c κs = let at = opened (c .before .before .before .before) in (at .pre .0 .0, at .pre .1 .0 .1, at .pre .1 .1 .below)

@@ -3,11 +3,11 @@ use Prim.Native.Nat.{_+_, _≤_}
 use mathlib.Core.Path.{refl, _∙_}
 use native.Mathlib.Omega.{arith}
 use lib.ListN.{length}
-use Rattle.window.proofs.PixelLaws.{levels-high}
+use Rattle.window.proofs.PixelLaws.{guides-range, levels-high}
 use borrow.Author.Needs.{needs}
 use Rattle.spec.specs.Frame.{frameOf}
 use Rattle.levels.specs.Answer.{Answered}
-use Rattle.levels.proofs.AnswerLaws.{guides-range, answerable, answered-at}
+use Rattle.levels.proofs.AnswerLaws.{answerable, answered-at}
 use Rattle.joint_search.proofs.WindowLaws.{searchable, box-of, box-at}
 use Rattle.visit.proofs.Laws.{state-is}
 use Rattle.joint_guided.proofs.GuidedLaws.{numbers-long, profiled-parts, answer-low}
@@ -45,7 +45,7 @@ monotone-requires : tie.Need-monotone-requires
 monotone-requires c κs =
     let at = c .before .before .before .before .before .before .before in
     let k = at .pre .0 .0 in
-    (guides-range (k .planned) (at .pre .0 .1) (k .column) (k .row), c .of-window .ensures .1)
+    (guides-range (k .planned), c .of-window .ensures .1)
 
 cast-carried-where : tie.Need-cast-carried-where
 cast-carried-where c = search needs

@@ -4,7 +4,8 @@ use borrow.Author.Needs.{needs}
 use Prim.Native.Nat.{ℕ, _+_, _*_, _-_, _≤_, _<_}
 use lib.ListN.{length}
 use Rattle.spec.proofs.Plans.{facts}
-use Rattle.joint_rows.proofs.TableLaws.{guides-within, weight-place}
+use Rattle.window.proofs.PixelLaws.{guides-range}
+use Rattle.joint_rows.proofs.TableLaws.{weight-place}
 use Rattle.joint_rows.proofs.RowLaws.{Exchanging, exchange-start, exchange-next, row-inside, row-exchanged}
 use Rattle.joint_rows.proofs.rows.own_row.Statement.{statement}
 use Rattle.joint_rows.proofs.rows.own_row.Tie as tie
@@ -18,7 +19,7 @@ abbrev μ-loop : tie.MeasureT-loop
 -- the row's place, small and in the file
 module _ (at : tie.Start Inv-loop μ-loop) where
   small : at .args .f .0 * at .args .plan .guides + 0 < 65536
-  small = weight-place (at .pre .0) (at .pre .2) (at .args .f .0) 0 (at .pre .1) (omega (arith, guides-within (at .pre .0) .0)) .0
+  small = weight-place (at .pre .0) (at .pre .2) (at .args .f .0) 0 (at .pre .1) (omega (arith, guides-range (at .pre .0) .0)) .0
 
   inside : at .args .plan .table + 2 * (at .args .f .0 * at .args .plan .guides) + 2 * at .args .plan .guides ≤ length (at .args .file .now)
   inside = row-inside (at .pre .0) (at .pre .1) (at .pre .2)
@@ -28,7 +29,7 @@ begin h = h .before .before .before .before .before .before
 
 -- at most 256 guides
 few : (h : tie.At-loop Inv-loop μ-loop) → begin h .args .plan .guides ≤ 256
-few h = guides-within (begin h .pre .0) .1
+few h = guides-range (begin h .pre .0) .1
 
 cast-first : tie.Need-cast-first Inv-loop μ-loop
 cast-first c = search needs
@@ -44,7 +45,7 @@ add-first c = let at = c .before .before .before in omega (arith, inside at, at 
 
 copy-low-first-requires : tie.Need-copy-low-first-requires Inv-loop μ-loop
 copy-low-first-requires c κs = let at =
-    c .before .before .before .before in (guides-within (at .pre .0) .1, omega (arith, inside at), at .pre .3)
+    c .before .before .before .before in (guides-range (at .pre .0) .1, omega (arith, inside at), at .pre .3)
 
 loop-holds : tie.Need-loop-holds Inv-loop μ-loop
 loop-holds c = (omega arith, exchange-start (c .copy-low-first .ensures))
