@@ -30,12 +30,12 @@ use Rattle.spec.proofs.Levels.{balance-signed, weight-linear}
 use Rattle.spec.proofs.Bounds.{weight-abs}
 use Rattle.window.specs.declared.line.Line.{Line}
 use Rattle.window.specs.Line.{columnLine}
-use Rattle.window.specs.declared.coefficients.Coefficients.{Coefficients}
-use Rattle.window.specs.Coefficients.{WeighsAt, CoefficientsSmall}
+use Rattle.window_weights.specs.declared.coefficients.Coefficients.{Coefficients}
+use Rattle.window_weights.specs.Coefficients.{WeighsAt, CoefficientsSmall}
 use Rattle.pixels.specs.Pixels.{countOf, levelIn, guideIn, pixelFoldTo, pixelFold, columnsFold, LinePixels}
 use Rattle.pixels.proofs.AdditiveLaws.{pixels-more, high-abs, columns-more, columns-window}
-use Rattle.joint.specs.Side.{side}
-use Rattle.joint.proofs.SideLaws.{side-low, side-high}
+use Rattle.joint_pixel.specs.Side.{side}
+use Rattle.joint_pixel.proofs.SideLaws.{side-low, side-high}
 use Rattle.balance.specs.declared.formula.Formula.{Formula}
 use Rattle.balance.specs.Formula.{weightBy, Weighs, Ramp}
 use Rattle.joint_search.specs.Window.{RowWeighs}

@@ -9,7 +9,7 @@ use Rattle.spec.specs.Frame.{Frame, frameOf}
 use Rattle.spec.specs.Checks.{Planned}
 use Rattle.spec.specs.Weight.{weight}
 use Rattle.pixels.specs.Pixels.{countOf, guideIn}
-use Rattle.joint.specs.Side.{side}
+use Rattle.joint_pixel.specs.Side.{side}
 use Rattle.balance.specs.declared.formula.Formula.{Formula}
 use Rattle.balance.specs.Formula.{FormulaInBounds, weightBy, Weighs}
 

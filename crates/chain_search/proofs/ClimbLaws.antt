@@ -20,8 +20,8 @@ use Rattle.spec.specs.Weight.{slope, offset}
 use Rattle.spec.proofs.Levels.{cumulative-linear}
 use Rattle.spec.proofs.Totals.{lt-leZ, median-first}
 use Rattle.spec.proofs.Sums.{sum-none, sum-suc}
-use Rattle.window.specs.declared.coefficients.Coefficients.{Coefficients}
-use Rattle.window.specs.Coefficients.{WeighsAt, reachesHalf}
+use Rattle.window_weights.specs.declared.coefficients.Coefficients.{Coefficients}
+use Rattle.window_weights.specs.Coefficients.{WeighsAt, reachesHalf}
 use Rattle.chain_nodes.specs.Nodes.{nodeLevel, nodePixels, nodeGuides, nodeNext}
 use Rattle.chain_list.specs.Chain.{Used, floor, Live, Successor, sumBelow}
 use Rattle.chain_list.proofs.SumLaws.{zero-or-pos, sum-mono, sum-flat}

@@ -2,14 +2,14 @@
 // climb carries; weights may be negative, so it begins at the first node each time.
 use chain_nodes::place;
 use spec::Level;
-use window::coefficients::Coefficients;
-use window::coefficients::reached;
+use window_weights::coefficients::Coefficients;
+use window_weights::coefficients::reached;
 ghost use mathlib.Core.Path.{_≡_};
 ghost use Prim.Native.Nat.{ℕ, _≤_};
 ghost use lib.IntN.{pos};
 ghost use lib.Signed.{_<ℤ_};
 ghost use Rattle.spec.specs.Base.{first};
-ghost use Rattle.window.specs.Coefficients.{CoefficientsSmall};
+ghost use Rattle.window_weights.specs.Coefficients.{CoefficientsSmall};
 ghost use Rattle.chain_search.specs.Climb.{reachesAt, Climbs};
 
 // The first level at which the weight of the levels up to it reaches half of the window's, of however many levels the list is. Some level does:

@@ -19,8 +19,8 @@ use Rattle.spec.proofs.Plans.{facts, pixel-of}
 use Rattle.spec.proofs.Totals.{median-low}
 use Rattle.spec.proofs.Climb.{guided-full}
 use Rattle.spec.proofs.Bounds.{pixelCount-high, guideSum-high}
-use Rattle.window.specs.declared.coefficients.Coefficients.{Coefficients}
-use Rattle.window.specs.Coefficients.{WeighsAt}
+use Rattle.window_weights.specs.declared.coefficients.Coefficients.{Coefficients}
+use Rattle.window_weights.specs.Coefficients.{WeighsAt}
 use Rattle.window.specs.Sums.{SumsAt}
 use Rattle.window.proofs.PixelLaws.{levels-high}
 use Rattle.chain_nodes.specs.declared.FreeList.{FreeList}

@@ -18,7 +18,7 @@ use Rattle.window.specs.Sums.{one, itself, squared, SumsAt}
 use Rattle.window.proofs.PixelLaws.{guide-low, guides-high}
 use Rattle.window.proofs.FormLaws.{both-in}
 use Rattle.window.proofs.LineLaws.{fold-more, line-none, step-law}
-use Rattle.window.proofs.SumLaws.{sums-small}
+use Rattle.window_weights.proofs.SumLaws.{sums-small}
 use Rattle.columns_visit.specs.GuideSums.{LineSums, MovableByLines, MovedByLines}
 
 abbrev sums : ℕ → ℕ → ℕ → Sums

@@ -20,10 +20,10 @@ use Rattle.spec.proofs.Ranges.{natSums}
 use Rattle.spec.proofs.First.{getD-tabulate, length-tabulate}
 use Rattle.spec.proofs.Sums.{over-inWindow, over-constant}
 use Rattle.spec.proofs.Limits.{Pixel}
-use Rattle.joint.specs.Bit.{bit}
-use Rattle.joint.specs.Store.{cellAt, wordAt, wordsPer, countIn, Rep}
-use Rattle.joint.proofs.BitLaws.{bit-zero, bit-suc}
-use Rattle.joint.proofs.RepLaws.{rep-eq, count-in, count-out}
+use Rattle.joint_pixel.specs.Bit.{bit}
+use Rattle.joint_pixel.specs.Store.{cellAt, wordAt, wordsPer, countIn, Rep}
+use Rattle.joint_pixel.proofs.BitLaws.{bit-zero, bit-suc}
+use Rattle.joint_pixel.proofs.RepLaws.{rep-eq, count-in, count-out}
 
 -- ---- a number and its bits
 below : (n x d j : ℕ) → j < n → bit (x + d * 2 ^ n) j ≡ bit x j

@@ -45,11 +45,11 @@ use Rattle.pixels.proofs.AdditiveLaws.{
   stepped,
   slid,
 }
-use Rattle.joint.specs.Store.{cellAt, wordAt, wordsPer, Place, changedCounts, changedWords, countIn, hit}
-use Rattle.joint.specs.Side.{side, sideOf}
+use Rattle.joint_pixel.specs.Store.{cellAt, wordAt, wordsPer, Place, changedCounts, changedWords, countIn, hit}
+use Rattle.joint_pixel.specs.Side.{side, sideOf}
 use Rattle.joint.specs.List.{listCount, boxAt, Countable, BoxRoom, CountsPassed, BoxPassed, Exchangeable, CountsExchanged, BoxExchanged}
 use Rattle.joint.specs.Window.{JointAt, Held}
-use Rattle.joint.proofs.RepLaws.{hit-same, rep-changed, rep-eq, count-in}
+use Rattle.joint_pixel.proofs.RepLaws.{hit-same, rep-changed, rep-eq, count-in}
 use Rattle.joint.proofs.ListLaws.{rep-own, rep-self}
 use Rattle.joint.proofs.WindowLaws.{
   cell-sum,
@@ -63,7 +63,7 @@ use Rattle.joint.proofs.WindowLaws.{
   held-low,
   held-long,
 }
-use Rattle.joint.proofs.SideLaws.{side-here, side-away, side-abs}
+use Rattle.joint_pixel.proofs.SideLaws.{side-here, side-away, side-abs}
 
 -- ---- places
 cell-in : (l m i f : ℕ) (xs : List ℕ) → l * m ≤ length xs → i < l → f < m → cellAt m i f < length xs

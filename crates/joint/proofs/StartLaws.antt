@@ -34,16 +34,16 @@ use Rattle.window.specs.declared.line.Line.{Line}
 use Rattle.window.specs.Line.{columnLine, InPlanes}
 use Rattle.window.proofs.PixelLaws.{plan-limits, guides-high, levels-high}
 use Rattle.window.proofs.LineLaws.{column-in, span-high}
-use Rattle.joint.specs.Bit.{bit}
+use Rattle.joint_pixel.specs.Bit.{bit}
 use Rattle.pixels.specs.Pixels.{countOf, pixelFold, columnsFold, LinePixels}
 use Rattle.pixels.specs.Additive.{changed, changedℤ}
 use Rattle.pixels.proofs.AdditiveLaws.{columns-none, columns-more, columns-window}
-use Rattle.joint.specs.Store.{cellAt, wordAt, wordsPer, countIn, hit}
-use Rattle.joint.specs.Side.{sideOf}
+use Rattle.joint_pixel.specs.Store.{cellAt, wordAt, wordsPer, countIn, hit}
+use Rattle.joint_pixel.specs.Side.{sideOf}
 use Rattle.joint.specs.List.{listCount, boxAt, Countable, BoxRoom, RestKept, CountsPassed, BoxPassed}
 use Rattle.joint.specs.Window.{JointAt, Fresh, Columns, Filled}
-use Rattle.joint.proofs.BitLaws.{bit-high}
-use Rattle.joint.proofs.RepLaws.{rep-eq, count-in}
+use Rattle.joint_pixel.proofs.BitLaws.{bit-high}
+use Rattle.joint_pixel.proofs.RepLaws.{rep-eq, count-in}
 use Rattle.joint.proofs.ListLaws.{rep-own, rep-self}
 use Rattle.joint.proofs.WindowLaws.{cell-sum, plan-cells, plan-words, joint-of}
 use Rattle.joint.proofs.PixelLaws.{list-le, list-abs}

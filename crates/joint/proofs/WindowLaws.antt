@@ -20,8 +20,8 @@ use Rattle.spec.proofs.Plans.{facts, pixel-of}
 use Rattle.spec.proofs.Levels.{cell, box-cell}
 use Rattle.spec.proofs.Bounds.{cell-abs}
 use Rattle.pixels.specs.Additive.{windowSum}
-use Rattle.joint.specs.Store.{wordsPer, Rep}
-use Rattle.joint.specs.Side.{side, sideOf}
+use Rattle.joint_pixel.specs.Store.{wordsPer, Rep}
+use Rattle.joint_pixel.specs.Side.{side, sideOf}
 use Rattle.joint.specs.List.{RestKept}
 use Rattle.joint.specs.Window.{cellCount, wordCount, JointAt, Held}
 use Rattle.joint.proofs.ListLaws.{begun-long, lists-rep, rep-counts, rep-bits, counts-long, bits-long}

@@ -9,8 +9,8 @@ use lib.ListN.{length, getD, drop}
 use lib.IntN.{ℤ, pos, natAbs, _+ℤ_}
 use Rattle.pixels.specs.Pixels.{pixelFoldTo, pixelFold, PixelsBelow}
 use Rattle.pixels.specs.Additive.{changed, changedℤ, Fits, PassedTo, Exchanged}
-use Rattle.joint.specs.Store.{cellAt, wordsPer, countIn, hit, Rep}
-use Rattle.joint.specs.Side.{sideOf}
+use Rattle.joint_pixel.specs.Store.{cellAt, wordsPer, countIn, hit, Rep}
+use Rattle.joint_pixel.specs.Side.{sideOf}
 
 -- of a list's first n pixels: those of level i and guide f
 abbrev pub listCount : List ℕ → ℕ → ℕ → ℕ → ℕ

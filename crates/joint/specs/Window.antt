@@ -10,8 +10,8 @@ use Rattle.spec.specs.Frame.{Frame, frameOf}
 use Rattle.spec.specs.Checks.{Planned}
 use Rattle.spec.specs.Joint.{jointCounts, wordsPerLevel, occupancyWords, balanceBox}
 use Rattle.pixels.specs.Pixels.{columnsFold}
-use Rattle.joint.specs.Store.{cellAt, wordsPer, hit, Rep}
-use Rattle.joint.specs.Side.{sideOf}
+use Rattle.joint_pixel.specs.Store.{cellAt, wordsPer, hit, Rep}
+use Rattle.joint_pixel.specs.Side.{sideOf}
 use Rattle.joint.specs.List.{boxAt, RestKept}
 
 -- how many counts, and how many words

@@ -1,6 +1,3 @@
-// The stores of way 1, joint: the joint histogram of levels and guides, its occupancy words, and the balance box.
-pub mod bits;
-pub mod cell;
+// The stores of way 1, joint, for lists of pixels and for a window: the joint histogram of levels and guides, its occupancy words, and the balance box.
 pub mod list;
-pub mod side;
 pub mod start;

@@ -1,7 +1,7 @@
 // A list of pixels that enters the window or leaves it: counts and occupancy words, and the balance box at the cut point. One loop does both,
 // because a move in kind 2 takes 3 % longer with two.
-use crate::cell;
-use crate::side::side_changed;
+use joint_pixel::cell;
+use joint_pixel::side::side_changed;
 use spec::Guide;
 use spec::Level;
 ghost use Prim.Native.Nat.{_+_};

@@ -26,10 +26,10 @@ use lib.ListN.{length, getD}
 use borrow.Author.Tests.{eq-eqb, ne-eqb}
 use Rattle.spec.specs.Base.{fold, sum}
 use Rattle.spec.proofs.Sums.{sum-none, sum-suc}
-use Rattle.joint.specs.Bit.{bit}
-use Rattle.joint.specs.Store.{cellAt, wordsPer}
-use Rattle.joint.proofs.BitLaws.{lt-or-le, bit-none, bit-zero, bit-suc, bit-and, bit-high, tz-found, tz-below}
-use Rattle.joint.proofs.RepLaws.{count-in, count-out}
+use Rattle.joint_pixel.specs.Bit.{bit}
+use Rattle.joint_pixel.specs.Store.{cellAt, wordsPer}
+use Rattle.joint_pixel.proofs.BitLaws.{lt-or-le, bit-none, bit-zero, bit-suc, bit-and, bit-high, tz-found, tz-below}
+use Rattle.joint_pixel.proofs.RepLaws.{count-in, count-out}
 use Rattle.joint_cells.specs.declared.scan.Scan.{Scan}
 use Rattle.joint_cells.specs.Scan.{NextGuide, placeOf, Scans, Follows, Marked, RowFits, cellSum}
 

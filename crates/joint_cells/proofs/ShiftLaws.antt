@@ -13,8 +13,8 @@ use mir.Syntax.{w16}
 use mir.Val.{hbits, toZ, ofZ}
 use mir.Facts.{toZ-ofZ}
 use Rattle.ints.specs.Machine.{read-bounded}
-use Rattle.joint.specs.Store.{cellAt, wordsPer}
-use Rattle.joint.proofs.BitLaws.{lt-or-le, eq-or-ne}
+use Rattle.joint_pixel.specs.Store.{cellAt, wordsPer}
+use Rattle.joint_pixel.proofs.BitLaws.{lt-or-le, eq-or-ne}
 use Rattle.joint_cells.specs.Scan.{NextGuide, Marked}
 use Rattle.joint_cells.specs.Box.{BoxInBounds, CountsAdded}
 use Rattle.joint_cells.proofs.ScanLaws.{between, cell-low}

@@ -6,7 +6,7 @@ use Prim.Native.Nat.{ℕ, _+_, _≤_, _<_}
 use lib.ListN.{length, getD}
 use lib.IntN.{ℤ, pos, natAbs, _+ℤ_, _*ℤ_}
 use Rattle.spec.specs.Base.{sum, sumℤ}
-use Rattle.joint.specs.Store.{cellAt}
+use Rattle.joint_pixel.specs.Store.{cellAt}
 
 -- the products of the n cells from f on with their weights; and of the first n
 unfoldable pub boxPart : List ℤ → List ℕ → ℕ → ℕ → ℤ

@@ -7,9 +7,9 @@ use lib.Count.{trailingZeros}
 use lib.Dec.{eqb}
 use lib.ListN.{length, getD}
 use Rattle.spec.specs.Base.{if_then_else_, sum}
-use Rattle.joint.specs.Bit.{bit}
+use Rattle.joint_pixel.specs.Bit.{bit}
 use Rattle.joint_cells.specs.declared.scan.Scan.{Scan}
-use Rattle.joint.specs.Store.{cellAt, wordAt, wordsPer, countIn}
+use Rattle.joint_pixel.specs.Store.{cellAt, wordAt, wordsPer, countIn}
 
 -- r is the next guide at or above g whose bit is set in the k words from the first, or 256
 pub record NextGuide (ws : List ℕ) (first k g r : ℕ) : Type 0 where

@@ -18,7 +18,7 @@ use Rattle.spec.proofs.Lists.{part-long, part-cell}
 use Rattle.spec.proofs.Plans.{facts, pixel-of, place-low, table-own, table-built}
 use Rattle.spec.proofs.Levels.{weight-table}
 use Rattle.window.proofs.PixelLaws.{guides-range}
-use Rattle.joint.proofs.BitLaws.{eq-or-ne}
+use Rattle.joint_pixel.proofs.BitLaws.{eq-or-ne}
 use Rattle.joint_search.specs.Window.{RowWeighs}
 use Rattle.joint_rows.specs.Rows.{Lower, Mirror, TableRow, exchanged}
 use Rattle.joint_rows.proofs.TableLaws.{weight-place}

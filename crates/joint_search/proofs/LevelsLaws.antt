@@ -20,7 +20,7 @@ use Rattle.spec.proofs.First.{first-unique}
 use Rattle.spec.proofs.Ranges.{fold-parts, fold-both, fold-same, intSums, natSums}
 use Rattle.spec.proofs.Sums.{sum-scale, sum-zeros, sum-nonneg, sum-abs, sum-termℤ}
 use Rattle.spec.proofs.Totals.{le-leZ, lt-leZ}
-use Rattle.joint.proofs.BitLaws.{lt-or-le}
+use Rattle.joint_pixel.proofs.BitLaws.{lt-or-le}
 use Rattle.joint_search.specs.Levels.{cumulativeOf, totalOf, balanceOf, weightlessOf, medianOf}
 use Rattle.joint_search.specs.Search.{Climbed, Descended}
 

@@ -23,9 +23,9 @@ use Rattle.spec.proofs.First.{length-tabulate, getD-tabulate}
 use Rattle.spec.proofs.Histogram.{turn}
 use Rattle.spec.proofs.Ranges.{fold-same, intSums, natSums}
 use Rattle.spec.proofs.Sums.{sum-pos, sum-le, sum-term}
-use Rattle.joint.specs.Store.{cellAt, countIn}
-use Rattle.joint.proofs.BitLaws.{lt-or-le}
-use Rattle.joint.proofs.RepLaws.{count-in, count-out}
+use Rattle.joint_pixel.specs.Store.{cellAt, countIn}
+use Rattle.joint_pixel.proofs.BitLaws.{lt-or-le}
+use Rattle.joint_pixel.proofs.RepLaws.{count-in, count-out}
 use Rattle.joint_cells.specs.Scan.{Marked, RowFits, cellSum, cellDot}
 use Rattle.joint_cells.specs.Box.{BoxInBounds, CountsAdded, boxPart, boxDot, boxSize}
 use Rattle.joint_search.specs.declared.Sizes.{Sizes}

@@ -27,7 +27,7 @@ use Rattle.spec.proofs.Levels.{levelWeight, cumulative-zero, cumulative-next, c
 use Rattle.spec.proofs.Totals.{median-first}
 use Rattle.spec.proofs.Monotone.{cell-next}
 use Rattle.spec.proofs.Bounds.{pixelCount-high}
-use Rattle.joint.specs.Store.{countIn, Rep}
+use Rattle.joint_pixel.specs.Store.{countIn, Rep}
 use Rattle.joint.proofs.ListLaws.{begun-long, rep-own, lists-rep, counts-long, bits-long}
 use Rattle.joint.proofs.WindowLaws as joint
 use Rattle.joint_cells.specs.Scan.{Marked, RowFits, cellSum}

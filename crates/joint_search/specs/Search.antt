@@ -8,7 +8,7 @@ use Prim.Native.Nat.{ℕ, _+_, _≤_, _<_}
 use lib.IntN.{ℤ, pos}
 use lib.Signed.{_≤ℤ_, _<ℤ_}
 use Rattle.spec.specs.Base.{sum, tabulate}
-use Rattle.joint.specs.Store.{countIn}
+use Rattle.joint_pixel.specs.Store.{countIn}
 use Rattle.joint_cells.specs.Scan.{Marked, cellSum, cellDot}
 use Rattle.joint_search.specs.declared.Sizes.{Sizes}
 use Rattle.joint_search.specs.Levels.{balanceOf, totalOf, weightlessOf, medianOf}

@@ -10,8 +10,8 @@ use native.Mathlib.Omega.{arith}
 use lib.ListN.{length, getD}
 use Rattle.spec.specs.Base.{sum, distance}
 use Rattle.spec.proofs.First.{first-is, first-unique}
-use Rattle.window.specs.declared.coefficients.Coefficients.{Coefficients}
-use Rattle.window.specs.Coefficients.{reachesHalf}
+use Rattle.window_weights.specs.declared.coefficients.Coefficients.{Coefficients}
+use Rattle.window_weights.specs.Coefficients.{reachesHalf}
 use Rattle.window.proofs.LineLaws.{fold-none, fold-more}
 use Rattle.level_search.specs.declared.Tally.{Tally}
 use Rattle.level_search.specs.declared.search.Found.{Found}

@@ -5,8 +5,8 @@ use Prim.Native.Nat.{ℕ, _+_, _-_, _≤_, _<_}
 use lib.IntN.{ℤ, pos, natAbs, _+ℤ_, _*ℤ_}
 use lib.ListN.{length, getD}
 use lib.Signed.{_≤ℤ_, _<ℤ_}
-use Rattle.window.specs.declared.coefficients.Coefficients.{Coefficients}
-use Rattle.window.specs.Coefficients.{weightOf}
+use Rattle.window_weights.specs.declared.coefficients.Coefficients.{Coefficients}
+use Rattle.window_weights.specs.Coefficients.{weightOf}
 use Rattle.level_search.specs.Search.{sumTo}
 
 -- w is at least 0 and at least each end of the weight formula, over so many guides

@@ -6,8 +6,8 @@ use mathlib.Core.List.{List}
 use Prim.Native.Nat.{ℕ, suc, _+_, _≤_, _<_}
 use lib.ListN.{length, getD}
 use Rattle.spec.specs.Base.{sum, first}
-use Rattle.window.specs.declared.coefficients.Coefficients.{Coefficients}
-use Rattle.window.specs.Coefficients.{CoefficientsSmall, reachesHalf}
+use Rattle.window_weights.specs.declared.coefficients.Coefficients.{Coefficients}
+use Rattle.window_weights.specs.Coefficients.{CoefficientsSmall, reachesHalf}
 use Rattle.level_search.specs.declared.Tally.{Tally}
 use Rattle.level_search.specs.declared.search.Found.{Found}
 

@@ -1,14 +1,14 @@
 // Blocks of 16 levels. A climb passes over a block at once where its pixels, were each as heavy as a pixel can be, would not lift the cumulative
 // weight to half of the total: in most windows most levels are empty or far below the answer.
 use spec::Level;
-use window::coefficients::Coefficients;
+use window_weights::coefficients::Coefficients;
 ghost use mathlib.Core.Path.{_≡_};
 ghost use mathlib.Core.Bool.{true};
 ghost use Prim.Native.Nat.{ℕ, _+_, _<_, _≤_};
 ghost use lib.IntN.{natAbs};
 ghost use lib.ListN.{length};
 ghost use lib.Signed.{_≤ℤ_};
-ghost use Rattle.window.specs.Coefficients.{CoefficientsSmall};
+ghost use Rattle.window_weights.specs.Coefficients.{CoefficientsSmall};
 ghost use Rattle.level_search.specs.Search.{sumTo};
 ghost use Rattle.level_search.specs.Block.{EndsBelow, Light};
 

@@ -32,10 +32,10 @@ use Rattle.spec.proofs.Levels.{levelWeight, weight-linear, level-linear, cumula
 use Rattle.spec.proofs.Totals.{le-leZ, leZ-le, le-balance, balance-le, median-first, median-low}
 use Rattle.spec.proofs.Monotone.{monotone-none, balance-mono}
 use Rattle.spec.proofs.Climb.{guided-full}
-use Rattle.window.specs.declared.coefficients.Coefficients.{Coefficients}
-use Rattle.window.specs.Coefficients.{WeighsAt, CoefficientsSmall, endsNotNegative, weightOf, reachesHalf}
+use Rattle.window_weights.specs.declared.coefficients.Coefficients.{Coefficients}
+use Rattle.window_weights.specs.Coefficients.{WeighsAt, CoefficientsSmall, endsNotNegative, weightOf, reachesHalf}
 use Rattle.window.proofs.PixelLaws.{guides-range}
-use Rattle.window.proofs.CoefficientLaws.{ends-monotone}
+use Rattle.window_weights.proofs.CoefficientLaws.{ends-monotone}
 use Rattle.level_search.specs.declared.Tally.{Tally}
 use Rattle.level_search.specs.declared.search.Found.{Found}
 use Rattle.levels.specs.Tally.{belowSum, BelowAt}

@@ -9,7 +9,7 @@ use lib.IntN.{ℤ}
 use Rattle.spec.specs.Frame.{Frame, guide}
 use Rattle.spec.specs.Window.{levelSum}
 use Rattle.spec.specs.Walk.{arrive}
-use Rattle.window.specs.declared.coefficients.Coefficients.{Coefficients}
+use Rattle.window_weights.specs.declared.coefficients.Coefficients.{Coefficients}
 use Rattle.level_search.specs.declared.Tally.{Tally}
 use Rattle.level_search.specs.declared.search.Found.{Found}
 use Rattle.levels.specs.Tally.{BelowAt}

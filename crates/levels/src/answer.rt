@@ -4,7 +4,7 @@ use level_search::block;
 use level_search::search;
 use level_search::search::Found;
 use spec::Level;
-use window::coefficients::Coefficients;
+use window_weights::coefficients::Coefficients;
 ghost use mathlib.Core.Path.{_≡_};
 ghost use Prim.Native.Nat.{_+_};
 ghost use Rattle.spec.specs.Base.{if_then_else_, distance};

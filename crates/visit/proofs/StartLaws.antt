@@ -11,8 +11,8 @@ use Rattle.spec.specs.Base.{if_then_else_, distance}
 use Rattle.spec.specs.Frame.{guide, frameOf}
 use Rattle.spec.specs.Checks.{Planned}
 use Rattle.spec.proofs.Plans.{facts}
-use Rattle.window.specs.declared.coefficients.Coefficients.{Coefficients}
-use Rattle.window.specs.Coefficients.{WeighsAt, CoefficientsSmall, endsNotNegative}
+use Rattle.window_weights.specs.declared.coefficients.Coefficients.{Coefficients}
+use Rattle.window_weights.specs.Coefficients.{WeighsAt, CoefficientsSmall, endsNotNegative}
 use Rattle.level_search.specs.declared.Tally.{Tally}
 use Rattle.level_search.specs.declared.search.Found.{Found}
 use Rattle.levels.specs.Tally.{belowSum}

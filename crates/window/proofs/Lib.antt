@@ -1,5 +1,3 @@
 pub mod FormLaws
 pub mod LineLaws
 pub mod PixelLaws
-pub mod SumLaws
-pub mod CoefficientLaws

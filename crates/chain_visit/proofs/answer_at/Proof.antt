@@ -7,7 +7,7 @@ use borrow.Author.Needs.{needs}
 use Rattle.spec.specs.Walk.{answerNumber}
 use Rattle.visit.specs.declared.Visit.{Visit}
 use Rattle.window.proofs.PixelLaws.{guides-range, levels-high}
-use Rattle.window.proofs.CoefficientLaws.{ends-monotone}
+use Rattle.window_weights.proofs.CoefficientLaws.{ends-monotone}
 use Rattle.chain_visit.proofs.VisitLaws.{climbs, total-pos, climbed, answers}
 use Rattle.chain_visit.proofs.answer_at.Statement.{statement}
 use Rattle.chain_visit.proofs.answer_at.Tie as tie

@@ -11,7 +11,7 @@ use Rattle.ints.specs.Machine.{read-bounded}
 use Rattle.pixels.specs.Pixels.{countOf, levelIn, guideIn}
 use Rattle.pixels.proofs.Laws.{places-in}
 use Rattle.pixels.specs.Additive.{changedℤ}
-use Rattle.joint.specs.Side.{side}
+use Rattle.joint_pixel.specs.Side.{side}
 use Rattle.joint.specs.List.{Countable, CountsPassed, BoxPassed}
 use Rattle.joint.proofs.PixelLaws.{counts-none, place-of, takes, counts-next, box-none, cell-room, box-next}
 use Rattle.joint.proofs.list.change_pixels.Statement.{statement}

@@ -8,7 +8,7 @@ use mir.Syntax.{w32}
 use mir.Facts.{toZ-pos}
 use Rattle.ints.specs.Bound.{sfits-abs}
 use Rattle.spec.specs.Base.{sum}
-use Rattle.joint.specs.Store.{cellAt}
+use Rattle.joint_pixel.specs.Store.{cellAt}
 use Rattle.joint_cells.specs.Scan.{cellDot, placeOf, Scans}
 use Rattle.joint_cells.proofs.ScanLaws.{
   first-low,

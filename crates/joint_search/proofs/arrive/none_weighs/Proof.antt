@@ -10,7 +10,7 @@ use mir.Val.{toZ, ofZ}
 use mir.Facts.{toZ-ofZ}
 use Rattle.ints.specs.Order.{≤-antisymm}
 use Rattle.ints.specs.Machine.{lt-true, lt-false}
-use Rattle.joint.proofs.BitLaws.{lt-or-le}
+use Rattle.joint_pixel.proofs.BitLaws.{lt-or-le}
 use Rattle.joint_search.specs.Search.{levelWeightIn}
 use Rattle.joint_search.proofs.LevelsLaws.{weightless-all, weightless-some}
 use Rattle.joint_search.proofs.SearchLaws.{level-asks, level-low}

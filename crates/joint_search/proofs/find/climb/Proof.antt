@@ -9,7 +9,7 @@ use mir.Syntax.{w32}
 use mir.Val.{toZ}
 use Rattle.ints.specs.Linear.{ints}
 use Rattle.ints.specs.Machine.{lt-true, lt-false}
-use Rattle.joint.proofs.BitLaws.{lt-or-le}
+use Rattle.joint_pixel.proofs.BitLaws.{lt-or-le}
 use Rattle.joint_search.specs.Search.{balanceIn}
 use Rattle.joint_search.proofs.SearchLaws.{level-asks, balance-back, room, step-asks, step-up}
 use Rattle.joint_search.proofs.find.climb.Statement.{statement}

@@ -12,7 +12,7 @@ use Rattle.ints.specs.Machine.{Cell, paramCell, unsignedCell, computes, lt-true
 use Rattle.ints.specs.Polynomial.{var, _⊕_, _⊗_, #_, x₀, x₁, x₂, x₃, x₄}
 use Rattle.ints.specs.Auto.{signedCode, need! }
 use borrow.Author.Needs.{needs}
-use Rattle.window.specs.Coefficients.{weightOf}
+use Rattle.window_weights.specs.Coefficients.{weightOf}
 use Rattle.level_search.specs.Search.{sumTo}
 use Rattle.level_search.proofs.block.light.Statement.{statement}
 use Rattle.level_search.proofs.block.light.Tie as tie

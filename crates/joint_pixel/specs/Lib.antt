@@ -1,0 +1,3 @@
+pub mod Bit
+pub mod Store
+pub mod Side
