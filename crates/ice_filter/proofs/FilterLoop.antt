@@ -227,7 +227,8 @@ module _ (way : Way) {b : List ℕ} {z : Plan} (k : Planned b z) where
       pub sweeping-more : n ≤ length O₀ → (m : ℕ) → m ≡ answerNumber (v′ .answer) → (place : ℕ) → place ≡ v′ .row * z .width + v′ .column
           → Sweeping way b x a O₀ s′ (set O place m) hs′ d′ v′ (i + 1)
       sweeping-more long m em place ep =
-          rw (ep, facts k .width) (sweep-more way b (facts k .limits) x a O₀ s O hs d v i w inside (rw count-is at long) byte byte-is s′ hs′ d′ v′ h m em)
+          rw (ep, facts k .width)
+          (sweep-more way b (facts k .limits) x a O₀ s O hs d v i w inside (rw count-is at long) byte byte-is s′ hs′ d′ v′ h m em)
 
     pub sweeping-end : (a₀ : Stores) (O₁ : List ℕ) → n ≤ i + 1 → n ≤ length O₀ → x ≡ start (frameOf b) 0 0 → RestKept way (frameOf b .set) a₀ a →
         (q : ℕ) → O₀ ≡ set O₁ 0 q

@@ -188,7 +188,8 @@ module _ (way : Way) (b ms : List ℕ) where
       record { state = h .state; here = h .here; kept = kept-trans way _ a₀ a z kept (h .kept) }
 
 -- what a turn's call asks: room is kept
-pub fit-going : (way : Way) {b : List ℕ} {z : Plan} → Planned b z → (a₀ a s : Stores) → StoresFit way (settingsIn z) a₀ → RestKept way (frameOf b .set) a₀ a
+pub fit-going : (way : Way) {b : List ℕ} {z : Plan} → Planned b z → (a₀ a s : Stores) → StoresFit way (settingsIn z) a₀ →
+    RestKept way (frameOf b .set) a₀ a
     → RestKept way (frameOf b .set) a s → StoresFit way (settingsIn z) s
 fit-going way {b} {z} k a₀ a s h x y = let e =
     sym (settings-same k) in fit-kept way (settingsIn z) a₀ s h (rw e at (kept-trans way (frameOf b .set) a₀ a s x y))

@@ -97,7 +97,8 @@ module _ (way : Way) {b : List ℕ} {z : Plan} (k : Planned b z) (cs ws ns : Lis
   fit-joint s t e q = record { planned = k; column = q .0; row = q .1; cells = joint-room e .0; words = joint-room e .1 }
 
   pub fit-columns : way ≡ Columns → roomOf Columns (frameOf b .set) .numbers ≤ length ns
-  fit-columns e = let g : StoresFit Columns (settingsIn z) (stores cs ws ns) = rw e at f in room-of k Columns (λ q. q .numbers) (length ns) (g .numbers)
+  fit-columns e = let g : StoresFit Columns (settingsIn z) (stores cs ws ns) =
+      rw e at f in room-of k Columns (λ q. q .numbers) (length ns) (g .numbers)
 
   pub fit-chain : way ≡ Chain → roomOf Chain (frameOf b .set) .numbers ≤ length ns
   fit-chain e = let g : StoresFit Chain (settingsIn z) (stores cs ws ns) = rw e at f in room-of k Chain (λ q. q .numbers) (length ns) (g .numbers)

@@ -107,14 +107,9 @@ step-requires c κs =
 
 add-i : tie.Need-add-i Inv-loop μ-loop
 unfolding entry
-add-i c =
-    omega (
-      arith,
-      sweeping-low _
-          (entry (c .before .before .before .before .before .before .before .before .before .before .before .before .before .before .before .before) .pre
-          .0 .0) _ _ _ _ _ _ _ _ _
-          (c .before .before .before .before .before .before .before .before .before .before .before .before .before .before .before .loop .inv),
-    )
+add-i c = let h =
+    c .before .before .before .before .before .before .before .before .before .before .before .before .before .before .before in
+    omega (arith, sweeping-low _ (entry (h .before) .pre .0 .0) _ _ _ _ _ _ _ _ _ (h .loop .inv))
 
 -- the place of the answer
 placed : (c : tie.After-slice-known10 Inv-loop μ-loop) →

@@ -19,14 +19,14 @@ enum-known-m c = search needs
 slide-requires : tie.Need-slide-requires
 slide-requires c κs =
     let at = c .before .before .before .before .before .before .before .before .before .before .before .before .before .before in
+    let to = c .before .before .before .before .before .before in
     let on = at .pre .1 .0 in (
       at .pre .0,
       (
         on,
         (
           move-adjacent _ _ _ _ _ _ (on .column) (on .row)
-              (sym (c .before .before .before .before .before .before .before .before .next .ensures) ∙ c .before .before .before .before .before .before
-              .m .given .1),
+              (sym (to .before .before .next .ensures) ∙ to .m .given .1),
           (at .pre .1 .1 .0, at .pre .1 .1 .1),
         ),
       ),

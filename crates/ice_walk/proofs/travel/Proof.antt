@@ -98,12 +98,8 @@ step-requires c κs =
 add-i : tie.Need-add-i Inv-loop μ-loop
 unfolding entry
 add-i c =
-    omega (
-      arith,
-      c .before .before .before .before .before .before .before .before .before .before .before .before .before .before .loop-test .taken,
-      entry (c .before .before .before .before .before .before .before .before .before .before .before .before .before .before .before .before) .pre .1
-          .1 .0,
-    )
+    let t = c .before .before .before .before .before .before .before .before .before .before .before .before .before .before in
+    omega (arith, t .loop-test .taken, entry (t .before .before) .pre .1 .1 .0)
 
 answer-number-requires-2 : tie.Need-answer-number-requires-2 Inv-loop μ-loop
 answer-number-requires-2 c κs = search needs
@@ -111,14 +107,8 @@ answer-number-requires-2 c κs = search needs
 mul-answers : tie.Need-mul-answers Inv-loop μ-loop
 unfolding entry
 mul-answers c =
-    omega (
-      arith,
-      c .before .before .before .before .before .before .before .before .before .before .before .before .before .before .before .loop-test
-          .taken,
-      entry
-          (c .before .before .before .before .before .before .before .before .before .before .before .before .before .before .before .before .before) .pre
-          .1 .1 .0,
-    )
+    let t = c .before .before .before .before .before .before .before .before .before .before .before .before .before .before .before in
+    omega (arith, t .loop-test .taken, entry (t .before .before) .pre .1 .1 .0)
 
 long : (c : tie.After-slice-known10 Inv-loop μ-loop) →
     length (c .before .before .before .before .before .before .before .before .before .before .before .before .before .before .before .loop .answers)
