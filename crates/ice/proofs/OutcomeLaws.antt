@@ -30,10 +30,6 @@ pub stopped : (x y : Outcome) → fires x ≡ true → (x ▷ y) ≡ x
 stopped accepted y e = absurd (true≢false (sym e))
 stopped (refused n l) y e = refl
 
-pub passed-on : (x y : Outcome) → fires x ≡ false → (x ▷ y) ≡ y
-passed-on accepted y e = refl
-passed-on (refused n l) y e = absurd (true≢false e)
-
 pub fires-not : (x : Outcome) → fires x ≡ true → x ≡ accepted → ⊥
 fires-not accepted e q = true≢false (sym e)
 fires-not (refused n l) e q = true≢false (ap fires q)

@@ -222,8 +222,5 @@ module _ {b : List ℕ} {z : Plan} (pl : Planned b z) (two : z .kind ≡ 2) {s t
 -- ---- the tally of the levels below an end
 module _ {b : List ℕ} {z : Plan} (pl : Planned b z) {s t : ℕ} (hs : s < z .width) (ht : t < z .height) {counts sums : List ℕ}
     (v : Profiled (frameOf b) s t counts sums) {n : ℕ} (h : n ≤ z .levels) where
-  pub gather-asks : LevelCells counts sums × (n ≤ length counts)
-  gather-asks = (level-cells (pixel-of pl hs ht) v, omega (arith, v .count-long, facts pl .levels))
-
   pub gathered : {a : Tally} → TallyTo counts sums n a → BelowAt (frameOf b) s t n a
   gathered u = tally-below (pixel-of pl hs ht) v (omega (arith, facts pl .levels)) u

@@ -185,6 +185,7 @@ module _ {p : Frame} {s t : ℕ} (k : Pixel p s t) where
   pub total-abs : natAbs (totalWeight p s t) ≤ 173129780571075
   total-abs = omega (arith, total-size p s t 180155859075 low, pixelCount-high k)
 
+  -- for readers: every cumulative weight is as small
   pub cumulative-abs : (i : ℕ) → natAbs (cumulative p s t i) ≤ 173129780571075
   cumulative-abs i = omega (arith, cumulative-size p s t 180155859075 low i, pixelCount-high k)
 

@@ -192,7 +192,7 @@ balance-box p s t c n k =
     ∙ over-scale p s t (weight p s t f) (λ x y. if eqb (guide p x y) f then (if leb (level p x y) c then pos 1 else negsuc 0) else pos 0)
     ∙ *ℤ-comm (weight p s t f) (cell p s t c f)))
 
--- the same by the box's own list of 256 cells
+-- for readers: the box carries the balance at its cut point, by its own list of 256 cells
 pub balance-list : {p : Frame} {s t : ℕ} → Pixel p s t → (c n : ℕ) → p .set .guides ≤ n → n ≤ 256
     → balance p s t c ≡ sumℤ (λ f. getD (balanceBox p s t c) f (pos 0) *ℤ weight p s t f) 0 n
 balance-list {p} {s} {t} k c n h l =

@@ -25,7 +25,7 @@ use Rattle.spec.proofs.Sums.{over-inWindow, over-add, over-scale, over-
 use Rattle.spec.proofs.Checks.{both}
 use Rattle.spec.specs.Checks.{SettingsLimits}
 use Rattle.spec.proofs.Limits.{FrameLimits, Pixel}
-use Rattle.spec.proofs.Levels.{levelWeight, cumulative-zero, cumulative-next, weight-table, weight-linear, cell}
+use Rattle.spec.proofs.Levels.{levelWeight, cumulative-next, weight-table, weight-linear, cell}
 use Rattle.spec.proofs.Totals.{nonNeg-le, median-at, median-before, median-is}
 
 -- ---- steady
@@ -68,10 +68,6 @@ balance-next p s t i =
     ap (λ (u : ℤ). pos 2 *ℤ u -ℤ totalWeight p s t) (cumulative-next p s t i)
     ∙ solve3 (λ u w a. # 2 ⊗ (u ⊕ w) ⊖ a ≐ (# 2 ⊗ u ⊖ a) ⊕ # 2 ⊗ w) refl (cumulative p s t i) (levelWeight p s t (suc i)) (totalWeight p s t)
 
-pub balance-zero : (p : Frame) (s t : ℕ) → balance p s t 0 ≡ pos 2 *ℤ levelWeight p s t 0 -ℤ totalWeight p s t
-unfolding balance
-balance-zero p s t = ap (λ (u : ℤ). pos 2 *ℤ u -ℤ totalWeight p s t) (cumulative-zero p s t)
-
 -- the box from cut to cut
 cell-step : (b : Bool) (v c : ℕ)
     → (if b then (if leb v (suc c) then pos 1 else negsuc 0) else pos 0)
@@ -105,6 +101,7 @@ cell-none p s t c f h =
     over-inWindow _+ℤ_ (pos 0) intSums p s t _ (λ x y. pos 0) (λ x y k. rw (ne-eqb (guide p x y) f (h x y k)) refl)
     ∙ over-constantℤ p s t (pos 0) ∙ *ℤ-zero (pos (pixelCount p s t))
 
+-- for readers: the box is 0 from M on
 pub cell-beyond : {p : Frame} {s t : ℕ} → Pixel p s t → (c f : ℕ) → p .set .guides ≤ f → cell p s t c f ≡ pos 0
 cell-beyond {p} {s} {t} k c f h = cell-none p s t c f (λ x y l e. omega (arith, k .good .guide-low x y (l .wide) (l .high)))
 
@@ -138,7 +135,7 @@ module _ (p : Frame) (s t : ℕ) (light : NoneNegative p s t) where
   pub median-here : (m : ℕ) → m < p .set .levels → pos 0 ≤ℤ balance p s t m → ((j : ℕ) → m ≡ suc j → balance p s t j <ℤ pos 0) → median p s t ≡ m
   median-here m h b below = median-is p s t m h b (λ i l. ≤-<-trans (balance-mono i (m - 1) (omega arith)) (below (m - 1) (omega arith)))
 
--- from a cut c: the balance says on which side the answer is
+-- for readers, from a cut c: the balance says on which side the answer is
 pub median-down : (p : Frame) (s t c : ℕ) → pos 0 ≤ℤ balance p s t c → median p s t ≤ c
 median-down p s t c b = go (decLt c (median p s t))
   where
@@ -153,7 +150,7 @@ median-up {p} {s} {t} k light c b = go (decLt c (median p s t))
     go (yes h) = h
     go (no h) = clashℤ b (≤-trans (median-at k) (balance-mono p s t light (median p s t) c (omega arith)))
 
--- the characterisation, both ways
+-- for readers: the characterisation, both ways
 pub median-monotone : {p : Frame} {s t : ℕ} → Pixel p s t → NoneNegative p s t → (m : ℕ) → m < p .set .levels
     → (median p s t ≡ m) ↔ ((pos 0 ≤ℤ balance p s t m) × ((j : ℕ) → m ≡ suc j → balance p s t j <ℤ pos 0))
 median-monotone {p} {s} {t} k light m h = (

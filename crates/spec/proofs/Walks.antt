@@ -258,6 +258,7 @@ arrive-shifts p s t c n = go (weightless p s t) refl
     go true e = let z : n ≡ n + 0 = omega arith in ap (λ (x : State). x .shifts) (arrive-weightless p s t c n e) ∙ rw e z
     go false e = ap (λ (x : State). x .shifts) (arrive-full p s t c n e) ∙ rw e refl
 
+-- for readers: the cut point after a window
 pub arrive-cut : (p : Frame) (s t c n : ℕ) → arrive p s t c n .cut ≡ (if weightless p s t then c else median p s t)
 arrive-cut p s t c n = go (weightless p s t) refl
   where
