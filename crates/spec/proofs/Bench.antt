@@ -38,7 +38,6 @@ use Rattle.spec.specs.Checks.{
   scanFile,
   valueScan,
   guideScan,
-  tableScan,
   contents,
   trailerOutcome,
   verdict,
@@ -102,7 +101,7 @@ settings w h l m k r e = record { width = w; height = h; levels = l; guides = m;
 unfoldable pub reply : Question → Reply
 unfolding fold foldRect first tabulateFrom tabulate be16 be32 to16 to32 all16 trailerAt settingsOf trailerOf ownWeights valuePart guidePart tablePart
     builtIn planOf pixelLevel pixelGuide frameOf badMark badSize badCounts badKind badRadius settingsOutcome badDistance scan scanFile valueScan
-    guideScan tableScan contents trailerOutcome verdict span over pixelCount guideSum squareSum count levelSum scaledVariance guidedWeight weight
+    guideScan contents trailerOutcome verdict span over pixelCount guideSum squareSum count levelSum scaledVariance guidedWeight weight
     monotone totalWeight cumulative balance isZero weightless median answer differences arrive move follow step after answers walkEnd walkAnswers
     turn serpentine filtered filterEnd jointCounts occupancyWord occupancyWords balanceBox columnSum columnStore entryOf entries wayOf badWay roomOf
     badPixel lacks short walkChecks walkOutcome filterChecks filterOutcome balanceChecks balanceOutcome fieldBytes distanceBytes written writtenSize
@@ -153,6 +152,10 @@ fileE = made 3 1 8 4 2 0 1 (5 ∷ 1 ∷ 3 ∷ []) (0 ∷ 0 ∷ 2 ∷ []) []
 
 abbrev fileG : List ℕ
 fileG = made 1 1 8 2 1 1 0 (2 ∷ []) (0 ∷ []) (1 ∷ 1 ∷ 1 ∷ 1 ∷ [])
+
+-- document 02, ask 1: weights above 256, the largest one too
+abbrev fileHeavy : List ℕ
+fileHeavy = made 3 1 8 2 1 1 0 (1 ∷ 5 ∷ 3 ∷ []) (0 ∷ 1 ∷ 0 ∷ []) (65535 ∷ 257 ∷ 1 ∷ 65535 ∷ [])
 
 -- two rows; one window's formula is negative at guide 0, another's at M − 1
 abbrev fileTwoRows : List ℕ
@@ -247,8 +250,13 @@ cases =
     ∷ accept (made 3 1 8 4 2 1 1 (5 ∷ 1 ∷ 8 ∷ []) (0 ∷ 0 ∷ 4 ∷ []) []) ⇒ says (refused 7 (4 ∷ []))
     ∷ output (made 3 1 8 4 2 1 1 (5 ∷ 1 ∷ 3 ∷ []) (0 ∷ 0 ∷ 4 ∷ []) []) ⇒ prints
     (114 ∷ 101 ∷ 102 ∷ 117 ∷ 115 ∷ 101 ∷ 100 ∷ 32 ∷ 55 ∷ 32 ∷ 49 ∷ 48 ∷ 10 ∷ [])
-    ∷ accept (made 1 1 8 2 1 1 0 (2 ∷ []) (0 ∷ []) (0 ∷ 256 ∷ 0 ∷ 0 ∷ [])) ⇒ says accepted
-    ∷ accept (made 1 1 8 2 1 1 0 (2 ∷ []) (0 ∷ []) (0 ∷ 257 ∷ 0 ∷ 0 ∷ [])) ⇒ says (refused 7 (6 ∷ []))
+    ∷ accept (made 1 1 8 2 1 1 0 (2 ∷ []) (0 ∷ []) (0 ∷ 257 ∷ 0 ∷ 0 ∷ [])) ⇒ says accepted
+    ∷ accept (made 1 1 8 2 1 1 0 (2 ∷ []) (2 ∷ []) (0 ∷ 257 ∷ 0 ∷ 0 ∷ [])) ⇒ says (refused 7 (2 ∷ []))
+    ∷ accept fileHeavy ⇒ says accepted
+    ∷ filter fileHeavy ⇒ gives (1 ∷ 5 ∷ 3 ∷ []) 7
+    ∷ balances fileHeavy 1 (1 ∷ 3 ∷ 5 ∷ []) ⇒ weighs (negsuc 65534 ∷ negsuc 65532 ∷ pos 65537 ∷ [])
+    ∷ balances fileHeavy 0 (1 ∷ 5 ∷ []) ⇒ weighs (pos 65278 ∷ pos 65792 ∷ [])
+    ∷ worst fileHeavy 1 (1 ∷ 3 ∷ 5 ∷ []) ⇒ weighs (pos 262142 ∷ pos 131072 ∷ pos 6 ∷ [])
     ∷ filter (made 2 1 8 2 1 1 0 (2 ∷ 6 ∷ []) (0 ∷ 1 ∷ []) (1 ∷ 2 ∷ 0 ∷ 1 ∷ [])) ⇒ gives (6 ∷ 6 ∷ []) 6
     ∷ filter fileB ⇒ gives (2 ∷ 2 ∷ 3 ∷ 3 ∷ 4 ∷ []) 9
     ∷ filter fileTwoRows ⇒ gives (6 ∷ 1 ∷ 3 ∷ 6 ∷ 4 ∷ 3 ∷ []) 15
@@ -271,6 +279,8 @@ cases =
     ∷ call (writerOutcome (settings 3 1 8 4 2 1 1) (5 ∷ 1 ∷ 3 ∷ []) (0 ∷ 0 ∷ 2 ∷ []) [] 39) ⇒ says (refused 11 [])
     ∷ call (writerOutcome (settings 3 1 8 4 2 1 1) (5 ∷ 1 ∷ 3 ∷ []) (0 ∷ 0 ∷ 4 ∷ []) [] 39) ⇒ says (refused 7 (10 ∷ []))
     ∷ call (writerOutcome (settings 3 1 8 2 2 1 1) (5 ∷ 1 ∷ 3 ∷ []) (0 ∷ 0 ∷ 0 ∷ []) (1 ∷ 1 ∷ 1 ∷ 1 ∷ []) 48) ⇒ says (refused 6 [])
+    ∷ call (writerOutcome (settings 3 1 8 2 1 1 0) (5 ∷ 1 ∷ 3 ∷ []) (0 ∷ 0 ∷ 0 ∷ []) (257 ∷ 65535 ∷ 0 ∷ 1 ∷ []) 48) ⇒ says accepted
+    ∷ call (writerOutcome (settings 3 1 8 2 1 1 0) (5 ∷ 1 ∷ 3 ∷ []) (0 ∷ 0 ∷ 2 ∷ []) (257 ∷ 65535 ∷ 0 ∷ 1 ∷ []) 48) ⇒ says (refused 7 (10 ∷ []))
     ∷ output (made 65 1 8 4 2 1 1 (replicate 65 1) (replicate 65 0) []) ⇒ prints (114 ∷ 101 ∷ 102 ∷ 117 ∷ 115 ∷ 101 ∷ 100 ∷ 32 ∷ 49 ∷ 50 ∷ 10 ∷ [])
     ∷ stores fileA 0 0 (0 ∷ 2 ∷ 0 ∷ 1 ∷ []) ⇒ holds
     (0 ∷ 0 ∷ 0 ∷ 0 ∷ 1 ∷ 0 ∷ 0 ∷ 0 ∷ 0 ∷ 0 ∷ 0 ∷ 0 ∷ 0 ∷ 0 ∷ 1 ∷ 0 ∷ 0 ∷ 0 ∷ 0 ∷ 0 ∷ 1 ∷ 0 ∷ 0 ∷ 0 ∷ 0 ∷ 0 ∷ 0 ∷ 0 ∷ 0 ∷ 0 ∷ 0 ∷ 0 ∷ [])

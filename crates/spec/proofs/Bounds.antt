@@ -1,9 +1,8 @@
--- Bounds on an accepted frame's numbers, as literals: n, S, Q, V, the weights, U, T and the balance.
+-- Bounds on an accepted frame's numbers: n, S, Q, V, the weights, U, T, the balance and the weighted sum of differences.
 -- Assumes nothing.
 use mathlib.Core.Path.{_≡_, sym, subst}
 use mathlib.Core.Bool.{Bool, true, false, _&&_}
-use mathlib.Core.Logic.{_⊎_, inl, inr}
-use Prim.Native.Nat.{ℕ, _+_, _*_, _≤_, _<_}
+use Prim.Native.Nat.{ℕ, _+_, _*_, _^_, _≤_, _<_}
 use native.Mathlib.Nat.{le-refl, le-trans, le-of-eq, mul-le-mul}
 use native.Mathlib.Omega.{arith}
 use lib.Dec.{leb, eqb}
@@ -11,16 +10,17 @@ use lib.IntN.{ℤ, pos, negsuc, natAbs, _-ℤ_, _*ℤ_}
 use Rattle.ints.specs.Order.{add-parts, diff-parts, posPart-neg, negPart-neg, <-to-≤}
 use Rattle.ints.specs.Linear.{ints}
 use Rattle.ints.specs.Bound.{abs-add-le, abs-sub-le, abs-mul-le, abs-mul, abs-le, abs-le-nonneg}
-use Rattle.spec.specs.Base.{if_then_else_, indicator, sum}
+use Rattle.spec.specs.Base.{if_then_else_, indicator, distance}
 use Rattle.spec.specs.declared.Settings.{Settings}
-use Rattle.spec.specs.Frame.{Frame, level, guide}
+use Rattle.spec.specs.Frame.{Frame, level, guide, table, heaviest}
 use Rattle.spec.specs.Window.{span, Σ, Σℤ, pixelCount, guideSum, squareSum, inCell, count, InWindow}
 use Rattle.spec.specs.Weight.{scaledVariance, guidedWeight, weight, variance, deviation, slope, offset}
-use Rattle.spec.specs.Median.{totalWeight, cumulative, balance}
+use Rattle.spec.specs.Median.{totalWeight, cumulative, balance, differences}
 use Rattle.spec.specs.Window.{levelSum}
 use Rattle.spec.proofs.Sums.{over-le, over-abs, over-constant, pixelCount-is}
 use Rattle.spec.specs.Checks.{SettingsLimits}
 use Rattle.spec.proofs.Limits.{FrameLimits, Pixel}
+use Rattle.spec.proofs.Plans.{smoothing-of}
 use Rattle.spec.proofs.Levels.{levelWeight, weight-table, weight-guided, cell, balance-signed}
 use Rattle.spec.proofs.Totals.{variance-pos}
 
@@ -96,24 +96,38 @@ cell-abs {p} {s} {t} k c f =
     one true = le-refl 1
     one false = le-refl 1
 
--- each weight of the window is at most B in size
-module _ (p : Frame) (s t B : ℕ) (low : (x y : ℕ) → InWindow p s t x y → natAbs (weight p s t (guide p x y)) ≤ B) where
-  pub total-size : natAbs (totalWeight p s t) ≤ pixelCount p s t * B
+-- T, U, a level's weight, the balance and the weighted sum of differences, where no weight of the frame's guides is more than B in size
+module _ {p : Frame} {s t : ℕ} (k : Pixel p s t) (B : ℕ) (low : (g : ℕ) → g < p .set .guides → natAbs (weight p s t g) ≤ B) where
+  weight-size : (x y : ℕ) → InWindow p s t x y → natAbs (weight p s t (guide p x y)) ≤ B
+  weight-size x y h = low (guide p x y) (k .good .guide-low x y (h .wide) (h .high))
+
+  sum-size : (f : ℕ → ℕ → ℤ) (C : ℕ) → ((x y : ℕ) → InWindow p s t x y → natAbs (f x y) ≤ C) → natAbs (Σℤ p s t f) ≤ 961 * C
+  sum-size f C h = le-trans (over-size p s t f C h) (mul-le-mul (pixelCount-high k) (le-refl C))
+
+  pub total-abs : natAbs (totalWeight p s t) ≤ 961 * B
   unfolding totalWeight
-  total-size = over-size p s t _ B low
+  total-abs = sum-size _ B weight-size
 
-  pub cumulative-size : (i : ℕ) → natAbs (cumulative p s t i) ≤ pixelCount p s t * B
+  -- for readers: every cumulative weight is as small
+  pub cumulative-abs : (i : ℕ) → natAbs (cumulative p s t i) ≤ 961 * B
   unfolding cumulative
-  cumulative-size i = over-size p s t _ B (λ x y h. if-abs (leb (level p x y) i) (weight p s t (guide p x y)) B (low x y h))
+  cumulative-abs i = sum-size _ B (λ x y h. if-abs (leb (level p x y) i) (weight p s t (guide p x y)) B (weight-size x y h))
 
-  pub level-size : (i : ℕ) → natAbs (levelWeight p s t i) ≤ pixelCount p s t * B
+  pub level-abs : (i : ℕ) → natAbs (levelWeight p s t i) ≤ 961 * B
   unfolding levelWeight
-  level-size i = over-size p s t _ B (λ x y h. if-abs (eqb (level p x y) i) (weight p s t (guide p x y)) B (low x y h))
+  level-abs i = sum-size _ B (λ x y h. if-abs (eqb (level p x y) i) (weight p s t (guide p x y)) B (weight-size x y h))
 
-  pub balance-size : (c : ℕ) → natAbs (balance p s t c) ≤ pixelCount p s t * B
-  balance-size c =
-      subst (λ (z : ℤ). natAbs z ≤ pixelCount p s t * B) (sym (balance-signed p s t c))
-      (over-size p s t _ B (λ x y h. sign-abs (leb (level p x y) c) (weight p s t (guide p x y)) B (low x y h)))
+  pub balance-abs : (c : ℕ) → natAbs (balance p s t c) ≤ 961 * B
+  balance-abs c =
+      subst (λ (z : ℤ). natAbs z ≤ 961 * B) (sym (balance-signed p s t c))
+      (sum-size _ B (λ x y h. sign-abs (leb (level p x y) c) (weight p s t (guide p x y)) B (weight-size x y h)))
+
+  -- for readers: what the answer minimises
+  pub differences-abs : (i : ℕ) → i < p .set .levels → natAbs (differences p s t i) ≤ 961 * (B * 1023)
+  unfolding differences
+  differences-abs i l =
+      sum-size _ (B * 1023) (λ x y h. abs-mul-le (weight p s t (guide p x y)) (pos (distance (level p x y) i)) (weight-size x y h)
+      (omega (arith, k .good .level-low x y (h .wide) (h .high), k .good .sound .levels-high)))
 
 -- ---- the weights
 diff-abs : (a b B : ℕ) → a ≤ B → b ≤ B → natAbs (pos a -ℤ pos b) ≤ B
@@ -136,31 +150,22 @@ variance-abs {p} {s} {t} k e h =
     (omega
     (arith, ints, add-parts u (pos (n * n * p .set .smoothing)), diff-parts (pos (n * squareSum p s t)) (pos (guideSum p s t * guideSum p s t))))
 
-guided-abs : {p : Frame} {s t : ℕ} → Pixel p s t → p .set .kind ≡ 2 → 1 ≤ p .set .smoothing → p .set .smoothing ≤ 65025 → (g : ℕ) → g ≤ 255
-    → natAbs (weight p s t g) ≤ 180155859075
+-- kind 2: check 4's limit on the smoothing bounds them
+pub guided-abs : {p : Frame} {s t : ℕ} → Pixel p s t → p .set .kind ≡ 2 → (g : ℕ) → g < p .set .guides → natAbs (weight p s t g) ≤ 180155859075
 unfolding guidedWeight variance
-guided-abs {p} {s} {t} k two e h g l =
+guided-abs {p} {s} {t} k two g l =
+    let e = smoothing-of (k .good) two in
     let f : guide p s t ≤ 255 = omega (arith, k .good .guide-low s t (k .in-column) (k .in-row), k .good .sound .guides-high) in
     subst (λ (z : ℤ). natAbs z ≤ 180155859075) (sym (weight-guided p s t g two))
     (abs-add-le (variance p s t)
     ((pos (pixelCount p s t * guide p s t) -ℤ pos (guideSum p s t)) *ℤ (pos (pixelCount p s t * g) -ℤ pos (guideSum p s t)))
-    (variance-abs k e h)
+    (variance-abs k (e .0) (e .1))
     (abs-mul-le (pos (pixelCount p s t * guide p s t) -ℤ pos (guideSum p s t)) (pos (pixelCount p s t * g) -ℤ pos (guideSum p s t))
-    (deviation-abs k (guide p s t) f) (deviation-abs k g l)))
+    (deviation-abs k (guide p s t) f) (deviation-abs k g (omega (arith, k .good .sound .guides-high)))))
 
--- kind 1: at most 256
-pub weight-table-abs : {p : Frame} {s t : ℕ} → Pixel p s t → p .set .kind ≡ 1 → (g : ℕ) → g < p .set .guides → natAbs (weight p s t g) ≤ 256
-weight-table-abs {p} {s} {t} k one g h =
-    subst (λ (z : ℤ). natAbs z ≤ 256) (sym (weight-table p s t g one))
-    (k .good .table-low (guide p s t) g (k .good .guide-low s t (k .in-column) (k .in-row)) h)
-
-pub weight-abs : {p : Frame} {s t : ℕ} → Pixel p s t → (g : ℕ) → g < p .set .guides → natAbs (weight p s t g) ≤ 180155859075
-weight-abs {p} {s} {t} k g h = go (k .good .sound .kinds)
-  where
-    go : ((p .set .kind ≡ 1) × (p .set .smoothing ≡ 0)) ⊎ ((p .set .kind ≡ 2) × (1 ≤ p .set .smoothing) × (p .set .smoothing ≤ 65025)) →
-        natAbs (weight p s t g) ≤ 180155859075
-    go (inl a) = omega (arith, weight-table-abs k (a .0) g h)
-    go (inr a) = guided-abs k (a .0) (a .1) (a .2) g (omega (arith, k .good .sound .guides-high))
+-- kind 1: the table's 16 bits do
+pub table-abs : (p : Frame) (s t : ℕ) → p .set .kind ≡ 1 → ((f g : ℕ) → table p f g ≤ heaviest) → (g : ℕ) → natAbs (weight p s t g) ≤ heaviest
+table-abs p s t one low g = subst (λ (z : ℤ). natAbs z ≤ heaviest) (sym (weight-table p s t g one)) (low (guide p s t) g)
 
 -- kind 2's two coefficients
 pub slope-abs : {p : Frame} {s t : ℕ} → Pixel p s t → natAbs (slope p s t) ≤ 235497855
@@ -177,20 +182,31 @@ offset-abs {p} {s} {t} k e h =
     (abs-mul-le (pos (guideSum p s t)) (pos (pixelCount p s t * guide p s t) -ℤ pos (guideSum p s t)) (guideSum-high k)
     (deviation-abs k (guide p s t) f))
 
--- ---- T, U, a level's weight and the balance: below 2^48
+-- ---- for readers: the sums of an accepted file's window. In kind 1 T is below 2^26, 2U and the balance below 2^27, what the answer minimises below
+-- 2^36; in kind 2 T, U and the balance are below 2^48, 2U below 2^49
+pub record SumsBelow (p : Frame) (s t T U B : ℕ) : Type 0 where
+  pub total : natAbs (totalWeight p s t) < T
+  pub twice : (i : ℕ) → 2 * natAbs (cumulative p s t i) < U
+  pub balances : (i : ℕ) → natAbs (balance p s t i) < B
+
 module _ {p : Frame} {s t : ℕ} (k : Pixel p s t) where
-  low : (x y : ℕ) → InWindow p s t x y → natAbs (weight p s t (guide p x y)) ≤ 180155859075
-  low x y h = weight-abs k (guide p x y) (k .good .guide-low x y (h .wide) (h .high))
+  module _ (one : p .set .kind ≡ 1) (low : (f g : ℕ) → table p f g ≤ heaviest) where
+    weights : (g : ℕ) → g < p .set .guides → natAbs (weight p s t g) ≤ heaviest
+    weights g h = table-abs p s t one low g
 
-  pub total-abs : natAbs (totalWeight p s t) ≤ 173129780571075
-  total-abs = omega (arith, total-size p s t 180155859075 low, pixelCount-high k)
+    pub table-sums : SumsBelow p s t (2 ^ 26) (2 ^ 27) (2 ^ 27)
+    table-sums = record {
+      total = omega (arith, total-abs k heaviest weights);
+      twice = λ i. omega (arith, cumulative-abs k heaviest weights i);
+      balances = λ i. omega (arith, balance-abs k heaviest weights i);
+    }
 
-  -- for readers: every cumulative weight is as small
-  pub cumulative-abs : (i : ℕ) → natAbs (cumulative p s t i) ≤ 173129780571075
-  cumulative-abs i = omega (arith, cumulative-size p s t 180155859075 low i, pixelCount-high k)
+    pub table-differences : (i : ℕ) → i < p .set .levels → natAbs (differences p s t i) < 2 ^ 36
+    table-differences i h = omega (arith, differences-abs k heaviest weights i h)
 
-  pub level-abs : (i : ℕ) → natAbs (levelWeight p s t i) ≤ 173129780571075
-  level-abs i = omega (arith, level-size p s t 180155859075 low i, pixelCount-high k)
-
-  pub balance-abs : (c : ℕ) → natAbs (balance p s t c) ≤ 173129780571075
-  balance-abs c = omega (arith, balance-size p s t 180155859075 low c, pixelCount-high k)
+  pub guided-sums : p .set .kind ≡ 2 → SumsBelow p s t (2 ^ 48) (2 ^ 49) (2 ^ 48)
+  guided-sums two = record {
+    total = omega (arith, total-abs k 180155859075 (guided-abs k two));
+    twice = λ i. omega (arith, cumulative-abs k 180155859075 (guided-abs k two) i);
+    balances = λ i. omega (arith, balance-abs k 180155859075 (guided-abs k two) i);
+  }

@@ -1,6 +1,6 @@
 -- Laws of the checks: the first that fires, a scan's two ends, and what an accepted file has passed, check by check.
 -- Assumes nothing.
-use mathlib.Core.Path.{_≡_, refl, sym, subst}
+use mathlib.Core.Path.{_≡_, refl, sym, ap, ap₂, _∙_, subst}
 use mathlib.Core.Bool.{Bool, true, false, true≢false, not, _&&_, _||_}
 use mathlib.Core.List.{List, [], _∷_}
 use Prim.Native.Nat.{ℕ, _+_, _*_, _≤_, _<_}
@@ -10,18 +10,19 @@ use lib.ListN.{length}
 use borrow.Author.Tests.{ltb-false, leb-false, le-leb, lt-leb, lt-ltb, le-ltb, eqb-true}
 use Rattle.spec.specs.declared.Settings.{Settings}
 use Rattle.spec.specs.declared.Trailer.{Trailer}
+use Rattle.spec.specs.declared.Plan.{Plan}
 use Rattle.spec.specs.Base.{if_then_else_, first}
 use Rattle.spec.specs.Refusal.{Outcome, accepted, refused, _▷_, refuse}
-use Rattle.spec.specs.Frame.{trailerAt, settingsOf, trailerOf, pixels, tableSize, ownWeights, planOf}
+use Rattle.spec.specs.Frame.{trailerAt, settingsOf, trailerOf, pixels, tableSize, ownWeights, plane, planOf}
 use Rattle.spec.specs.Checks.{
   outside,
   badMark,
   settingsOutcome,
   badDistance,
   scan,
+  scanFile,
   valueScan,
   guideScan,
-  tableScan,
   contents,
   trailerOutcome,
   verdict,
@@ -87,6 +88,25 @@ scan-accepted f n limit offset e k h = go (ltb (first (λ j. leb limit (f j)) n)
         let all : n ≤ first (λ j. leb limit (f j)) n = ltb-false _ _ d in
         leb-false _ _ (first-is (λ j. leb limit (f j)) n .before k (omega arith))
 
+-- ---- for readers: check 7 looks at the two planes and at nothing else, so no weight can be refused
+scan-same : (f g : ℕ → ℕ) (n limit offset : ℕ) → ((j : ℕ) → j < n → f j ≡ g j) → scan f n limit offset ≡ scan g n limit offset
+unfolding scan
+scan-same f g n limit offset same =
+    let q = first-is (λ j. leb limit (g j)) n in
+    ap (λ (k : ℕ). if ltb k n then refused 7 ((offset + 2 * k) ∷ []) else accepted)
+    (first-unique (λ j. leb limit (f j)) n (first (λ j. leb limit (g j)) n)
+    (record {
+      within = q .within;
+      passes = λ h. ap (leb limit) (same _ h) ∙ q .passes h;
+      before = λ j h. ap (leb limit) (same j (omega (arith, q .within))) ∙ q .before j h;
+    }))
+
+pub contents-planes : (b c : List ℕ) (plan : Plan) →
+    ((q : ℕ) → q < plan .width * plan .height → plane b (plan .value) q ≡ plane c (plan .value) q) →
+    ((q : ℕ) → q < plan .width * plan .height → plane b (plan .guide) q ≡ plane c (plan .guide) q) → contents b plan ≡ contents c plan
+unfolding contents valueScan guideScan scanFile
+contents-planes b c plan values guides = ap₂ _▷_ (scan-same _ _ _ _ _ values) (scan-same _ _ _ _ _ guides)
+
 -- ---- check 6: what it promises of a trailer that begins at an offset
 pub record Near (at : ℕ) (t : Trailer) : Type 0 where
   pub value-long : 2 * pixels (t .settings) ≤ t .value
@@ -123,7 +143,6 @@ pub record FilePassed (b : List ℕ) : Type 0 where
   pub near : Near (trailerAt b) (trailerOf b)
   pub values : valueScan b (planOf b) ≡ accepted
   pub guides : guideScan b (planOf b) ≡ accepted
-  pub table : tableScan b (planOf b) ≡ accepted
 
 pub mark-long : (b : List ℕ) → badMark b ≡ false → 28 ≤ length b
 unfolding badMark
@@ -137,17 +156,14 @@ passed b e =
     let d = refuse 6 (badDistance (trailerAt b) (trailerOf b)) in
     let x = valueScan b (planOf b) in
     let y = guideScan b (planOf b) in
-    let z = tableScan b (planOf b) in
-    let front = both-accepted (m ▷ s ▷ d) (x ▷ y ▷ z) e in
+    let front = both-accepted (m ▷ s ▷ d) (x ▷ y) e in
     let marked = both-accepted m (s ▷ d) (front .0) in
     let set = both-accepted s d (marked .1) in
-    let first = both-accepted x (y ▷ z) (front .1) in
-    let rest = both-accepted y z (first .1) in
+    let planes = both-accepted x y (front .1) in
     record {
       long = mark-long b (not-fired 1 _ (marked .0));
       settings = set .0;
       near = near _ _ (not-fired 6 _ (set .1));
-      values = first .0;
-      guides = rest .0;
-      table = rest .1;
+      values = planes .0;
+      guides = planes .1;
     }

@@ -14,6 +14,7 @@ use Rattle.spec.specs.declared.Settings.{Settings}
 use Rattle.spec.specs.declared.Trailer.{Trailer}
 use Rattle.spec.specs.declared.Plan.{Plan}
 use Rattle.spec.specs.Base.{if_then_else_, distance}
+use Rattle.spec.specs.Bytes.{AllBytes, be16}
 use Rattle.spec.specs.Refusal.{accepted, _▷_, refuse}
 use Rattle.spec.specs.Frame.{
   Frame,
@@ -21,7 +22,7 @@ use Rattle.spec.specs.Frame.{
   guide,
   table,
   pixels,
-  ownWeights,
+  heaviest,
   settingsOf,
   trailerOf,
   planOf,
@@ -32,7 +33,6 @@ use Rattle.spec.specs.Frame.{
   frameOf,
 }
 use Rattle.spec.specs.Checks.{
-  heaviest,
   outside,
   badSize,
   badCounts,
@@ -42,7 +42,6 @@ use Rattle.spec.specs.Checks.{
   scanFile,
   valueScan,
   guideScan,
-  tableScan,
   verdict,
   SettingsLimits,
 }
@@ -52,7 +51,6 @@ pub record FrameLimits (p : Frame) : Type 0 where
   pub sound : SettingsLimits (p .set)
   pub level-low : (x y : ℕ) → x < p .set .width → y < p .set .height → level p x y < p .set .levels
   pub guide-low : (x y : ℕ) → x < p .set .width → y < p .set .height → guide p x y < p .set .guides
-  pub table-low : (f g : ℕ) → f < p .set .guides → g < p .set .guides → table p f g ≤ heaviest
 
 -- a pixel of a good frame
 pub record Pixel (p : Frame) (s t : ℕ) : Type 0 where
@@ -97,9 +95,22 @@ settings-limits k ok =
       kinds = kinds-of (k .kind) (k .smoothing) (not-fired 4 (badKind k) (c .0));
     }
 
+-- ---- the weights, of any file: no check looks at them, and their 16 bits bound them
 pub built-in-low : (f g : ℕ) → builtIn f g ≤ heaviest
 unfolding builtIn
 built-in-low f g = div-le-of-le-mul (16 + distance f g) (omega arith)
+
+pub be16-low : (b : List ℕ) → AllBytes b → (at : ℕ) → be16 b at ≤ heaviest
+unfolding be16
+be16-low b bytes at = omega (arith, bytes at, bytes (at + 1))
+
+pub table-low : (b : List ℕ) → AllBytes b → (f g : ℕ) → table (frameOf b) f g ≤ heaviest
+unfolding frameOf
+table-low b bytes f g = go (eqb (trailerOf b .table) 0)
+  where
+    go : (own : Bool) → (if own then builtIn f g else plane b (planOf b .table) (f * settingsOf b .guides + g)) ≤ heaviest
+    go true = built-in-low f g
+    go false = be16-low b bytes _
 
 -- a pixel's place in a plane
 pub in-plane : (k : Settings) (s t : ℕ) → s < k .width → t < k .height → t * k .width + s < pixels k
@@ -114,19 +125,6 @@ module _ (b : List ℕ) (ok : verdict b ≡ accepted) where
   unfolding pixelGuide guideScan scanFile planOf
   guide-below q h = scan-accepted _ _ _ _ (passed b ok .guides) q h
 
-  pub weight-below : (q : ℕ) → q < ownWeights (trailerOf b) → plane b (planOf b .table) q ≤ heaviest
-  unfolding tableScan scanFile planOf
-  weight-below q h = omega (arith, scan-accepted (plane b (planOf b .table)) _ (heaviest + 1) _ (passed b ok .table) q h)
-
-  table-below : (f g : ℕ) → f < settingsOf b .guides → g < settingsOf b .guides → table (frameOf b) f g ≤ heaviest
-  unfolding frameOf ownWeights trailerOf
-  table-below f g hf hg = go (eqb (trailerOf b .table) 0) refl
-    where
-      go : (c : Bool) → eqb (trailerOf b .table) 0 ≡ c →
-          (if c then builtIn f g else plane b (planOf b .table) (f * settingsOf b .guides + g)) ≤ heaviest
-      go true e = built-in-low f g
-      go false e = weight-below (f * settingsOf b .guides + g) (rw e (digits-lt hf hg))
-
   pub limits-of : FrameLimits (frameOf b)
   unfolding frameOf
   limits-of =
@@ -134,5 +132,4 @@ module _ (b : List ℕ) (ok : verdict b ≡ accepted) where
         sound = settings-limits (settingsOf b) (passed b ok .settings);
         level-low = λ x y hx hy. level-below _ (in-plane (settingsOf b) x y hx hy);
         guide-low = λ x y hx hy. guide-below _ (in-plane (settingsOf b) x y hx hy);
-        table-low = table-below;
       }

@@ -61,10 +61,6 @@ badDistance at t =
     outside (2 * pixels (t .settings)) at (t .value) || outside (2 * pixels (t .settings)) at (t .guide)
     || (not (eqb (t .table) 0) && (outside (2 * tableSize (t .settings)) at (t .table) || eqb (t .settings .kind) 2))
 
--- the largest weight
-abbrev pub heaviest : ℕ
-heaviest = 256
-
 -- 7 at the first of n numbers that is limit or more; they stand two bytes apart from the offset on
 unfoldable pub scan : (ℕ → ℕ) → ℕ → ℕ → ℕ → Outcome
 scan number n limit offset =
@@ -81,11 +77,9 @@ valueScan b plan = scanFile b (plan .value) (plan .width * plan .height) (plan .
 unfoldable pub guideScan : List ℕ → Plan → Outcome
 guideScan b plan = scanFile b (plan .guide) (plan .width * plan .height) (plan .guides)
 
-unfoldable pub tableScan : List ℕ → Plan → Outcome
-tableScan b plan = scanFile b (plan .table) (plan .weights) (heaviest + 1)
-
+-- check 7, of the two planes: a weight may be any number
 unfoldable pub contents : List ℕ → Plan → Outcome
-contents b plan = valueScan b plan ▷ guideScan b plan ▷ tableScan b plan
+contents b plan = valueScan b plan ▷ guideScan b plan
 
 -- checks 1 to 6, of trailer and distances
 unfoldable pub trailerOutcome : List ℕ → Outcome

@@ -70,6 +70,10 @@ tableSize settings = settings .guides * settings .guides
 unfoldable pub ownWeights : Trailer → ℕ
 ownWeights t = if eqb (t .table) 0 then 0 else tableSize (t .settings)
 
+-- the largest weight: one of a table is any 16-bit number (document 02, ask 1)
+abbrev pub heaviest : ℕ
+heaviest = 65535
+
 -- the parts of the file that an opened frame shows: n bytes from so far back
 abbrev pub part : List ℕ → ℕ → ℕ → List ℕ
 part b back n = take n (drop (trailerAt b - back) b)

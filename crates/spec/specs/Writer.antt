@@ -9,7 +9,7 @@ use Rattle.spec.specs.declared.Settings.{Settings}
 use Rattle.spec.specs.Bytes.{to16, to32, all16}
 use Rattle.spec.specs.Refusal.{Outcome, accepted, refused, _▷_, refuse}
 use Rattle.spec.specs.Frame.{pixels, tableSize}
-use Rattle.spec.specs.Checks.{heaviest, settingsOutcome, scan}
+use Rattle.spec.specs.Checks.{settingsOutcome, scan}
 
 -- the trailer's first 12 bytes
 unfoldable pub fieldBytes : Settings → List ℕ
@@ -37,11 +37,11 @@ badLength settings v g a =
 unfoldable pub scanList : List ℕ → ℕ → ℕ → Outcome
 scanList l limit offset = scan (λ j. getD l j 0) (length l) limit offset
 
--- into an output of room bytes
+-- into an output of room bytes; the table's weights may be any numbers
 unfoldable pub writerOutcome : Settings → List ℕ → List ℕ → List ℕ → ℕ → Outcome
 writerOutcome settings v g a room =
     settingsOutcome settings ▷ refuse 6 (badLength settings (length v) (length g) (length a))
-    ▷ scanList v (settings .levels) 0 ▷ scanList g (settings .guides) (2 * pixels settings) ▷ scanList a (heaviest + 1) (4 * pixels settings)
+    ▷ scanList v (settings .levels) 0 ▷ scanList g (settings .guides) (2 * pixels settings)
     ▷ refuse 11 (ltb room (writtenSize settings (length a)))
 
 -- the output afterwards: the file and then the rest as it was; or all as it was
