@@ -21,12 +21,10 @@ use Rattle.spec.specs.Checks.{
   badKind,
   badRadius,
   badDistance,
-  heaviest,
   scan,
   scanFile,
   valueScan,
   guideScan,
-  tableScan,
   contents,
   settingsOutcome,
   trailerOutcome,
@@ -128,8 +126,8 @@ unfolding scan
 refuses-scan f n limit offset = refuses-if (ltb (first (λ j. leb limit (f j)) n) n) ((offset + 2 * first (λ j. leb limit (f j)) n) ∷ [])
 
 refuses-contents : (b : List ℕ) (z : Plan) → RefusesAs 7 (contents b z)
-unfolding contents valueScan guideScan tableScan scanFile
-refuses-contents b z = refuses-either 7 _ _ (refuses-scan _ _ _ _) (refuses-either 7 _ _ (refuses-scan _ _ _ _) (refuses-scan _ _ _ _))
+unfolding contents valueScan guideScan scanFile
+refuses-contents b z = refuses-either 7 _ _ (refuses-scan _ _ _ _) (refuses-scan _ _ _ _)
 
 file-numbered : (b : List ℕ) (own : List Outcome) → NumberedFrom 8 own → NumberedFrom 1 (fileRows b own)
 file-numbered b own h =
@@ -212,15 +210,14 @@ refuses-list : (l : List ℕ) (limit offset : ℕ) → RefusesAs 7 (scanList l l
 unfolding scanList
 refuses-list l limit offset = refuses-scan (λ j. getD l j 0) (length l) limit offset
 
-flat-writer : (b c d e f x y z w : Outcome) → ((b ▷ c ▷ d ▷ e) ▷ f ▷ x ▷ y ▷ z ▷ w) ≡ (b ▷ c ▷ d ▷ e ▷ f ▷ (x ▷ y ▷ z) ▷ w)
-flat-writer (refused n l) c d e f x y z w = refl
-flat-writer accepted (refused n l) d e f x y z w = refl
-flat-writer accepted accepted (refused n l) e f x y z w = refl
-flat-writer accepted accepted accepted (refused n l) f x y z w = refl
-flat-writer accepted accepted accepted accepted (refused n l) x y z w = refl
-flat-writer accepted accepted accepted accepted accepted (refused n l) y z w = refl
-flat-writer accepted accepted accepted accepted accepted accepted (refused n l) z w = refl
-flat-writer accepted accepted accepted accepted accepted accepted accepted z w = refl
+flat-writer : (b c d e f x y w : Outcome) → ((b ▷ c ▷ d ▷ e) ▷ f ▷ x ▷ y ▷ w) ≡ (b ▷ c ▷ d ▷ e ▷ f ▷ (x ▷ y) ▷ w)
+flat-writer (refused n l) c d e f x y w = refl
+flat-writer accepted (refused n l) d e f x y w = refl
+flat-writer accepted accepted (refused n l) e f x y w = refl
+flat-writer accepted accepted accepted (refused n l) f x y w = refl
+flat-writer accepted accepted accepted accepted (refused n l) x y w = refl
+flat-writer accepted accepted accepted accepted accepted (refused n l) y w = refl
+flat-writer accepted accepted accepted accepted accepted accepted y w = refl
 
 pub writer-table : (k : Settings) (v g a : List ℕ) (room : ℕ) → ByTable (writerRows k v g a room) (writerOutcome k v g a room)
 unfolding writerOutcome settingsOutcome
@@ -228,11 +225,8 @@ writer-table k v g a room =
     let six = badLength k (length v) (length g) (length a) in
     let x = scanList v (k .levels) 0 in
     let y = scanList g (k .guides) (2 * pixels k) in
-    let z = scanList a (heaviest + 1) (4 * pixels k) in
     let r = ltb room (writtenSize k (length a)) in
-    let seven : RefusesAs 7 (x ▷ y ▷ z) =
-    refuses-either 7 x (y ▷ z) (refuses-list v (k .levels) 0)
-    (refuses-either 7 y z (refuses-list g (k .guides) (2 * pixels k)) (refuses-list a (heaviest + 1) (4 * pixels k))) in
+    let seven : RefusesAs 7 (x ▷ y) = refuses-either 7 x y (refuses-list v (k .levels) 0) (refuses-list g (k .guides) (2 * pixels k)) in
     by-table (writerRows k v g a room) (writerOutcome k v g a room) (
       refuses-accepted 1,
       (
@@ -252,7 +246,7 @@ writer-table k v g a room =
         ),
       ),
     )
-    (flat-writer (refuse 2 (badSize k)) (refuse 3 (badCounts k)) (refuse 4 (badKind k)) (refuse 5 (badRadius k)) (refuse 6 six) x y z (refuse 11 r)
+    (flat-writer (refuse 2 (badSize k)) (refuse 3 (badCounts k)) (refuse 4 (badKind k)) (refuse 5 (badRadius k)) (refuse 6 six) x y (refuse 11 r)
     ∙ ap
-    (λ (u : Outcome). refuse 2 (badSize k) ▷ refuse 3 (badCounts k) ▷ refuse 4 (badKind k) ▷ refuse 5 (badRadius k) ▷ refuse 6 six ▷ (x ▷ y ▷ z)
+    (λ (u : Outcome). refuse 2 (badSize k) ▷ refuse 3 (badCounts k) ▷ refuse 4 (badKind k) ▷ refuse 5 (badRadius k) ▷ refuse 6 six ▷ (x ▷ y)
     ▷ u) (last (refuse 11 r)))

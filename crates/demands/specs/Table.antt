@@ -11,7 +11,7 @@ use Rattle.spec.specs.declared.Settings.{Settings}
 use Rattle.spec.specs.declared.Room.{Room}
 use Rattle.spec.specs.Refusal.{Outcome, accepted, refused, _▷_, refuse}
 use Rattle.spec.specs.Frame.{trailerAt, settingsOf, trailerOf, planOf, pixels}
-use Rattle.spec.specs.Checks.{badMark, badSize, badCounts, badKind, badRadius, badDistance, heaviest, contents}
+use Rattle.spec.specs.Checks.{badMark, badSize, badCounts, badKind, badRadius, badDistance, contents}
 use Rattle.spec.specs.Calls.{badWay, badPixel, short}
 use Rattle.spec.specs.Writer.{writtenSize, badLength, scanList}
 
@@ -40,7 +40,7 @@ abbrev pub writerRows : Settings → List ℕ → List ℕ → List ℕ → ℕ 
 writerRows settings v g a room =
     accepted ∷ refuse 2 (badSize settings) ∷ refuse 3 (badCounts settings) ∷ refuse 4 (badKind settings) ∷ refuse 5 (badRadius settings)
     ∷ refuse 6 (badLength settings (length v) (length g) (length a))
-    ∷ (scanList v (settings .levels) 0 ▷ scanList g (settings .guides) (2 * pixels settings) ▷ scanList a (heaviest + 1) (4 * pixels settings))
+    ∷ (scanList v (settings .levels) 0 ▷ scanList g (settings .guides) (2 * pixels settings))
     ∷ accepted ∷ accepted ∷ accepted ∷ refuse 11 (ltb room (writtenSize settings (length a))) ∷ []
 
 -- a number is given, with its values, exactly if its row fires and no row before it does; there is no number 0; and the outcome is accepted exactly

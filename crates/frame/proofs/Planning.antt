@@ -1,4 +1,4 @@
--- What checks 1 to 6 promise of a file's plan: its parts lie within the file. Assumes nothing.
+-- What checks 1 to 6 promise of a file's plan: its planes lie within the file. Assumes nothing.
 use mathlib.Core.Path.{_≡_}
 use mathlib.Core.List.{List}
 use Prim.Native.Nat.{ℕ, _≤_}
@@ -8,7 +8,7 @@ use Rattle.spec.specs.Refusal.{accepted, _▷_, refuse}
 use Rattle.spec.specs.Frame.{trailerAt, settingsOf, trailerOf, planOf}
 use Rattle.spec.specs.Checks.{badMark, settingsOutcome, badDistance, trailerOutcome, verdict}
 use Rattle.spec.proofs.Checks.{both-accepted, not-fired, Near, near, mark-long}
-use Rattle.frame_contents.specs.Parts.{PartsInFile}
+use Rattle.frame_contents.specs.Planes.{PlanesInFile}
 use Rattle.frame.specs.Plan.{openedPlan}
 
 -- ---- what a file has whose trailer passes
@@ -25,15 +25,14 @@ trailer-passed b e =
     let marked = both-accepted m (s ▷ d) e in
     record { long = mark-long b (not-fired 1 _ (marked .0)); near = near _ _ (not-fired 6 _ (both-accepted s d (marked .1) .1)) }
 
-pub parts-in-file : (b : List ℕ) → trailerOutcome b ≡ accepted → PartsInFile b (planOf b)
+pub planes-in-file : (b : List ℕ) → trailerOutcome b ≡ accepted → PlanesInFile b (planOf b)
 unfolding planOf trailerAt trailerOf
-parts-in-file b e =
+planes-in-file b e =
     let h = trailer-passed b e in
     let n = h .near in
     record {
       values = omega (arith, n .value-long, n .value-in);
       guides = omega (arith, n .guide-long, n .guide-in);
-      table = omega (arith, n .table-long, n .table-in, h .long);
     }
 
 -- ---- what a call has that opened a file and went on

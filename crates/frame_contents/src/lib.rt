@@ -1,4 +1,4 @@
-// Check 7: every value, guide and weight of a file below its limit.
+// Check 7: every value and guide of a file below its limit. A weight may be any number.
 use big_endian::be16;
 use spec::Plan;
 use spec::Refusal;
@@ -10,10 +10,7 @@ ghost use lib.ListN.{length};
 ghost use mathlib.Core.List.{[], _∷_};
 ghost use Rattle.spec.specs.Refusal.{refused, numbered};
 ghost use Rattle.spec.specs.Checks.{scanFile, contents};
-ghost use Rattle.frame_contents.specs.Parts.{PartsInFile};
-
-// The largest weight.
-pub const HEAVIEST: u16 = 256;
+ghost use Rattle.frame_contents.specs.Planes.{PlanesInFile};
 
 // A number that is too large, by the offset of its high byte.
 pub fn too_large(at: usize) -> Verdict
@@ -38,20 +35,15 @@ fn scan(file: &[u8], offset: usize, n: usize, limit: usize) -> Verdict
     Verdict::Accepted
 }
 
-// Check 7: value plane, guide plane, table.
+// Check 7: value plane, then guide plane.
 pub fn contents(file: &[u8], plan: Plan) -> Verdict
-    requires { ⌜ PartsInFile (now file) plan ⌝ }
+    requires { ⌜ PlanesInFile (now file) plan ⌝ }
     ensures { λ r. ⌜ numbered r ≡ contents (now (file .entry)) plan ⌝ }
 {
     let n = plan.width * plan.height;
-    let heavy = HEAVIEST as usize + 1;
     let v = scan(file, plan.value, n, plan.levels);
     if stops(v) {
         return v;
     }
-    let g = scan(file, plan.guide, n, plan.guides);
-    if stops(g) {
-        return g;
-    }
-    scan(file, plan.table, plan.weights, heavy)
+    scan(file, plan.guide, n, plan.guides)
 }

@@ -35,7 +35,6 @@ use Rattle.spec.specs.Frame.{
   pixelGuide,
 }
 use Rattle.spec.specs.Checks.{
-  heaviest,
   outside,
   badMark,
   settingsOutcome,
@@ -43,7 +42,6 @@ use Rattle.spec.specs.Checks.{
   scanFile,
   valueScan,
   guideScan,
-  tableScan,
   contents,
   trailerOutcome,
   verdict,
@@ -383,15 +381,12 @@ module _ (k : Settings) (v g a : List ℕ) where
         (past (settingsOutcome (settingsOf file)) (refuse 6 (badDistance (trailerAt file) (trailerOf file))) (ap settingsOutcome settings-back ∙ ok)
         (sym (ap (refuse 6) placed))))
 
-    contents-pass : scanList v (k .levels) 0 ≡ accepted → scanList g (k .guides) (2 * pixels k) ≡ accepted →
-        scanList a (heaviest + 1) (4 * pixels k) ≡ accepted
-        → contents file plan ≡ accepted
-    unfolding contents valueScan guideScan tableScan
-    contents-pass sv sg sa =
+    contents-pass : scanList v (k .levels) 0 ≡ accepted → scanList g (k .guides) (2 * pixels k) ≡ accepted → contents file plan ≡ accepted
+    unfolding contents valueScan guideScan
+    contents-pass sv sg =
         let xv : valueScan file plan ≡ accepted = stands-scan values-stand (pixels k) (k .levels) 0 (sym (p .values)) sv in
         let xg : guideScan file plan ≡ accepted = stands-scan guides-stand (pixels k) (k .guides) (2 * pixels k) (sym (p .guides)) sg in
-        let xa : tableScan file plan ≡ accepted = stands-scan table-stands (length a) (heaviest + 1) (4 * pixels k) refl sa in
-        sym (past (valueScan file plan) (guideScan file plan ▷ tableScan file plan) xv (past (guideScan file plan) (tableScan file plan) xg (sym xa)))
+        sym (past (valueScan file plan) (guideScan file plan) xv (sym xg))
 
 -- ---- the theorem
 pub round-trip : (k : Settings) (v g a : List ℕ) (room : ℕ) → writerOutcome k v g a room ≡ accepted → Returned k v g a (written k v g a)
@@ -403,7 +398,7 @@ round-trip k v g a room e =
     record {
       accepts =
           sym (past (trailerOutcome b) (contents b (planOf b)) (trailer-passes k v g a p (q .settings))
-          (sym (ap (contents b) (plan-back k v g a p) ∙ contents-pass k v g a p (q .values) (q .guides) (q .table))));
+          (sym (ap (contents b) (plan-back k v g a p) ∙ contents-pass k v g a p (q .values) (q .guides))));
       settings = settings-back k v g a;
       values = values-back k v g a p;
       guides = guides-back k v g a p;

@@ -13,7 +13,7 @@ use Rattle.spec.specs.declared.Settings.{Settings}
 use Rattle.spec.specs.Bytes.{to16, to32, all16}
 use Rattle.spec.specs.Refusal.{Outcome, accepted, refused, _▷_, refuse, fires}
 use Rattle.spec.specs.Frame.{pixels, tableSize}
-use Rattle.spec.specs.Checks.{heaviest, settingsOutcome}
+use Rattle.spec.specs.Checks.{settingsOutcome}
 use Rattle.spec.specs.Writer.{fieldBytes, distanceBytes, written, writtenSize, badLength, scanList, writerOutcome, stored}
 use Rattle.spec.proofs.Checks.{not-refused, both-accepted, not-fired, neither, both}
 use Rattle.spec.proofs.Limits.{settings-limits}
@@ -32,34 +32,25 @@ module _ (k : Settings) (v g a : List ℕ) (room : ℕ) where
   abbrev pub of-guides : Outcome
   of-guides = scanList g (k .guides) (2 * pixels k)
 
-  abbrev pub of-table : Outcome
-  of-table = scanList a (heaviest + 1) (4 * pixels k)
-
   abbrev pub of-room : Outcome
   of-room = refuse 11 (ltb room (writtenSize k (length a)))
 
-  pub past1 : {u : Outcome} → settingsOutcome k ≡ accepted → u ≡ (of-length ▷ of-values ▷ of-guides ▷ of-table ▷ of-room) →
+  pub past1 : {u : Outcome} → settingsOutcome k ≡ accepted → u ≡ (of-length ▷ of-values ▷ of-guides ▷ of-room) →
       u ≡ writerOutcome k v g a room
   unfolding writerOutcome
-  past1 = past (settingsOutcome k) (of-length ▷ of-values ▷ of-guides ▷ of-table ▷ of-room)
+  past1 = past (settingsOutcome k) (of-length ▷ of-values ▷ of-guides ▷ of-room)
 
-  pub past2 : {u : Outcome} → settingsOutcome k ≡ accepted → of-length ≡ accepted → u ≡ (of-values ▷ of-guides ▷ of-table ▷ of-room) →
+  pub past2 : {u : Outcome} → settingsOutcome k ≡ accepted → of-length ≡ accepted → u ≡ (of-values ▷ of-guides ▷ of-room) →
       u ≡ writerOutcome k v g a room
-  past2 s l e = past1 s (past of-length (of-values ▷ of-guides ▷ of-table ▷ of-room) l e)
+  past2 s l e = past1 s (past of-length (of-values ▷ of-guides ▷ of-room) l e)
 
-  pub past3 : {u : Outcome} → settingsOutcome k ≡ accepted → of-length ≡ accepted → of-values ≡ accepted → u ≡ (of-guides ▷ of-table ▷ of-room) →
+  pub past3 : {u : Outcome} → settingsOutcome k ≡ accepted → of-length ≡ accepted → of-values ≡ accepted → u ≡ (of-guides ▷ of-room) →
       u ≡ writerOutcome k v g a room
-  past3 s l x e = past2 s l (past of-values (of-guides ▷ of-table ▷ of-room) x e)
+  past3 s l x e = past2 s l (past of-values (of-guides ▷ of-room) x e)
 
-  pub past4 : {u : Outcome} → settingsOutcome k ≡ accepted → of-length ≡ accepted → of-values ≡ accepted → of-guides ≡ accepted →
-      u ≡ (of-table ▷ of-room)
-      → u ≡ writerOutcome k v g a room
-  past4 s l x y e = past3 s l x (past of-guides (of-table ▷ of-room) y e)
-
-  pub past5 : {u : Outcome} → settingsOutcome k ≡ accepted → of-length ≡ accepted → of-values ≡ accepted → of-guides ≡ accepted →
-      of-table ≡ accepted → u ≡ of-room
-      → u ≡ writerOutcome k v g a room
-  past5 s l x y z e = past4 s l x y (past of-table of-room z e)
+  pub past4 : {u : Outcome} → settingsOutcome k ≡ accepted → of-length ≡ accepted → of-values ≡ accepted → of-guides ≡ accepted → u ≡ of-room →
+      u ≡ writerOutcome k v g a room
+  past4 s l x y e = past3 s l x (past of-guides of-room y e)
 
 -- ---- what an accepted writing has passed, check by check
 pub record WritingPassed (k : Settings) (v g a : List ℕ) (room : ℕ) : Type 0 where
@@ -67,7 +58,6 @@ pub record WritingPassed (k : Settings) (v g a : List ℕ) (room : ℕ) : Type 0
   pub lengths : badLength k (length v) (length g) (length a) ≡ false
   pub values : scanList v (k .levels) 0 ≡ accepted
   pub guides : scanList g (k .guides) (2 * pixels k) ≡ accepted
-  pub table : scanList a (heaviest + 1) (4 * pixels k) ≡ accepted
   pub space : ltb room (writtenSize k (length a)) ≡ false
 
 pub passes : (k : Settings) (v g a : List ℕ) (room : ℕ) → writerOutcome k v g a room ≡ accepted → WritingPassed k v g a room
@@ -76,20 +66,17 @@ passes k v g a room e =
     let l = of-length k v g a room in
     let x = of-values k v g a room in
     let y = of-guides k v g a room in
-    let z = of-table k v g a room in
     let r = of-room k v g a room in
-    let e1 = both-accepted (settingsOutcome k) (l ▷ x ▷ y ▷ z ▷ r) e in
-    let e2 = both-accepted l (x ▷ y ▷ z ▷ r) (e1 .1) in
-    let e3 = both-accepted x (y ▷ z ▷ r) (e2 .1) in
-    let e4 = both-accepted y (z ▷ r) (e3 .1) in
-    let e5 = both-accepted z r (e4 .1) in
+    let e1 = both-accepted (settingsOutcome k) (l ▷ x ▷ y ▷ r) e in
+    let e2 = both-accepted l (x ▷ y ▷ r) (e1 .1) in
+    let e3 = both-accepted x (y ▷ r) (e2 .1) in
+    let e4 = both-accepted y r (e3 .1) in
     record {
       settings = e1 .0;
       lengths = not-fired 6 _ (e2 .0);
       values = e3 .0;
       guides = e4 .0;
-      table = e5 .0;
-      space = not-fired 11 _ (e5 .1);
+      space = not-fired 11 _ (e4 .1);
     }
 
 -- the lengths that check 6 lets through: a table is empty, or of kind 1 and whole

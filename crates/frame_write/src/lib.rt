@@ -2,7 +2,6 @@
 use frame_bytes::put_all;
 use frame_bytes::put_distances;
 use frame_bytes::put_fields;
-use frame_contents::HEAVIEST;
 use frame_contents::too_large;
 use frame_limits::check_settings;
 use frame_limits::product;
@@ -85,10 +84,6 @@ fn check_writing(
     let g = scan_list(guides, settings.guides, 2 * p);
     if stops(g) {
         return g;
-    }
-    let a = scan_list(table, HEAVIEST + 1, 4 * p);
-    if stops(a) {
-        return a;
     }
     if room < 4 * p + 2 * table.len() + 28 {
         return Verdict::Refused(Refusal::Room);

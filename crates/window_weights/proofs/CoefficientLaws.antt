@@ -18,7 +18,7 @@ use Rattle.spec.specs.Weight.{scaledVariance, monotone, variance, deviation, sl
 use Rattle.spec.proofs.Plans.{facts, pixel-of, smoothing-of}
 use Rattle.spec.proofs.Levels.{weight-linear}
 use Rattle.spec.proofs.Totals.{total-guided}
-use Rattle.spec.proofs.Bounds.{slope-abs, offset-abs, total-abs}
+use Rattle.spec.proofs.Bounds.{slope-abs, offset-abs, guided-abs, total-abs}
 use Rattle.window.specs.declared.sums.Sums.{Sums}
 use Rattle.window_weights.specs.declared.coefficients.Coefficients.{Coefficients}
 use Rattle.window.specs.Sums.{SumsAt}
@@ -63,7 +63,7 @@ module _ {b : List ℕ} {z : Plan} (pl : Planned b z) (two : z .kind ≡ 2) wher
         record {
           slope = subst (λ (n : ℤ). natAbs n ≤ 235497855) (sym (w .slope)) (slope-abs q);
           offset = subst (λ (n : ℤ). natAbs n ≤ 180155859075) (sym (w .offset)) (offset-abs q (e .0) (e .1));
-          total = subst (λ (n : ℤ). natAbs n ≤ 173129780571075) (sym (w .total)) (total-abs q);
+          total = subst (λ (n : ℤ). natAbs n ≤ 173129780571075) (sym (w .total)) (total-abs q 180155859075 (guided-abs q guided));
         }
 
     pub ends-monotone : endsNotNegative k (z .guides) ≡ monotone (frameOf b) s t

@@ -7,7 +7,7 @@ use Rattle.spec.specs.Refusal.{accepted, _▷_}
 use Rattle.spec.specs.Checks.{settingsOutcome}
 use Rattle.spec.specs.Writer.{writerOutcome, writtenSize}
 use Rattle.spec.proofs.Outcomes.{same, stopped, quiet, unmet}
-use Rattle.frame_write.proofs.Writing.{of-length, of-values, of-guides, of-table, of-room, past1, past2, past3, past4, past5}
+use Rattle.frame_write.proofs.Writing.{of-length, of-values, of-guides, of-room, past1, past2, past3, past4}
 use borrow.Author.Needs.{needs}
 use Rattle.frame_write.proofs.check_writing.Statement.{statement}
 use Rattle.frame_write.proofs.check_writing.Tie as tie
@@ -24,9 +24,6 @@ s3 d = s2 (d .before .before .before .before)
 
 abbrev s4 : tie.Else4 → tie.Start
 s4 d = s3 (d .before .before .before)
-
-abbrev s5 : tie.Else5 → tie.Start
-s5 d = s4 (d .before .before .before)
 
 q1 : (d : tie.Else1) → settingsOutcome (s1 d .args .settings) ≡ accepted
 q1 d = quiet (d .before .before .check-settings .ensures) (d .before .stops .ensures) (d .if1 .left)
@@ -45,13 +42,6 @@ q4 d =
     quiet (rw (d .before .before .before .before .before .before .product .ensures .0) at (d .before .before .scan-list2 .ensures))
     (d .before .stops3 .ensures) (d .if4 .left)
 
-q5 : (d : tie.Else5) →
-    of-table (s5 d .args .settings) (s5 d .args .values .now) (s5 d .args .guides .now) (s5 d .args .table .now) (s5 d .args .room) ≡ accepted
-q5 d =
-    quiet
-    (rw (d .before .before .before .before .before .before .before .before .before .product .ensures .0) at (d .before .before .scan-list3 .ensures))
-    (d .before .stops4 .ensures) (d .if5 .left)
-
 check-settings-requires : tie.Need-check-settings-requires
 check-settings-requires c κs = search needs
 
@@ -64,8 +54,7 @@ returns c =
     let a = c .before .before .before .before .before .before .args in
     stopped (settingsOutcome (a .settings))
     (of-length (a .settings) (a .values .now) (a .guides .now) (a .table .now) (a .room) ▷ of-values (a .settings) (a .values .now)
-    (a .guides .now) (a .table .now) (a .room) ▷ of-guides (a .settings) (a .values .now) (a .guides .now) (a .table .now) (a .room) ▷ of-table
-    (a .settings) (a .values .now) (a .guides .now) (a .table .now) (a .room) ▷ of-room (a .settings) (a .values .now) (a .guides .now)
+    (a .guides .now) (a .table .now) (a .room) ▷ of-guides (a .settings) (a .values .now) (a .guides .now) (a .table .now) (a .room) ▷ of-room (a .settings) (a .values .now) (a .guides .now)
     (a .table .now) (a .room))
     (c .before .before .check-settings .ensures) (c .before .stops .ensures) (c .if1 .taken)
 
@@ -92,8 +81,7 @@ returns-3 c =
     let a = s2 d .args in
     past2 _ _ _ _ _ (q1 (d .before .before)) (q2 d)
     (stopped (of-values (a .settings) (a .values .now) (a .guides .now) (a .table .now) (a .room))
-    (of-guides (a .settings) (a .values .now) (a .guides .now) (a .table .now) (a .room) ▷ of-table (a .settings) (a .values .now)
-    (a .guides .now) (a .table .now) (a .room) ▷ of-room (a .settings) (a .values .now) (a .guides .now) (a .table .now) (a .room))
+    (of-guides (a .settings) (a .values .now) (a .guides .now) (a .table .now) (a .room) ▷ of-room (a .settings) (a .values .now) (a .guides .now) (a .table .now) (a .room))
     (c .before .before .scan-list .ensures) (c .before .stops2 .ensures) (c .if3 .taken))
 
 mul-scan-list : tie.Need-mul-scan-list
@@ -112,66 +100,39 @@ returns-4 c =
     let a = s3 d .args in
     past3 _ _ _ _ _ (q1 (e .before .before)) (q2 e) (q3 d)
     (stopped (of-guides (a .settings) (a .values .now) (a .guides .now) (a .table .now) (a .room))
-    (of-table (a .settings) (a .values .now) (a .guides .now) (a .table .now) (a .room) ▷ of-room (a .settings) (a .values .now) (a .guides .now)
-    (a .table .now) (a .room)) (rw (d .before .before .before .product .ensures .0) at (c .before .before .scan-list2 .ensures))
+    (of-room (a .settings) (a .values .now) (a .guides .now) (a .table .now) (a .room)) (rw (d .before .before .before .product .ensures .0) at (c .before .before .scan-list2 .ensures))
     (c .before .stops3 .ensures) (c .if4 .taken))
 
-add-scan-list : tie.Need-add-scan-list
-add-scan-list c = search needs
+mul-if5 : tie.Need-mul-if5
+mul-if5 c = search needs
 
-mul-scan-list-2 : tie.Need-mul-scan-list-2
-mul-scan-list-2 c = search needs
+mul-if5-2 : tie.Need-mul-if5-2
+mul-if5-2 c = search needs
 
-scan-list-requires-3 : tie.Need-scan-list-requires-3
-scan-list-requires-3 c κs = search needs
+add-if5 : tie.Need-add-if5
+add-if5 c = search needs
 
-stops-requires-4 : tie.Need-stops-requires-4
-stops-requires-4 c κs = search needs
+add-if5-2 : tie.Need-add-if5-2
+add-if5-2 c = search needs
 
 returns-5 : tie.Need-returns-5
+unfolding writtenSize
 returns-5 c =
-    let f = c .before .before .before in
+    let f = c .before in
     let d = f .before .before .before in
     let e = d .before .before .before .before in
     let a = s4 f .args in
     past4 _ _ _ _ _ (q1 (e .before .before)) (q2 e) (q3 d) (q4 f)
-    (stopped (of-table (a .settings) (a .values .now) (a .guides .now) (a .table .now) (a .room))
-    (of-room (a .settings) (a .values .now) (a .guides .now) (a .table .now) (a .room))
-    (rw (d .before .before .before .product .ensures .0) at (c .before .before .scan-list3 .ensures)) (c .before .stops4 .ensures)
-    (c .if5 .taken))
-
-mul-if6 : tie.Need-mul-if6
-mul-if6 c = search needs
-
-mul-if6-2 : tie.Need-mul-if6-2
-mul-if6-2 c = search needs
-
-add-if6 : tie.Need-add-if6
-add-if6 c = search needs
-
-add-if6-2 : tie.Need-add-if6-2
-add-if6-2 c = search needs
+    (simp (lt-ltb (a .room) (writtenSize (a .settings) (length (a .table .now))) (omega (arith, d .before .before .before .product .ensures .0))))
 
 returns-6 : tie.Need-returns-6
 unfolding writtenSize
 returns-6 c =
-    let g = c .before in
-    let f = g .before .before .before in
+    let f = c .before in
     let d = f .before .before .before in
     let e = d .before .before .before .before in
-    let a = s5 g .args in
-    past5 _ _ _ _ _ (q1 (e .before .before)) (q2 e) (q3 d) (q4 f) (q5 g)
-    (simp (lt-ltb (a .room) (writtenSize (a .settings) (length (a .table .now))) (omega (arith, d .before .before .before .product .ensures .0))))
-
-returns-7 : tie.Need-returns-7
-unfolding writtenSize
-returns-7 c =
-    let g = c .before in
-    let f = g .before .before .before in
-    let d = f .before .before .before in
-    let e = d .before .before .before .before in
-    let a = s5 g .args in
-    past5 _ _ _ _ _ (q1 (e .before .before)) (q2 e) (q3 d) (q4 f) (q5 g)
+    let a = s4 f .args in
+    past4 _ _ _ _ _ (q1 (e .before .before)) (q2 e) (q3 d) (q4 f)
     (simp (le-ltb (a .room) (writtenSize (a .settings) (length (a .table .now))) (omega (arith, d .before .before .before .product .ensures .0))))
 
 pub check-writing-spec : {M : Type 1} → statement M
@@ -191,14 +152,9 @@ check-writing-spec =
     scan-list-requires-2
     stops-requires-3
     returns-4
-    add-scan-list
-    mul-scan-list-2
-    scan-list-requires-3
-    stops-requires-4
+    mul-if5
+    mul-if5-2
+    add-if5
+    add-if5-2
     returns-5
-    mul-if6
-    mul-if6-2
-    add-if6
-    add-if6-2
-    returns-6
-    returns-7)
+    returns-6)

@@ -2,7 +2,7 @@
 use Rattle.spec.proofs.Outcomes.{stopped, quiet, past}
 use Rattle.spec.specs.Checks.{trailerOutcome, contents, verdict}
 use Rattle.spec.specs.Frame.{planOf}
-use Rattle.frame.proofs.Planning.{trailer-passed, parts-in-file}
+use Rattle.frame.proofs.Planning.{trailer-passed, planes-in-file}
 use borrow.Author.Needs.{needs}
 use Rattle.frame.proofs.check.check.Statement.{statement}
 use Rattle.frame.proofs.check.check.Tie as tie
@@ -25,7 +25,7 @@ plan-of-requires c κs = trailer-passed _ (quiet (c .before .before .check-trail
 contents-requires : tie.Need-contents-requires
 contents-requires c κs =
     rw (c .plan-of .ensures)
-    (parts-in-file _ (quiet (c .before .before .before .check-trailer .ensures) (c .before .before .stops .ensures) (c .before .if1 .left)))
+    (planes-in-file _ (quiet (c .before .before .before .check-trailer .ensures) (c .before .before .stops .ensures) (c .before .if1 .left)))
 
 returns-2 : tie.Need-returns-2
 unfolding verdict
