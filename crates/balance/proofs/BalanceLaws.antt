@@ -19,15 +19,15 @@ use Rattle.ints.specs.Machine.{read-bounded}
 use Rattle.ints.specs.Polynomial.{_⊕_, _⊖_, _⊗_, opposite, #_, _≐_, solve2}
 use Rattle.ints.specs.Ring.{one-mul}
 use Rattle.spec.specs.declared.Plan.{Plan}
-use Rattle.spec.specs.Frame.{Frame, table, frameOf}
+use Rattle.spec.specs.Frame.{Frame, table, heaviest, frameOf}
 use Rattle.spec.specs.Checks.{Planned}
 use Rattle.spec.specs.Window.{span}
+use Rattle.spec.specs.Weight.{weight}
 use Rattle.spec.specs.Median.{balance}
-use Rattle.spec.proofs.Limits.{Pixel}
 use Rattle.spec.proofs.Plans.{facts, pixel-of}
 use Rattle.spec.proofs.Ranges.{intSums, fold-same}
 use Rattle.spec.proofs.Levels.{balance-signed, weight-linear}
-use Rattle.spec.proofs.Bounds.{weight-abs}
+use Rattle.spec.proofs.Bounds.{guided-abs}
 use Rattle.window.specs.declared.line.Line.{Line}
 use Rattle.window.specs.Line.{columnLine}
 use Rattle.window_weights.specs.declared.coefficients.Coefficients.{Coefficients}
@@ -103,9 +103,6 @@ module _ {p row : List ℕ} {w : Formula} (v : PixelsWeighed p row w) (c : ℕ) 
           ∙ sym (pixels-more _+ℤ_ (pos 0) p (signedBy row w c) k)
 
 module _ {b : List ℕ} {z : Plan} {s t : ℕ} {row : List ℕ} {w : Formula} (wd : Weighed b z s t row w) where
-  pixel : Pixel (frameOf b) s t
-  pixel = pixel-of (wd .planned) (wd .column) (wd .row)
-
   -- ---- a line's list is weighed by the row, and adds what the line adds
   module _ {d : Line} {p : List ℕ} (v : LinePixels b z d p) where
     row-in : (k : ℕ) → k < countOf p → guideIn p k < frameOf b .set .guides
@@ -116,8 +113,7 @@ module _ {b : List ℕ} {z : Plan} {s t : ℕ} {row : List ℕ} {w : Formula} (w
       few = v .below .few;
       small = wd .weighs .small;
       inside = λ k h. omega (arith, wd .weighs .inside, row-in k h);
-      low =
-          λ k h. subst (λ (q : ℤ). natAbs q ≤ 180155859075) (wd .weighs .is (guideIn p k) (row-in k h)) (weight-abs pixel (guideIn p k) (row-in k h));
+      low = λ k h. wd .weighs .low (guideIn p k) (row-in k h);
     }
 
     list-adds : (c : ℕ) → pixelFold _+ℤ_ (pos 0) p (signedBy row w c) ≡ pixelFold _+ℤ_ (pos 0) p (signedWeight (frameOf b) s t c)
@@ -160,13 +156,18 @@ module _ {b : List ℕ} {z : Plan} {s t : ℕ} {row : List ℕ} {w : Formula} (w
 
 -- ---- the table's row of a guide, after k turns
 pub row-start : (p : Frame) (f : ℕ) → TableRow p 0 f (replicate 256 0)
-row-start p f = record { long = length-replicate {A = ℕ} 256 0; is = λ g h. absurd (omega arith) }
+row-start p f = record { long = length-replicate {A = ℕ} 256 0; is = λ g h. absurd (omega arith); low = λ g h. absurd (omega arith) }
 
-pub row-next : {p : Frame} {k f v : ℕ} {row : List ℕ} → k < 256 → TableRow p k f row → v ≡ table p f k → TableRow p (k + 1) f (set row k v)
-row-next {p} {k} {f} {v} {row} h r e = record {
+pub row-next : {p : Frame} {k f v : ℕ} {row : List ℕ} → k < 256 → TableRow p k f row → v ≡ table p f k → v ≤ heaviest →
+    TableRow p (k + 1) f (set row k v)
+row-next {p} {k} {f} {v} {row} h r e u = record {
   long = length-set row k v ∙ r .long;
   is =
       λ g l. ⊎-elim (λ q. rw q (getD-set-same row k v 0 (rw (r .long) h) ∙ e)) (λ n. getD-set-other row k g v 0 n ∙ r .is g (omega arith))
+      (eq-or-ne g k);
+  low =
+      λ g l. ⊎-elim (λ q. subst (λ (n : ℕ). n ≤ heaviest) (sym (ap (λ (j : ℕ). getD (set row k v) j 0) q ∙ getD-set-same row k v 0 (rw (r .long) h))) u)
+      (λ n. subst (λ (x : ℕ). x ≤ heaviest) (sym (getD-set-other row k g v 0 n)) (r .low g (omega arith)))
       (eq-or-ne g k);
 }
 
@@ -175,19 +176,26 @@ pub row-formula : {p : Frame} {s t : ℕ} {row : List ℕ} → RowWeighs p s t r
 row-formula {row = row} r = record {
   inside = r .in-row .inside;
   small = record { slope = omega arith; offset = omega arith };
-  is = λ g l. r .is g l ∙ sym (+ℤ-idr (pos 1 *ℤ pos (getD row g 0)) ∙ one-mul (pos (getD row g 0)));
+  is = λ g l. r .is g l ∙ sym (by-one g);
+  low = λ g l. subst (λ (q : ℤ). natAbs q ≤ 180155859075) (sym (by-one g)) (omega (arith, r .in-row .low g l));
 }
+  where
+    by-one : (g : ℕ) → weightBy row (record { slope = pos 1; offset = pos 0 }) g ≡ pos (getD row g 0)
+    by-one g = +ℤ-idr (pos 1 *ℤ pos (getD row g 0)) ∙ one-mul (pos (getD row g 0))
 
 -- kind 2: the ramp with the window's coefficients
-pub ramp-weighs : {b : List ℕ} {z : Plan} {s t : ℕ} {row : List ℕ} {k : Coefficients} {a d : ℤ} → Planned b z → z .kind ≡ 2 → Ramp (z .guides) row →
-    WeighsAt (frameOf b) s t k → CoefficientsSmall k → a ≡ k .slope → d ≡ k .offset
+pub ramp-weighs : {b : List ℕ} {z : Plan} {s t : ℕ} {row : List ℕ} {k : Coefficients} {a d : ℤ} → Planned b z → z .kind ≡ 2 → s < z .width →
+    t < z .height → Ramp (z .guides) row → WeighsAt (frameOf b) s t k → CoefficientsSmall k → a ≡ k .slope → d ≡ k .offset
     → Weighs (frameOf b) s t row (record { slope = a; offset = d })
-ramp-weighs {b} {s = s} {t} {row} {a = a} {d} pl two ra w small ea ed =
+ramp-weighs {b} {s = s} {t} {row} {a = a} {d} pl two hs ht ra w small ea ed =
     let f = facts pl in
+    let guided = sym (f .kind) ∙ two in
+    let by : (h : ℕ) → h < frameOf b .set .guides → weight (frameOf b) s t h ≡ weightBy row (record { slope = a; offset = d }) h =
+    λ h l. weight-linear (frameOf b) s t h guided ∙ ap₂ (λ (x y : ℤ). x *ℤ pos h +ℤ y) (sym (ea ∙ w .slope))
+    (sym (ed ∙ w .offset)) ∙ ap (λ (x : ℕ). a *ℤ pos x +ℤ d) (sym (ra .is h (rw (f .guides) l))) in
     record {
       inside = omega (arith, ra .long, f .guides);
       small = record { slope = rw ea (small .slope); offset = rw ed (small .offset) };
-      is =
-          λ h l. weight-linear (frameOf b) s t h (sym (f .kind) ∙ two) ∙ ap₂ (λ (x y : ℤ). x *ℤ pos h +ℤ y) (sym (ea ∙ w .slope))
-          (sym (ed ∙ w .offset)) ∙ ap (λ (x : ℕ). a *ℤ pos x +ℤ d) (sym (ra .is h (rw (f .guides) l)));
+      is = by;
+      low = λ h l. subst (λ (q : ℤ). natAbs q ≤ 180155859075) (by h l) (guided-abs (pixel-of pl hs ht) guided h l);
     }

@@ -18,11 +18,12 @@ pub record FormulaInBounds (formula : Formula) : Type 0 where
 abbrev pub weightBy : List ℕ → Formula → ℕ → ℤ
 weightBy row formula f = formula .slope *ℤ pos (getD row f 0) +ℤ formula .offset
 
--- they give the weights of the window at (s, t)
+-- they give the weights of the window at (s, t), none of which is too large for its sums
 pub record Weighs (p : Frame) (s t : ℕ) (row : List ℕ) (formula : Formula) : Type 0 where
   pub inside : p .set .guides ≤ length row
   pub small : FormulaInBounds formula
   pub is : (f : ℕ) → f < p .set .guides → weight p s t f ≡ weightBy row formula f
+  pub low : (f : ℕ) → f < p .set .guides → natAbs (weightBy row formula f) ≤ 180155859075
 
 -- the numbers 0 1 2 ..
 pub record Ramp (m : ℕ) (row : List ℕ) : Type 0 where

@@ -1,20 +1,14 @@
--- The balance box: sums over its first n cells, and its cut point moved by one level.
+-- The balance box: how large it may be, and its cut point moved by one level.
 -- Assumes nothing.
 use mathlib.Core.Path.{_≡_}
 use mathlib.Core.List.{List}
 use Prim.Native.Nat.{ℕ, _+_, _≤_, _<_}
 use lib.ListN.{length, getD}
 use lib.IntN.{ℤ, pos, natAbs, _+ℤ_, _*ℤ_}
-use Rattle.spec.specs.Base.{sum, sumℤ}
+use Rattle.spec.specs.Base.{sum}
 use Rattle.joint_pixel.specs.Store.{cellAt}
 
--- the products of the n cells from f on with their weights; and of the first n
-unfoldable pub boxPart : List ℤ → List ℕ → ℕ → ℕ → ℤ
-boxPart bx row f n = sumℤ (λ k. getD bx k (pos 0) *ℤ pos (getD row k 0)) f n
-
-abbrev pub boxDot : List ℤ → List ℕ → ℕ → ℤ
-boxDot bx row n = boxPart bx row 0 n
-
+-- the sizes of its first n cells, added up
 unfoldable pub boxSize : List ℤ → ℕ → ℕ
 boxSize bx n = sum (λ f. natAbs (getD bx f (pos 0))) 0 n
 
@@ -23,13 +17,6 @@ pub record BoxInBounds (bx : List ℤ) : Type 0 where
   pub long : length bx ≡ 256
   pub low : (f : ℕ) → natAbs (getD bx f (pos 0)) ≤ 961
   pub few : (n : ℕ) → n ≤ 256 → boxSize bx n ≤ 961
-
--- n cells from f on, and their weights
-pub record PartFits (n f : ℕ) (bx : List ℤ) (row : List ℕ) : Type 0 where
-  pub low : BoxInBounds bx
-  pub inside : f + n ≤ 256
-  pub long : f + n ≤ length row
-  pub weights : (k : ℕ) → f ≤ k → k < f + n → getD row k 0 ≤ 32767
 
 -- by times the counts of level i's first n guides more
 pub record CountsAdded (m i : ℕ) (by : ℤ) (cs : List ℕ) (n : ℕ) (bx bx′ : List ℤ) : Type 0 where

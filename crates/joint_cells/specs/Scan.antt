@@ -7,6 +7,7 @@ use lib.Count.{trailingZeros}
 use lib.Dec.{eqb}
 use lib.ListN.{length, getD}
 use Rattle.spec.specs.Base.{if_then_else_, sum}
+use Rattle.spec.specs.Frame.{heaviest}
 use Rattle.joint_pixel.specs.Bit.{bit}
 use Rattle.joint_cells.specs.declared.scan.Scan.{Scan}
 use Rattle.joint_pixel.specs.Store.{cellAt, wordAt, wordsPer, countIn}
@@ -49,7 +50,7 @@ pub record Marked (m i : ℕ) (cs ws : List ℕ) : Type 0 where
   pub marks : (g : ℕ) → g < wordsPer m * 64 → bit (getD ws (wordAt m i g) 0) (g % 64) ≡ min 1 (countIn m cs i g)
   pub few : cellSum m i cs m ≤ 961
 
--- a row of weights for m guides, of 15 bits each: as signed 16-bit numbers they multiply a cell of the box in one instruction
+-- a row of weights for m guides
 pub record RowFits (m : ℕ) (row : List ℕ) : Type 0 where
   pub inside : m ≤ length row
-  pub low : (f : ℕ) → f < m → getD row f 0 ≤ 32767
+  pub low : (f : ℕ) → f < m → getD row f 0 ≤ heaviest

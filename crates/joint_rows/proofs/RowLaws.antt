@@ -11,10 +11,11 @@ use lib.Seq.{getD-set-same, getD-set-other}
 use lib.IntN.{pos}
 use Rattle.spec.specs.declared.Plan.{Plan}
 use Rattle.spec.specs.Base.{distance}
-use Rattle.spec.specs.Bytes.{be16}
-use Rattle.spec.specs.Frame.{guide, table, plane, pixelGuide, builtIn, frameOf}
+use Rattle.spec.specs.Bytes.{AllBytes, be16}
+use Rattle.spec.specs.Frame.{guide, table, heaviest, plane, pixelGuide, builtIn, frameOf}
 use Rattle.spec.specs.Checks.{Planned}
 use Rattle.spec.proofs.Lists.{part-long, part-cell}
+use Rattle.spec.proofs.Limits.{built-in-low, be16-low}
 use Rattle.spec.proofs.Plans.{facts, pixel-of, place-low, table-own, table-built}
 use Rattle.spec.proofs.Levels.{weight-table}
 use Rattle.window.proofs.PixelLaws.{guides-range}
@@ -47,9 +48,10 @@ module _ {b : List ℕ} {z : Plan} (pl : Planned b z) {s t : ℕ} (hs : s < z .w
 
     -- kind 1: a row of the table
     table-weighs : {row : List ℕ} → z .kind ≡ 1 → frameOf b .set .guides ≤ length row →
-        ((h : ℕ) → h < frameOf b .set .guides → getD row h 0 ≡ table (frameOf b) f h) → RowWeighs (frameOf b) s t row
-    table-weighs one inside value = record {
-      in-row = record { inside = inside; low = λ h l. rw (value h l) (omega (arith, pixel-of pl hs ht .good .table-low f h in-frame l)) };
+        ((h : ℕ) → h < frameOf b .set .guides → getD row h 0 ≡ table (frameOf b) f h) →
+        ((h : ℕ) → h < frameOf b .set .guides → getD row h 0 ≤ heaviest) → RowWeighs (frameOf b) s t row
+    table-weighs one inside value low = record {
+      in-row = record { inside = inside; low = low };
       is =
           λ h l. weight-table (frameOf b) s t h (sym (facts pl .kind) ∙ one) ∙ ap (λ (q : ℕ). pos (table (frameOf b) q h)) (sym centre-is) ∙ ap pos
           (sym (value h l));
@@ -64,13 +66,15 @@ module _ {b : List ℕ} {z : Plan} (pl : Planned b z) {s t : ℕ} (hs : s < z .w
     mirror-weighs {row} {from} {end} one none mi ef ee =
         let n : end - from ≡ 256 = omega arith in
         let inside = part-long row from (end - from) (omega (arith, mi .long, centre-small)) in
-        table-weighs one (omega (arith, inside, few))
-        (λ h l. part-cell row from (end - from) h (omega (arith, few)) ∙ mi .is (from + h)
-        (omega (arith, few, centre-small)) ∙ ap (λ (q : ℕ). builtIn 255 (q + h)) ef ∙ mirror-built f h centre-small ∙ sym (table-built pl none f h))
+        let built : (h : ℕ) → h < frameOf b .set .guides → getD (take (end - from) (drop from row)) h 0 ≡ builtIn f h =
+        λ h l. part-cell row from (end - from) h (omega (arith, few)) ∙ mi .is (from + h)
+        (omega (arith, few, centre-small)) ∙ ap (λ (q : ℕ). builtIn 255 (q + h)) ef ∙ mirror-built f h centre-small in
+        table-weighs one (omega (arith, inside, few)) (λ h l. built h l ∙ sym (table-built pl none f h)) (λ h l. rw (built h l) (built-in-low f h))
 
     -- a row of 256 numbers that are the table's: the file's own, or made weight by weight
     pub row-weighs : {row : List ℕ} → z .kind ≡ 1 → TableRow (frameOf b) (z .guides) f row → RowWeighs (frameOf b) s t row
-    row-weighs one r = table-weighs one (omega (arith, r .long, few)) (λ h l. r .is h (rw (facts pl .guides) l))
+    row-weighs one r =
+        table-weighs one (omega (arith, r .long, few)) (λ h l. r .is h (rw (facts pl .guides) l)) (λ h l. r .low h (rw (facts pl .guides) l))
 
 -- ---- lists that are made number by number: after k turns the first k are there
 pub record Made (F : ℕ → ℕ) (k : ℕ) (xs ys : List ℕ) : Type 0 where
@@ -145,6 +149,10 @@ module _ {b : List ℕ} {z : Plan} (pl : Planned b z) {f : ℕ} (hf : f < z .gui
       let last = weight-place pl own f (z .guides - 1) hf (omega arith) in
       omega (arith, last .1, row-place (z .guides - 1))
 
-  pub row-exchanged : {k : ℕ} {row : List ℕ} → z .guides ≤ k → Exchanging b (z .table + 2 * (f * z .guides)) (z .guides) k row →
+  pub row-exchanged : {k : ℕ} {row : List ℕ} → AllBytes b → z .guides ≤ k → Exchanging b (z .table + 2 * (f * z .guides)) (z .guides) k row →
       TableRow (frameOf b) (z .guides) f row
-  row-exchanged h r = record { long = r .long; is = λ g l. r .done g (omega arith) ∙ ap (be16 b) (row-place g) ∙ sym (table-own pl own f g) }
+  row-exchanged bytes h r = record {
+    long = r .long;
+    is = λ g l. r .done g (omega arith) ∙ ap (be16 b) (row-place g) ∙ sym (table-own pl own f g);
+    low = λ g l. rw (r .done g (omega arith)) (be16-low b bytes _);
+  }

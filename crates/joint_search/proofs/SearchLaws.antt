@@ -27,7 +27,8 @@ use Rattle.joint_pixel.specs.Store.{cellAt, countIn}
 use Rattle.joint_pixel.proofs.BitLaws.{lt-or-le}
 use Rattle.joint_pixel.proofs.RepLaws.{count-in, count-out}
 use Rattle.joint_cells.specs.Scan.{Marked, RowFits, cellSum, cellDot}
-use Rattle.joint_cells.specs.Box.{BoxInBounds, CountsAdded, boxPart, boxDot, boxSize}
+use Rattle.joint_cells.specs.Box.{BoxInBounds, CountsAdded, boxSize}
+use Rattle.joint_box.specs.Products.{boxPart, boxDot}
 use Rattle.joint_search.specs.declared.Sizes.{Sizes}
 use Rattle.joint_search.specs.Levels.{balanceOf}
 use Rattle.joint_search.specs.Search.{levelWeightIn, balanceIn, totalIn, boxIn, pixelsIn, Searchable}

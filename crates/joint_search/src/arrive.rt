@@ -2,7 +2,7 @@
 use crate::Sizes;
 use crate::find;
 use crate::find::SearchEnd;
-use joint_cells::box_dot::box_dot;
+use joint_box::box_dot;
 use joint_cells::level::level_weight;
 use spec::Level;
 ghost use mathlib.Core.Path.{_≡_};
@@ -37,13 +37,9 @@ pub fn from_cut(
         × (now («balance_box» .exit) ≡ boxIn sizes (now (counts .entry)) (r .level .0)) ⌝ }
 {
     if bal < 0 {
-        let high = find::climb(sizes, row, cut, bal, shifts, counts, words);
-        find::raise_to(sizes, cut, high.level, balance_box, counts, words);
-        return high;
+        return find::climb(sizes, row, cut, bal, shifts, balance_box, counts, words);
     }
-    let low = find::descend(sizes, row, cut, bal, shifts, counts, words);
-    find::lower_to(sizes, cut, low.level, balance_box, counts, words);
-    low
+    find::descend(sizes, row, cut, bal, shifts, balance_box, counts, words)
 }
 
 // Whether no level weighs anything.

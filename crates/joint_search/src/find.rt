@@ -1,7 +1,8 @@
-// Levels looked through one by one, a shift counted for each; and the box's cut point moved after them. The looking only reads, so that no box is
-// moved to a level where the search does not rest.
+// Levels looked through one by one, a shift counted for each, and the box's cut point moved along with the search: a level's counts are at hand then.
+// And the cut point moved to a level that is known.
 use crate::Sizes;
 use joint_cells::level::level_weight;
+use joint_cells::raise::raise_level;
 use joint_cells::shift::shift_level;
 use spec::Level;
 ghost use mathlib.Core.Path.{_≡_};
@@ -25,19 +26,22 @@ pub fn step_balance(x: i32, by: i32, y: i32) -> i32
     x + by * y
 }
 
-// The first level from the given one on whose balance is not negative; bal is the balance at the given one.
+// Up to the first level from the given one on whose balance is not negative; bal is the balance at the given one.
 pub fn climb(
     sizes: Sizes,
     row: &[u16],
     from: Level,
     bal: i32,
     shifts: u64,
+    balance_box: &mut [i16; 256],
     counts: &[u16],
     words: &[u64],
 ) -> SearchEnd
     requires { ⌜ (Searchable sizes (now counts) (now words)) × (RowFits (sizes .guides) (now row)) ⌝ }
-    requires { ⌜ (from .0 < sizes .levels) × (bal ≡ balanceIn sizes (now counts) (now row) (from .0)) × (shifts < 1099511627776) ⌝ }
-    ensures { λ r. ⌜ Climbed (balanceIn sizes (now (counts .entry)) (now (row .entry))) (sizes .levels) (from .0) (r .level .0) shifts (r .shifts) ⌝ }
+    requires { ⌜ (from .0 < sizes .levels) × (bal ≡ balanceIn sizes (now counts) (now row) (from .0)) × (shifts < 1099511627776)
+        × (now «balance_box» ≡ boxIn sizes (now counts) (from .0)) ⌝ }
+    ensures { λ r. ⌜ (Climbed (balanceIn sizes (now (counts .entry)) (now (row .entry))) (sizes .levels) (from .0) (r .level .0) shifts (r .shifts))
+        × (now («balance_box» .exit) ≡ boxIn sizes (now (counts .entry)) (r .level .0)) ⌝ }
 {
     let mut i = from.0;
     let mut b = bal;
@@ -48,7 +52,7 @@ pub fn climb(
         b = step_balance(
             b,
             2,
-            level_weight(row, Level(i), sizes.guides, counts, words),
+            raise_level(row, Level(i), sizes.guides, balance_box, counts, words),
         );
     }
     SearchEnd {
@@ -64,29 +68,33 @@ pub fn descend(
     from: Level,
     bal: i32,
     shifts: u64,
+    balance_box: &mut [i16; 256],
     counts: &[u16],
     words: &[u64],
 ) -> SearchEnd
     requires { ⌜ (Searchable sizes (now counts) (now words)) × (RowFits (sizes .guides) (now row)) ⌝ }
     requires { ⌜ (from .0 < sizes .levels) × (bal ≡ balanceIn sizes (now counts) (now row) (from .0)) × (shifts < 1099511627776)
-        × (pos 0 ≤ℤ bal) ⌝ }
-    ensures { λ r. ⌜ Descended (balanceIn sizes (now (counts .entry)) (now (row .entry))) (from .0) (r .level .0) shifts (r .shifts) ⌝ }
+        × (pos 0 ≤ℤ bal) × (now «balance_box» ≡ boxIn sizes (now counts) (from .0)) ⌝ }
+    ensures { λ r. ⌜ (Descended (balanceIn sizes (now (counts .entry)) (now (row .entry))) (from .0) (r .level .0) shifts (r .shifts))
+        × (now («balance_box» .exit) ≡ boxIn sizes (now (counts .entry)) (r .level .0)) ⌝ }
 {
     let mut i = from.0;
     let mut b = bal;
     let mut counted = shifts;
     while 0 < i {
+        let here = Level(i);
         let lower = step_balance(
             b,
             -2,
-            level_weight(row, Level(i), sizes.guides, counts, words),
+            level_weight(row, here, sizes.guides, counts, words),
         );
         if lower < 0 {
             return SearchEnd {
-                level: Level(i),
+                level: here,
                 shifts: counted,
             };
         }
+        shift_level(here, sizes.guides, -2, balance_box, counts, words);
         b = lower;
         i -= 1;
         counted += 1;

@@ -35,7 +35,7 @@ window-balance-requires c κs =
       planned = at .pre .0;
       column = at .pre .2;
       row = at .pre .3;
-      weighs = ramp-weighs (at .pre .0) (at .pre .1) (r .ramp .ensures) (known .0) (known .1)
+      weighs = ramp-weighs (at .pre .0) (at .pre .1) (at .pre .2) (at .pre .3) (r .ramp .ensures) (known .0) (known .1)
           (read-bounded w64 235497855 (known .1 .slope) tt) (read-bounded w64 180155859075 (known .1 .offset) tt);
     }
 

@@ -1,7 +1,7 @@
 -- `table_row` meets its contract: after k turns the row has k weights. Assumes nothing.
 use native.Mathlib.Omega.{arith}
 use borrow.Author.Needs.{needs}
-use Prim.Native.Nat.{_-_, _≤_}
+use Prim.Native.Nat.{ℕ, _-_, _≤_, _<_}
 use Rattle.spec.specs.Frame.{frameOf}
 use Rattle.window.proofs.PixelLaws.{guides-high}
 use Rattle.joint_rows.specs.Rows.{TableRow}
@@ -55,13 +55,15 @@ loop-again c =
     let at = start (t .before) in (
       omega (arith, t .loop-test .taken),
       row-next (omega (arith, t .loop-test .taken, guides-high (at .pre .0))) (t .before .loop .inv .1)
-          (c .weight-at .ensures),
+          (c .weight-at .ensures .0) (c .weight-at .ensures .1),
     )
 
 returns : tie.Need-returns Inv-loop μ-loop
 returns c =
     let h = c .before in
-    record { long = h .loop .inv .1 .long; is = λ g l. h .loop .inv .1 .is g (omega (arith, h .loop .inv .0, c .loop-test .left)) }
+    let row = h .loop .inv .1 in
+    let all : (g : ℕ) → g < start h .args .plan .guides → g < h .loop .k = λ g l. omega (arith, h .loop .inv .0, c .loop-test .left) in
+    record { long = row .long; is = λ g l. row .is g (all g l); low = λ g l. row .low g (all g l) }
 
 pub table-row-spec : {M : Type 1} → statement M
 table-row-spec =

@@ -4,11 +4,11 @@ use mathlib.Core.List.{List, [], _∷_}
 use mir.Syntax.{w32}
 use Rattle.ints.specs.Machine.{Cell, paramCell}
 use Rattle.ints.specs.Auto.{quote, signedCode, need!, computes! }
-use Rattle.joint_cells.proofs.box_dot.add.Statement.{statement}
-use Rattle.joint_cells.proofs.box_dot.add.Tie as tie
+use Rattle.joint_box.proofs.add.Statement.{statement}
+use Rattle.joint_box.proofs.add.Tie as tie
 
 abbrev env : tie.Start → List Cell
-env c = paramCell w32 (c .args .a) 62979135 (c .pre .0) tt ∷ paramCell w32 (c .args .b) 62979135 (c .pre .1) tt ∷ []
+env c = paramCell w32 (c .args .a) 31490048 (c .pre .0) tt ∷ paramCell w32 (c .args .b) 31490048 (c .pre .1) tt ∷ []
 
 add-result : tie.Need-add-result
 add-result c = need! w32 (env c) (search signedCode depth 12) tt

@@ -1,18 +1,20 @@
 -- `box_dot` meets its contract: 32 cells a turn, then the rest. Assumes nothing.
-use mathlib.Core.Path.{_≡_, ap, sym, _∙_}
-use native.Mathlib.Nat.{zero-add}
+use mathlib.Core.Path.{_≡_, ap, ap₂, sym, _∙_}
+use native.Mathlib.Nat.{zero-add, le-refl}
 use native.Mathlib.Omega.{arith}
 use Prim.Native.Nat.{ℕ, _+_, _-_, _≤_}
-use lib.IntN.{ℤ}
-use mir.Syntax.{w32}
-use mir.Val.{toZ}
-use Rattle.joint_cells.specs.Box.{PartFits, boxPart, boxDot}
-use Rattle.joint_cells.proofs.BoxLaws.{part-none, part-of, part-within, more-asks, more}
-use Rattle.joint_cells.proofs.box_dot.box_dot.Statement.{statement}
-use Rattle.joint_cells.proofs.box_dot.box_dot.Tie as tie
+use lib.IntN.{ℤ, pos, natAbs, _+ℤ_, _*ℤ_}
+use mir.Syntax.{w16, w32}
+use mir.Val.{toZ, ofZ}
+use mir.Facts.{toZ-ofZ}
+use Rattle.ints.specs.Machine.{read-bounded}
+use Rattle.joint_box.specs.Products.{PartFits, boxSum, centredPart}
+use Rattle.joint_box.proofs.BoxLaws.{part-none, part-of, part-within, part-low, sum-low, more-asks, more, dot-centred}
+use Rattle.joint_box.proofs.box_dot.Statement.{statement}
+use Rattle.joint_box.proofs.box_dot.Tie as tie
 
 abbrev Inv-loop : tie.InvT-loop
-Inv-loop balance-box row m dot₀ f₀ dot f = (f ≤ m) × (toZ w32 dot ≡ boxDot balance-box row f)
+Inv-loop balance-box row m dot₀ f₀ dot f = (f ≤ m) × (toZ w32 dot ≡ centredPart balance-box row 0 f)
 
 abbrev μ-loop : tie.MeasureT-loop
 μ-loop balance-box row m dot₀ f₀ dot f = m - f
@@ -31,9 +33,9 @@ next : (h : tie.At-loop Inv-loop μ-loop) (n : ℕ) → h .loop .f + n ≤ start
 next h n l = let at = start h in part-within (part-of (at .pre .0) (at .pre .1) (at .pre .2)) (omega arith) (omega (arith, zero-add (at .args .m), l))
 
 -- their sum, as the part after those before it
-after : (h : tie.At-loop Inv-loop μ-loop) (n : ℕ) {q : ℤ} → q ≡ boxPart (start h .args .balance-box .now) (start h .args .row .now) (h .loop .f) n →
-    q ≡ boxPart (start h .args .balance-box .now) (start h .args .row .now) (0 + h .loop .f) n
-after h n e = e ∙ ap (λ (j : ℕ). boxPart (start h .args .balance-box .now) (start h .args .row .now) j n) (sym (zero-add (h .loop .f)))
+after : (h : tie.At-loop Inv-loop μ-loop) (n : ℕ) {q : ℤ} → q ≡ centredPart (start h .args .balance-box .now) (start h .args .row .now) (h .loop .f) n →
+    q ≡ centredPart (start h .args .balance-box .now) (start h .args .row .now) (0 + h .loop .f) n
+after h n e = e ∙ ap (λ (j : ℕ). centredPart (start h .args .balance-box .now) (start h .args .row .now) j n) (sym (zero-add (h .loop .f)))
 
 loop-holds : tie.Need-loop-holds Inv-loop μ-loop
 loop-holds c = (omega arith, sym (part-none _ _ _))
@@ -82,13 +84,45 @@ add-requires-2 c κs =
     let n = start h .args .m - h .loop .f in
     more-asks (h .loop .f) n (h .loop .dot) (first h (h .loop .f + n) (omega (arith, rest h))) (h .loop .inv .1) (after h n (c .part2 .ensures))
 
+-- all m of them
+abbrev head : tie.After-add2 Inv-loop μ-loop → tie.At-loop Inv-loop μ-loop
+head a = a .before .before .before
+
+whole : (a : tie.After-add2 Inv-loop μ-loop) → let at = start (head a) in
+    toZ w32 (ofZ w32 (a .add2 .result)) ≡ centredPart (at .args .balance-box .now) (at .args .row .now) 0 (at .args .m)
+whole a =
+    let h = head a in
+    let n = start h .args .m - h .loop .f in
+    more (h .loop .f) n (h .loop .dot) (first h (h .loop .f + n) (omega (arith, rest h))) (h .loop .inv .1) (after h n (a .before .part2 .ensures))
+    (a .add2 .ok) (a .add2 .ensures) ∙ ap (centredPart (start h .args .balance-box .now) (start h .args .row .now) 0) (rest h)
+
+sum-cells-requires : tie.Need-sum-cells-requires Inv-loop μ-loop
+sum-cells-requires c κs = let at = start (head c) in (at .pre .0, at .pre .2)
+
+-- their sum, as it comes back
+cells : (d : tie.After-sum-cells Inv-loop μ-loop) → let at = start (head (d .before)) in
+    (toZ w16 (ofZ w16 (d .sum-cells .result)) ≡ boxSum (at .args .balance-box .now) (at .args .m)) ×
+    (natAbs (boxSum (at .args .balance-box .now) (at .args .m)) ≤ 961)
+cells d =
+    let at = start (head (d .before)) in
+    let low = sum-low (at .pre .2) (at .args .m) (at .pre .0) in
+    (ap (λ (q : ℤ). toZ w16 (ofZ w16 q)) (d .sum-cells .ensures) ∙ read-bounded w16 961 low tt, low)
+
+restored-requires : tie.Need-restored-requires Inv-loop μ-loop
+restored-requires c κs =
+    let a = c .before in
+    let h = head a in (
+      rw (whole a) (part-low (first h (start h .args .m) (le-refl (start h .args .m)))),
+      rw (cells c .0) (cells c .1),
+    )
+
 returns : tie.Need-returns Inv-loop μ-loop
 returns c =
-    let p = c .before in
-    let h = p .before .before in
-    let n = start h .args .m - h .loop .f in
-    more (h .loop .f) n (h .loop .dot) (first h (h .loop .f + n) (omega (arith, rest h))) (h .loop .inv .1) (after h n (p .part2 .ensures))
-    (c .add2 .ok) (c .add2 .ensures) ∙ ap (boxDot (start h .args .balance-box .now) (start h .args .row .now)) (rest h)
+    let d = c .before in
+    let a = d .before in
+    let at = start (head a) in
+    toZ-ofZ (record { sfits = c .restored .ok }) ∙ c .restored .ensures ∙ ap₂ (λ (x y : ℤ). x +ℤ pos 32768 *ℤ y) (whole a) (cells d .0)
+    ∙ sym (dot-centred (at .args .balance-box .now) (at .args .row .now) (at .args .m))
 
 pub box-dot-spec : {M : Type 1} → statement M
 box-dot-spec =
@@ -106,4 +140,6 @@ box-dot-spec =
     sub-part
     part-requires-2
     add-requires-2
+    sum-cells-requires
+    restored-requires
     returns)

@@ -82,7 +82,8 @@ returns : tie.Need-returns Inv-loop μ-loop
 returns c =
     let h = c .before in
     let at = begin h in
-    row-exchanged (at .pre .0) (at .pre .1) (at .pre .2) (omega (arith, c .loop-test .left)) (h .loop .inv .1)
+    row-exchanged (at .pre .0) (at .pre .1) (at .pre .2) (λ i. omega (arith, h .before .before .before .before .before .shared-slice-known .given i))
+    (omega (arith, c .loop-test .left)) (h .loop .inv .1)
 
 pub own-row-spec : {M : Type 1} → statement M
 own-row-spec =

@@ -1,6 +1,9 @@
 -- `joint_rows::table::weight_at` meets its contract. Assumes nothing.
 use native.Mathlib.Omega.{arith}
-use mathlib.Core.Path.{_∙_, sym}
+use mathlib.Core.Path.{_∙_, sym, subst}
+use Prim.Native.Nat.{ℕ, _≤_}
+use Rattle.spec.specs.Frame.{heaviest}
+use Rattle.spec.proofs.Limits.{built-in-low}
 use Rattle.spec.proofs.Plans.{table-own, table-built}
 use Rattle.frame_weights.proofs.Weights.{built-entry}
 use Rattle.joint_rows.proofs.TableLaws.{apart-low, weight-place}
@@ -28,8 +31,8 @@ returns : tie.Need-returns
 returns c =
     let e = c .before in
     let h = start (e .before) .pre in
-    built-entry _ _ _ (h .0) (apart-low (h .1) (h .2) (h .3) (e .apart .ensures)) (e .apart .ensures) ∙ sym
-    (table-built (h .1) (e .before .if1 .taken) _ _)
+    let is = built-entry _ _ _ (h .0) (apart-low (h .1) (h .2) (h .3) (e .apart .ensures)) (e .apart .ensures) in
+    (is ∙ sym (table-built (h .1) (e .before .if1 .taken) _ _), subst (λ (n : ℕ). n ≤ heaviest) (sym is) (built-in-low _ _))
 
 cast-k : tie.Need-cast-k
 cast-k c = search needs
@@ -83,9 +86,9 @@ be16-requires c κs = let h =
     )
 
 returns-2 : tie.Need-returns-2
-returns-2 c = let h =
-    c .before .before .before .before .before .before .before .before .pre in c .be16 .ensures ∙ sym
-    (table-own (h .1) (c .before .before .before .before .before .if1 .left) _ _)
+returns-2 c =
+    let h = c .before .before .before .before .before .before .before .before .pre in
+    (c .be16 .ensures ∙ sym (table-own (h .1) (c .before .before .before .before .before .if1 .left) _ _), omega (arith, c .be16 .ok))
 
 pub weight-at-spec : {M : Type 1} → statement M
 weight-at-spec =

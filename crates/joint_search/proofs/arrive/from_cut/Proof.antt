@@ -1,5 +1,4 @@
 -- `from_cut` meets its contract: the balance at the cut point says on which side the answer is. Assumes nothing.
-use borrow.Author.Needs.{needs}
 use mathlib.Core.Path.{_≡_, refl, sym, subst}
 use native.Mathlib.Omega.{arith}
 use Prim.Native.Nat.{ℕ, _<_}
@@ -38,41 +37,33 @@ enough c = let not-less = lt-false (here (c .before .before .before .before)) re
 
 climb-requires : tie.Need-climb-requires
 climb-requires c κs =
-    let at = c .before .before .before .before in
+    let at = c .before .before .before .before .before in
     let p = at .pre .1 .0 in
-    ((at .pre .0 .0, at .pre .0 .1), (p .0, here at, p .2))
-
-raise-to-requires : tie.Need-raise-to-requires
-raise-to-requires c κs = search needs
+    ((at .pre .0 .0, at .pre .0 .1), (p .0, here at, p .2, at .pre .1 .1))
 
 returns : tie.Need-returns
 returns c =
     let k = c .before .before in
-    let at = k .before .before .before .before .before in
-    (climbed-median (low at) (below (k .before)) (k .climb .ensures), climbed-shifts (k .climb .ensures), c .raise-to .ensures)
+    let at = k .before .before .before .before in
+    (climbed-median (low at) (below k) (c .climb .ensures .0), climbed-shifts (c .climb .ensures .0), c .climb .ensures .1)
 
 descend-requires : tie.Need-descend-requires
 descend-requires c κs =
-    let at = c .before .before .before .before in
+    let k = c .before in
+    let at = k .before .before .before .before in
     let p = at .pre .1 .0 in
-    ((at .pre .0 .0, at .pre .0 .1), (p .0, here at, p .2, subst (λ (x : ℤ). pos 0 ≤ℤ x) (sym (here at)) (enough c)))
-
-lower-to-requires : tie.Need-lower-to-requires
-lower-to-requires c κs = search needs
+    ((at .pre .0 .0, at .pre .0 .1), (p .0, here at, p .2, subst (λ (x : ℤ). pos 0 ≤ℤ x) (sym (here at)) (enough k), at .pre .1 .1))
 
 returns-2 : tie.Need-returns-2
 returns-2 c =
-    let k = c .before .before in
-    let at = k .before .before .before .before .before in
-    (descended-median (low at) (at .pre .1 .0 .0) (k .descend .ensures), descended-shifts (k .descend .ensures), c .lower-to .ensures)
+    let at = c .before .before .before .before .before .before in
+    (descended-median (low at) (at .pre .1 .0 .0) (c .descend .ensures .0), descended-shifts (c .descend .ensures .0), c .descend .ensures .1)
 
 pub from-cut-spec : {M : Type 1} → statement M
 from-cut-spec =
     tie.close
     (tie.spec
     climb-requires
-    raise-to-requires
     returns
     descend-requires
-    lower-to-requires
     returns-2)

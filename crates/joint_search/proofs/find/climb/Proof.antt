@@ -1,4 +1,4 @@
--- `climb` meets its contract: every level from the first up to i has failed, and each counted one shift. Assumes nothing.
+-- `climb` meets its contract: every level from the first up to i has failed, each counted one shift, and the box is that of i. Assumes nothing.
 use mathlib.Core.Path.{_≡_, refl, sym, subst}
 use mathlib.Core.Logic.{⊎-elim}
 use native.Mathlib.Omega.{arith}
@@ -10,18 +10,18 @@ use mir.Val.{toZ}
 use Rattle.ints.specs.Linear.{ints}
 use Rattle.ints.specs.Machine.{lt-true, lt-false}
 use Rattle.joint_pixel.proofs.BitLaws.{lt-or-le}
-use Rattle.joint_search.specs.Search.{balanceIn}
-use Rattle.joint_search.proofs.SearchLaws.{level-asks, balance-back, room, step-asks, step-up}
+use Rattle.joint_search.specs.Search.{balanceIn, boxIn}
+use Rattle.joint_search.proofs.SearchLaws.{balance-back, room, step-asks, step-up, box-bounds, raised}
 use Rattle.joint_search.proofs.find.climb.Statement.{statement}
 use Rattle.joint_search.proofs.find.climb.Tie as tie
 
 abbrev Inv-loop : tie.InvT-loop
-Inv-loop sizes row bal shifts counts words i₀ b₀ n₀ i b n =
+Inv-loop sizes row bal shifts cells₀ counts words i₀ b₀ n₀ cells i b n =
     (i₀ ≤ i) × (i < sizes .levels) × (toZ w32 b ≡ balanceIn sizes counts row i) × ((j : ℕ) → i₀ ≤ j → j < i →
-    balanceIn sizes counts row j <ℤ pos 0) × (n + i₀ ≡ n₀ + i)
+    balanceIn sizes counts row j <ℤ pos 0) × (n + i₀ ≡ n₀ + i) × (cells ≡ boxIn sizes counts i)
 
 abbrev μ-loop : tie.MeasureT-loop
-μ-loop sizes row bal shifts counts words i₀ b₀ n₀ i b n = sizes .levels - i
+μ-loop sizes row bal shifts cells₀ counts words i₀ b₀ n₀ cells i b n = sizes .levels - i
 
 abbrev start : tie.At-loop Inv-loop μ-loop → tie.Start Inv-loop μ-loop
 start h = h .before .before .before .before
@@ -46,6 +46,7 @@ loop-holds c =
       λ
           j u v. absurd (omega arith),
       refl,
+      at .pre .1 .3,
     )
 
 add-i : tie.Need-add-i Inv-loop μ-loop
@@ -57,31 +58,39 @@ add-n c =
     let at = start h in
     omega (arith, at .pre .0 .0 .levels, h .loop .inv .1, h .loop .inv .4, at .pre .1 .2)
 
-level-weight-requires : tie.Need-level-weight-requires Inv-loop μ-loop
-level-weight-requires c κs = let at = start (c .before) in level-asks (at .pre .0 .0) (at .pre .0 .1) (c .before .loop .i + 1) (next c)
+raise-level-requires : tie.Need-raise-level-requires Inv-loop μ-loop
+raise-level-requires c κs =
+    let t = c .before in
+    let h = t .before in
+    let p = start h .pre .0 in
+    (p .0 .marked (h .loop .i + 1) (next t), p .1, box-bounds (p .0) (h .loop .i) _ (h .loop .inv .1) (h .loop .inv .5))
 
 step-balance-requires : tie.Need-step-balance-requires Inv-loop μ-loop
 step-balance-requires c κs =
-    let h = c .before .before in
+    let t = c .before .before in
+    let h = t .before in
     let at = start h in
-    step-asks (at .pre .0 .0) (at .pre .0 .1) (h .loop .i) (h .loop .i + 1) (toZ w32 (h .loop .b)) (c .level-weight .result) (pos 2)
-    (h .loop .inv .1) (next (c .before)) (h .loop .inv .2) (c .level-weight .ensures) (omega arith)
+    step-asks (at .pre .0 .0) (at .pre .0 .1) (h .loop .i) (h .loop .i + 1) (toZ w32 (h .loop .b)) (c .raise-level .result) (pos 2)
+    (h .loop .inv .1) (next t) (h .loop .inv .2) (c .raise-level .ensures .0) (omega arith)
 
 loop-less : tie.Need-loop-less Inv-loop μ-loop
-loop-less c = omega (arith, c .before .before .before .loop .inv .1)
+loop-less c = omega (arith, c .before .before .before .before .loop .inv .1)
 
 loop-again : tie.Need-loop-again Inv-loop μ-loop
 loop-again c =
     let e = c .before in
-    let h = e .before .before in
+    let t = e .before .before in
+    let h = t .before in
     let at = start h in (
       omega (arith, h .loop .inv .0),
-      next (e .before),
-      step-up (at .pre .0 .0) (at .pre .0 .1) (h .loop .i) (toZ w32 (h .loop .b)) (e .level-weight .result) (c .step-balance .result)
-          (next (e .before)) (h .loop .inv .2) (e .level-weight .ensures) (c .step-balance .ok) (c .step-balance .ensures),
+      next t,
+      step-up (at .pre .0 .0) (at .pre .0 .1) (h .loop .i) (toZ w32 (h .loop .b)) (e .raise-level .result) (c .step-balance .result)
+          (next t) (h .loop .inv .2) (e .raise-level .ensures .0) (c .step-balance .ok) (c .step-balance .ensures),
       λ j u v. ⊎-elim (λ x. h .loop .inv .3 j u x) (λ x. let d : j ≡ h .loop .i =
-          omega arith in subst (λ (q : ℕ). bal at q <ℤ pos 0) (sym d) (below (e .before))) (lt-or-le j (h .loop .i)),
+          omega arith in subst (λ (q : ℕ). bal at q <ℤ pos 0) (sym d) (below t)) (lt-or-le j (h .loop .i)),
       omega (arith, h .loop .inv .4),
+      raised (at .args .sizes) (at .args .counts .now) (h .loop .i) _ _ (h .loop .balance-box) _ (h .loop .inv .5) (e .raise-level .ensures .1)
+          (omega arith) refl,
     )
 
 -- the level where the loop ends reaches half
@@ -91,7 +100,7 @@ reached c = let enough = lt-false (c .before .loop .inv .2) refl (c .loop-test .
 returns : tie.Need-returns Inv-loop μ-loop
 returns c =
     let v = c .before .loop .inv in
-    record { level = v .1; from = v .0; here = reached c; before = v .3; shifts = v .4 }
+    (record { level = v .1; from = v .0; here = reached c; before = v .3; shifts = v .4 }, v .5)
 
 pub climb-spec : {M : Type 1} → statement M
 climb-spec =
@@ -102,7 +111,7 @@ climb-spec =
     loop-holds
     add-i
     add-n
-    level-weight-requires
+    raise-level-requires
     step-balance-requires
     loop-less
     loop-again

@@ -1,5 +1,5 @@
--- `descend` meets its contract: down to level i no balance is negative, and each level passed counted one shift. Assumes nothing.
-use mathlib.Core.Path.{_≡_, refl, subst}
+-- `descend` meets its contract: down to level i no balance is negative, each level passed counted one shift, and the box is that of i. Assumes nothing.
+use mathlib.Core.Path.{_≡_, refl, sym, ap, _∙_, subst}
 use native.Mathlib.Omega.{arith}
 use Prim.Native.Nat.{ℕ, _+_, _-_, _≤_, _<_}
 use lib.IntN.{ℤ, pos, negsuc}
@@ -8,17 +8,18 @@ use mir.Syntax.{w32}
 use mir.Val.{toZ, ofZ}
 use Rattle.ints.specs.Linear.{ints}
 use Rattle.ints.specs.Machine.{lt-true, lt-false}
-use Rattle.joint_search.specs.Search.{balanceIn}
-use Rattle.joint_search.proofs.SearchLaws.{level-asks, balance-back, step-asks, step-down}
+use Rattle.joint_search.specs.Search.{balanceIn, boxIn}
+use Rattle.joint_search.proofs.SearchLaws.{level-asks, balance-back, step-asks, step-down, box-bounds, lowered}
 use Rattle.joint_search.proofs.find.descend.Statement.{statement}
 use Rattle.joint_search.proofs.find.descend.Tie as tie
 
 abbrev Inv-loop : tie.InvT-loop
-Inv-loop sizes row bal shifts counts words i₀ b₀ n₀ i b n =
+Inv-loop sizes row bal shifts cells₀ counts words i₀ b₀ n₀ cells i b n =
     (i ≤ i₀) × (toZ w32 b ≡ balanceIn sizes counts row i) × (pos 0 ≤ℤ balanceIn sizes counts row i) × (n + i ≡ n₀ + i₀)
+    × (cells ≡ boxIn sizes counts i)
 
 abbrev μ-loop : tie.MeasureT-loop
-μ-loop sizes row bal shifts counts words i₀ b₀ n₀ i b n = i
+μ-loop sizes row bal shifts cells₀ counts words i₀ b₀ n₀ cells i b n = i
 
 abbrev start : tie.At-loop Inv-loop μ-loop → tie.Start Inv-loop μ-loop
 start h = h .before .before .before .before
@@ -48,6 +49,7 @@ loop-holds c =
       subst
           (λ (q : ℤ). pos 0 ≤ℤ q) (at .pre .1 .1) (at .pre .1 .3),
       refl,
+      at .pre .1 .4,
     )
 
 level-weight-requires : tie.Need-level-weight-requires Inv-loop μ-loop
@@ -66,25 +68,34 @@ short c = let less = lt-true (lower (c .before)) refl (c .if1 .taken) in omega (
 
 returns : tie.Need-returns Inv-loop μ-loop
 returns c =
-    let h = c .before .before .before .before in
-    record {
-      upto = h .loop .inv .0;
-      here = h .loop .inv .2;
-      below = λ j e. let d : h .loop .i - 1 ≡ j = omega arith in subst (λ (q : ℕ). bal (start h) q <ℤ pos 0) d (short c);
-      shifts = h .loop .inv .3;
-    }
+    let h = c .before .before .before .before in (
+      record {
+        upto = h .loop .inv .0;
+        here = h .loop .inv .2;
+        below = λ j e. let d : h .loop .i - 1 ≡ j = omega arith in subst (λ (q : ℕ). bal (start h) q <ℤ pos 0) d (short c);
+        shifts = h .loop .inv .3;
+      },
+      h .loop .inv .4,
+    )
+
+shift-level-requires : tie.Need-shift-level-requires Inv-loop μ-loop
+shift-level-requires c κs =
+    let t = c .before .before .before .before in
+    let h = t .before in
+    let q = start h .pre .0 .0 in
+    (q .marked (h .loop .i) (inside t), (omega arith, box-bounds q (h .loop .i) _ (inside t) (h .loop .inv .4)))
 
 sub-i : tie.Need-sub-i Inv-loop μ-loop
-sub-i c = omega (arith, c .before .before .before .loop-test .taken)
+sub-i c = omega (arith, c .before .before .before .before .before .loop-test .taken)
 
 add-counted : tie.Need-add-counted Inv-loop μ-loop
 add-counted c =
-    let h = c .before .before .before .before in
+    let h = c .before .before .before .before .before .before in
     let at = start h in
     omega (arith, at .pre .0 .0 .levels, at .pre .1 .0, at .pre .1 .2, h .loop .inv .3)
 
 loop-less : tie.Need-loop-less Inv-loop μ-loop
-loop-less c = omega (arith, c .before .before .before .loop-test .taken)
+loop-less c = omega (arith, c .before .before .before .before .before .loop-test .taken)
 
 -- the balance below is not negative
 enough : (c : tie.Else1 Inv-loop μ-loop) → let h = c .before .before .before .before in pos 0 ≤ℤ bal (start h) (h .loop .i - 1)
@@ -92,21 +103,33 @@ enough c = let not-less = lt-false (lower (c .before)) refl (c .if1 .left) in om
 
 loop-again : tie.Need-loop-again Inv-loop μ-loop
 loop-again c =
-    let v = c .before in
-    let h = v .before .before .before in
-    (omega (arith, h .loop .inv .0), lower v, enough c, omega (arith, h .loop .inv .3, v .before .before .loop-test .taken))
+    let k = c .before .before in
+    let v = k .before in
+    let t = v .before .before in
+    let h = t .before in
+    let at = start h in
+    let d : h .loop .i - 1 + 1 ≡ h .loop .i = omega (arith, t .loop-test .taken) in (
+      omega (arith, h .loop .inv .0),
+      lower v,
+      enough k,
+      omega (arith, h .loop .inv .3, t .loop-test .taken),
+      lowered (at .args .sizes) (at .args .counts .now) (h .loop .i - 1) _ _ _ _
+          (h .loop .inv .4 ∙ ap (boxIn (at .args .sizes) (at .args .counts .now)) (sym d)) (c .shift-level .ensures) (omega (arith, d)) refl,
+    )
 
 returns-2 : tie.Need-returns-2 Inv-loop μ-loop
 returns-2 c =
     let h = c .before in
     let at = start h in
-    let zero : h .loop .i ≡ 0 = omega (arith, c .loop-test .left) in
-    record {
-      upto = omega arith;
-      here = subst (λ (q : ℕ). pos 0 ≤ℤ bal at q) zero (h .loop .inv .2);
-      below = λ j e. absurd (omega arith);
-      shifts = omega (arith, h .loop .inv .3);
-    }
+    let zero : h .loop .i ≡ 0 = omega (arith, c .loop-test .left) in (
+      record {
+        upto = omega arith;
+        here = subst (λ (q : ℕ). pos 0 ≤ℤ bal at q) zero (h .loop .inv .2);
+        below = λ j e. absurd (omega arith);
+        shifts = omega (arith, h .loop .inv .3);
+      },
+      h .loop .inv .4 ∙ ap (boxIn (at .args .sizes) (at .args .counts .now)) zero,
+    )
 
 pub descend-spec : {M : Type 1} → statement M
 descend-spec =
@@ -118,6 +141,7 @@ descend-spec =
     level-weight-requires
     step-balance-requires
     returns
+    shift-level-requires
     sub-i
     add-counted
     loop-less
