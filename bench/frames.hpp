@@ -38,8 +38,17 @@ struct Frame : Settings {
         if (kind != TABLE) return;
         smoothing = 0;
         table.resize(size_t(guides) * guides);
+        weigh(256);
+    }
+    // Weights that fall with the difference of the guides from `most` on, rounded down to whole numbers.
+    void weigh(int most) {
         for (int a = 0; a < guides; a++)
-            for (int b = 0; b < guides; b++) table[size_t(a) * guides + b] = uint16_t(4096 / (16 + std::abs(a - b)));
+            for (int b = 0; b < guides; b++) table[size_t(a) * guides + b] = uint16_t(most * 16 / (16 + std::abs(a - b)));
+    }
+    // A table of the file's own, of the same form as the built-in one and as fine as weights of 16 bits can be.
+    void own_table() {
+        built_in = false;
+        weigh(65535);
     }
 
     size_t pixels() const { return size_t(width) * height; }

@@ -46,11 +46,10 @@ inline Goal slowest(const Rows &rows) {
 inline std::vector<Goal> goals_of(const Rows &rows) {
     std::vector<Goal> goals;
     for (bool noisy : {false, true})
-        goals.push_back({"OpenCV's time / library's, joint, kind 1," + place(noisy), Goal::AT_LEAST, noisy ? 1.6 : 2.0,
+        goals.push_back({"OpenCV's time / library's, joint, kind 1," + place(noisy), Goal::AT_LEAST, noisy ? 1.5 : 1.8,
                          mean(on(noisy, rows), opencv(), library(JOINT_TABLE))});
     goals.push_back(slowest(rows));
-    // A file's own table has no goal yet: its row is made anew at each pixel, which the C++ need not do.
-    for (int c : {JOINT_TABLE, JOINT_GUIDED, COLUMNS, CHAIN})
+    for (int c = 0; c < CONTESTS; c++)
         for (bool noisy : {false, true})
             goals.push_back({std::string("library's time / C++'s, ") + NAMES[c] + "," + place(noisy), Goal::AT_MOST, 1.15,
                              mean(on(noisy, rows), library(c), yardstick(c))});

@@ -16,7 +16,7 @@ static Frame frame_of(bool noisy, const Settings &k) { return noisy ? noise(k) :
 static Row measure(bool noisy, Settings k) {
     k.kind = TABLE;
     Frame table = frame_of(noisy, k), own = table;
-    own.built_in = false;
+    own.own_table();
     k.kind = GUIDED;
     Frame guided = frame_of(noisy, k);
     auto frame_for = [&](int c) -> const Frame & { return c == JOINT_TABLE ? table : c == JOINT_OWN ? own : guided; };
@@ -51,8 +51,9 @@ static void print_row(const Row &row) {
 
 static void print_head() {
     std::printf("\n## Nanoseconds a pixel (library, then C++)\n\n"
-                "OpenCV %s; best of %d turns, 256 guides, smoothing 64 in kind 2. Kind 1 with the built-in weights, and with the "
-                "same weights as a table of the file's own.\n\n| frame | size | r | L | OpenCV |",
+                "OpenCV %s; best of %d turns, 256 guides, smoothing 64 in kind 2. Kind 1 with the built-in weights, and with a "
+                "finer table of the file's own: 65,535 * 16 / (16 + d), rounded down, for guides that differ by d.\n\n"
+                "| frame | size | r | L | OpenCV |",
                 CV_VERSION, ROUNDS);
     for (const char *name : NAMES) std::printf(" %s | C++ |", name);
     std::printf(" OpenCV / library |\n|---|---|---|---|---|");

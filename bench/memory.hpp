@@ -30,7 +30,7 @@ inline size_t stack_touched(std::function<void()> run) {
 // What a call takes of the stack, less what a thread takes that does nothing.
 inline double call_stack(Contest contest, void (*call)(Library &)) {
     Frame frame = noise({64, 32, 1024, 256, kind_of(contest), 15, 64});
-    frame.built_in = contest != JOINT_OWN;
+    if (contest == JOINT_OWN) frame.own_table();
     Library library(contest, frame);
     return Library::LINKED ? double(stack_touched([&] { call(library); }) - stack_touched([] {})) : NOT_TIMED;
 }

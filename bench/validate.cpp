@@ -1,5 +1,5 @@
 // Holds the yardstick's three ways against its sorting filter on random frames and walks of both kinds:
-// answers, shift counts and stores. Prints how many windows were hollow, negative and not steady.
+// answers, shift counts and stores. Prints how many windows were hollow, negative, not steady and heavy.
 #include "yardstick.hpp"
 #include <cstdio>
 
@@ -7,7 +7,7 @@ using namespace bench;
 
 static long differences = 0;
 static struct {
-    long windows, hollow, negative, unsteady;
+    long windows, hollow, negative, unsteady, heavy;
 } met;
 
 static void expect(bool fact, const char *what, int frame) {
@@ -73,7 +73,23 @@ static void count_windows(const Frame &frame) {
             Answer answer = sorting.answer(column, row);
             met.windows++, met.hollow += answer.hollow, met.unsteady += !answer.steady;
             met.negative += std::any_of(sorting.pixels.begin(), sorting.pixels.end(), [](auto &p) { return p.weight < 0; });
+            met.heavy += frame.kind == TABLE &&
+                         std::any_of(sorting.pixels.begin(), sorting.pixels.end(), [](auto &p) { return p.weight > 32767; });
         }
+}
+
+// A table of small weights, of the built-in ones' size, of any, of the largest, or of those about 32,768; all
+// 0, mostly 0, or with rows of 0.
+static void random_table(Random &random, Frame &frame, int number) {
+    static const uint32_t SIZES[][2] = {{0, 9}, {0, 256}, {0, 65535}, {65534, 65535}, {32766, 32769}};
+    auto [least, most] = SIZES[random.below(5)];
+    int sort = number % 4;
+    bool empty_row = false;
+    for (size_t i = 0; i < frame.table.size(); i++) {
+        if (i % size_t(frame.guides) == 0) empty_row = sort == 2 && random.below(4) == 0;
+        bool none = sort == 0 || (sort == 1 && random.below(8)) || empty_row;
+        frame.table[i] = uint16_t(none ? 0 : least + random.below(most - least + 1));
+    }
 }
 
 static Frame random_frame(Random &random, int number) {
@@ -84,11 +100,10 @@ static Frame random_frame(Random &random, int number) {
     k.kind = random.below(2) ? TABLE : GUIDED;
     k.radius = int(random.below(number % 7 == 0 ? 16 : 5));
     k.smoothing = 1 + int(random.below(number % 2 ? 3 : 65025));
+    // Now and then a picture that holds a whole window of the largest radius.
+    if (number % 49 == 0) k.width = k.height = 33, k.radius = 15;
     Frame frame = noise(k, uint64_t(number) + 1);
-    if (k.kind == TABLE && number % 3) {
-        int sort = number % 4;
-        for (auto &weight : frame.table) weight = uint16_t(sort == 0 || (sort == 1 && random.below(8)) ? 0 : random.below(257));
-    }
+    if (k.kind == TABLE && number % 3) random_table(random, frame, number);
     // Lonely guides have windows with negative weights.
     if (number % 11 == 0)
         for (size_t p = 0; p < frame.pixels(); p++) frame.guide.set(p, random.below(6) ? 0 : uint32_t(k.guides - 1));
@@ -126,7 +141,7 @@ int main(int count, char **words) {
         validate<Chain>("chain", number, frame, column, row, moves);
     }
     std::printf("The C++ against a filter that sorts: %d frames, %ld windows (%ld hollow, %ld with a negative weight, "
-                "%ld not steady), %ld differences.\n",
-                frames, met.windows, met.hollow, met.negative, met.unsteady, differences);
+                "%ld not steady, %ld with a table's weight above 32,767), %ld differences.\n",
+                frames, met.windows, met.hollow, met.negative, met.unsteady, met.heavy, differences);
     return differences != 0;
 }

@@ -50,7 +50,7 @@ def row(values, guide, levels, guides, kind, radius, smoothing, table=()):
 
 
 def bench_cases():
-    """Document 01's bench windows A to H, walks over them from the other end, and two windows more."""
+    """Document 01's bench windows A to H, walks over them from the other end, and three windows more."""
     a = row([5, 1, 3], [0, 0, 2], 8, 4, GUIDED, 1, 1)
     b = row([1, 2, 5, 3, 4], [7, 7, 15, 7, 0], 8, 16, GUIDED, 2, 1)
     c = row([2, 6], [0, 0], 8, 2, TABLE, 1, 0, [1] * 4)
@@ -59,6 +59,7 @@ def bench_cases():
     f = row([7, 4, 2, 0], [0, 1, 16, 255], 8, 256, TABLE, 3, 0)
     g = row([2], [0], 8, 2, TABLE, 1, 0, [1] * 4)
     rows = row([2, 6], [0, 1], 8, 2, TABLE, 1, 0, [1, 2, 0, 1])
+    heavy = row([1, 5, 3], [0, 1, 0], 8, 2, TABLE, 1, 0, [65535, 257, 1, 65535])
     # One window's formula is negative at guide 0, another's at the last guide.
     both_ends = frame(3, 2, 8, 16, GUIDED, 1, 1, [6, 1, 3, 7, 1, 4], [7, 15, 3, 7, 0, 3])
     return [
@@ -74,6 +75,8 @@ def bench_cases():
         ("bench_g", g, 0, 0, "0123"),
         ("bench_h", a, 0, 0, "0201"),
         ("table_rows", rows, 0, 0, "01"),
+        ("heavy", heavy, 0, 0, "00"),
+        ("heavy_back", heavy, 2, 0, "11"),
         ("both_ends", both_ends, 0, 0, "00211"),
     ]
 
@@ -94,6 +97,12 @@ def shaped_cases():
         ">4H2BH3I", 3, 2, 8, 6, GUIDED, 1, 9, 12, 12, 0) + MARK
     gapped = frame(3, 2, 8, 3, TABLE, 1, 0, [3, 0, 5, 1, 4, 2], [2, 1, 0, 0, 1, 2],
                    [5, 0, 200, 1, 1, 1, 0, 256, 7], gap=b"\xff\x00\xff")
+    # At the first two pixels half is reached exactly, at the third it is missed by 1 at its own level.
+    by_one = row([1, 5, 3], [0, 1, 2], 8, 3, TABLE, 1, 0, [65535, 65535, 0, 32767, 32768, 1, 0, 65535, 65534])
+    heaviest = frame(4, 3, 16, 2, TABLE, 15, 0, [9, 2, 15, 4, 1, 7, 12, 3, 8, 0, 5, 14], [0, 1] * 6, [65535] * 4)
+    # Both sides of 32,768, and a row of 0.
+    middle = frame(3, 3, 16, 4, TABLE, 1, 0, [4, 13, 2, 9, 0, 15, 7, 7, 11], [0, 1, 2, 3, 0, 1, 2, 3, 0],
+                   [32767, 32768, 65535, 1, 32768, 32767, 1, 65535, 65535, 0, 32768, 32767, 0, 0, 0, 0])
     return [
         ("not_steady_around", lonely, 0, 0, around),
         ("not_steady_up", lonely, 3, 3, "3331222"),
@@ -105,6 +114,11 @@ def shaped_cases():
         ("unknown_bytes_table", islands, 3, 2, "9381716253"),
         ("overlapped", overlapped, 0, 0, "00211"),
         ("gapped", gapped, 0, 0, "00211"),
+        ("by_one", by_one, 0, 0, "00"),
+        ("by_one_back", by_one, 2, 0, "11"),
+        ("heaviest", heaviest, 0, 0, "0002111"),
+        ("middle_weights", middle, 0, 0, "002112003"),
+        ("middle_weights_up", middle, 2, 2, "311300"),
         ("tall", frame(1, 6, 16, 8, GUIDED, 2, 3, [9, 1, 15, 4, 4, 0], [0, 7, 1, 6, 2, 5]), 0, 0, "2222230333"),
     ]
 
@@ -113,6 +127,10 @@ def every_start_cases():
     """One 3 by 3 frame from each of its pixels, turning once through all four directions."""
     nine = frame(3, 3, 16, 8, GUIDED, 1, 2, [4, 13, 2, 9, 0, 15, 7, 7, 11], [1, 0, 7, 0, 6, 0, 2, 0, 3])
     return [(f"start_{s}_{t}", nine, s, t, "02130312") for t in range(3) for s in range(3)]
+
+
+# What the weights of random cases are below: small ones, any, and those of 15 bits.
+WEIGHTS_BELOW = {1: 257, 5: 65536, 9: 32768}
 
 
 def random_case(number):
@@ -125,7 +143,7 @@ def random_case(number):
     smoothing = 0 if kind == TABLE else 1 + random.below(20)
     values = random.numbers(width * height, levels)
     guide = random.numbers(width * height, guides)
-    table = random.numbers(guides * guides, 257) if kind == TABLE and number % 4 == 1 else []
+    table = random.numbers(guides * guides, WEIGHTS_BELOW[number]) if number in WEIGHTS_BELOW else []
     bound = 5 if number % 3 == 0 else 4
     moves = "".join(str(digit) for digit in random.numbers(12 + random.below(9), bound))
     data = frame(width, height, levels, guides, kind, radius, smoothing, values, guide, table)

@@ -16,9 +16,9 @@
  *           or reaches before the file; or kind 2 has a table.
  *           In icemedian_write: the length of a plane is not width * height, or that of the table is
  *           neither 0 nor, in kind 1, guides * guides
- *   7       a value >= level count, a guide >= guide count, or a weight > 256, searched in that order;
- *           `offset` is the byte offset of the first such number's high byte in the file, for
- *           icemedian_write the one that it would have
+ *   7       a value >= level count or a guide >= guide count, searched in that order; `offset` is the byte
+ *           offset of the first such number's high byte in the file, for icemedian_write the one that it
+ *           would have. A weight may be any 16-bit number
  *   8       the way is not 1 to 3, or does not serve the kind (ways 2 and 3 serve kind 2 only)
  *   9       the pixel is outside the picture, or the level of a balance outside the levels
  *   10      over 1,048,576 moves
@@ -48,9 +48,10 @@
 /* The interface's version. From 1.0 on MAJOR rises where a caller's program would have to change, MINOR
  * where something is added; while MAJOR is 0, MINOR rises for either.
  * 0.2: way, level and the settings of icemedian_write are 32 bits wide; a refused call leaves its results
- * as they were, and `offset` is written with 7 only. */
+ * as they were, and `offset` is written with 7 only.
+ * 0.3: a weight may be any 16-bit number, 0 to 65,535; icemedian_check and icemedian_write refuse none. */
 #define ICEMEDIAN_VERSION_MAJOR 0
-#define ICEMEDIAN_VERSION_MINOR 2
+#define ICEMEDIAN_VERSION_MINOR 3
 
 #ifdef __cplusplus
 #define ICEMEDIAN_SIZE(number) static_cast<size_t>(number)
@@ -127,8 +128,9 @@ uint32_t icemedian_balance(const uint8_t *file, size_t file_length,
                            size_t column, size_t row, uint32_t level,
                            int64_t *balance, uint64_t *offset);
 
-/* Writes a frame without gaps: checks 2 to 7 and 11. A table of length 0 means, in kind 1, the built-in
- * weights; `length` is the file's length in bytes. */
+/* Writes a frame without gaps: checks 2 to 7 and 11. A table has a row of weights, 0 to 65,535 each, for each
+ * guide of the centre; one of length 0 means, in kind 1, the built-in weights. `length` is the file's length
+ * in bytes. */
 uint32_t icemedian_write(uint32_t width, uint32_t height, uint32_t levels, uint32_t guides,
                          uint32_t kind, uint32_t radius, uint32_t smoothing,
                          const uint16_t *values, size_t values_length,

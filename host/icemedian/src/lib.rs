@@ -184,7 +184,18 @@ pub fn balance(file: &[u8], pixel: (usize, usize), level: u16) -> Result<i64, Re
     Ok(balance)
 }
 
-/// The file of a frame. An empty table means, in kind 1, the built-in weights.
+/// The file of a frame. In kind 1 a table has a row of weights, 0 to 65,535 each, for each guide of the
+/// centre, and an empty one means the built-in weights.
+///
+/// ```
+/// use icemedian::{balance, filter, write, Refusal, Settings, Way, Weights};
+///
+/// let settings = Settings { width: 3, height: 1, levels: 8, guides: 2, weights: Weights::Table, radius: 1 };
+/// let file = write(&settings, &[1, 5, 3], &[0, 1, 0], &[65_535, 257, 1, 65_535])?;
+/// assert_eq!(filter(&file, Way::Joint)?.levels, [1, 5, 3]);
+/// assert_eq!(balance(&file, (0, 0), 1), Ok(65_535 - 257));
+/// # Ok::<(), Refusal>(())
+/// ```
 pub fn write(settings: &Settings, values: &[u16], guide: &[u16], table: &[u16]) -> Result<Vec<u8>, Refusal> {
     let mut file = vec![0; 2 * (values.len() + guide.len() + table.len()) + 28];
     let length = write_into(settings, values, guide, table, &mut file)?;

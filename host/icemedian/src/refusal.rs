@@ -41,7 +41,7 @@ pub enum Refusal {
     Distance { part: Part, distance: u32, least: usize, most: usize },
     /// 6, writing: a plane or table has the wrong length. A table may be empty beside the length wanted.
     Length { part: Part, length: usize, wanted: usize },
-    /// 7: a value, guide or weight is too large; the first one's byte offset in the file.
+    /// 7: a value or guide is too large; the first one's byte offset in the file. A weight may be any number.
     Contents { offset: u64 },
     /// 8: the way does not serve the kind.
     Way,
@@ -165,7 +165,7 @@ impl fmt::Display for Refusal {
                 write!(f, "the {part} has {length} numbers, and must have {wanted}")?;
                 f.write_str(or_none(part, wanted, " or none"))
             }
-            Refusal::Contents { offset } => write!(f, "a value, guide or weight is too large (at byte {offset})"),
+            Refusal::Contents { offset } => write!(f, "a value or guide is too large (at byte {offset})"),
             Refusal::Way => write!(f, "the way does not serve the frame's kind"),
             Refusal::Place => write!(f, "the pixel is outside the picture or the level outside the levels"),
             Refusal::Moves => write!(f, "there are over 1048576 moves"),

@@ -6,7 +6,8 @@ use crate::{write_into, Refusal};
 /// How a window's pixels are weighed: document 01's kind, and what belongs to it.
 #[derive(Clone, Copy, Debug, PartialEq, Eq)]
 pub enum Weights {
-    /// Kind 1: by a table of the two pixels' guides, or by the built-in weights.
+    /// Kind 1: by a table of the two pixels' guides, whose weights may be any 16-bit numbers, or by the built-in
+    /// weights.
     Table,
     /// Kind 2: by equation 22 of source 000, with smoothing 1 to 65,025 added to the guide's variance.
     Guided { smoothing: u16 },

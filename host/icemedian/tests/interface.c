@@ -1,6 +1,6 @@
 /* What the header promises a C program: NULL where a length is 0, numbers that are too wide refused and not
- * cut down, results left alone by refusals, what is read may overlap, and the macros. It prints each promise
- * that is not kept. */
+ * cut down, results left alone by refusals, what is read may overlap, a weight may be any number, and the
+ * macros. It prints each promise that is not kept. */
 #include "icemedian.h"
 #include <stdio.h>
 #include <string.h>
@@ -119,6 +119,26 @@ static void test_overlap(void) {
     expect("its third answer", levels[2], ICEMEDIAN_UNKNOWN_MOVE);
 }
 
+/* Levels 1 5 3 under weights 65535 257 / 1 65535. */
+static void test_weights(void) {
+    static const uint16_t value[PIXELS] = {1, 5, 3}, picture[PIXELS] = {0, 1, 0}, table[4] = {65535, 257, 1, 65535};
+    uint8_t output[ICEMEDIAN_FILE_LENGTH(W, H, 4)];
+    uint32_t status = icemedian_write(W, H, LEVELS, 2, ICEMEDIAN_TABLE, RADIUS, 0, value, PIXELS, picture, PIXELS, table,
+                                      4, output, sizeof output, &result.length, &result.offset);
+    expect_status("write, heavy table", status, 0);
+    expect_status("check of it", icemedian_check(output, sizeof output, &result.offset), 0);
+    status = icemedian_filter(output, sizeof output, ICEMEDIAN_JOINT, counts, COUNTS, words, WORDS, NULL, 0, levels,
+                              PIXELS, &result.shifts, &result.offset);
+    expect("its shifts are 7", result.shifts == 7, 1);
+    expect_status("filter of it", status, 0);
+    expect("its first level", levels[0], 1);
+    expect("its second level", levels[1], 5);
+    expect("its third level", levels[2], 3);
+    status = icemedian_balance(output, sizeof output, 1, 0, 3, &result.balance, &result.offset);
+    expect("its balance is -65533", result.balance == -65533, 1);
+    expect_status("balance of it", status, 0);
+}
+
 static void test_wide(void) {
     expect_status("filter, way 257", filter(FILE_BYTES, 257, COUNTS, WORDS, NUMBERS, PIXELS), 8);
     expect_status("walk, way 257", walk(FILE_BYTES, 257, 2, COUNTS, WORDS, NUMBERS, 3), 8);
@@ -136,7 +156,7 @@ static void test_wide(void) {
 
 static void test_macros(void) {
     expect("version, major", ICEMEDIAN_VERSION_MAJOR, 0);
-    expect("version, minor", ICEMEDIAN_VERSION_MINOR, 2);
+    expect("version, minor", ICEMEDIAN_VERSION_MINOR, 3);
     expect("width", ICEMEDIAN_WIDTH(file, FILE_BYTES), W);
     expect("height", ICEMEDIAN_HEIGHT(file, FILE_BYTES), H);
     expect("levels", ICEMEDIAN_LEVELS(file, FILE_BYTES), LEVELS);
@@ -162,6 +182,7 @@ int main(void) {
     expect_status("check", icemedian_check(file, FILE_BYTES, &result.offset), 0);
     test_null();
     test_overlap();
+    test_weights();
     test_wide();
     test_macros();
     return failures != 0;

@@ -179,15 +179,55 @@ fn no_number_is_cut_down() {
     assert_eq!(refused_wide(|a| a.radius += 256), Some(5));
 }
 
+/// C's planes with one number of each changed, under a table whose last weight is `weight`.
+fn written_c(value: u16, guide: u16, weight: u16) -> Result<Vec<u8>, Refusal> {
+    write(&frame_c(1).settings.asked(), &[2, value], &[0, guide], &[1, 1, 1, weight], usize::MAX)
+}
+
 #[test]
-fn edge_of_a_weight() {
-    let c = frame_c(1);
-    let with = |weight| write(&c.settings.asked(), &c.values, &c.guides, &[1, 1, weight, 1], usize::MAX);
-    assert!(with(256).is_ok());
-    assert_eq!(with(257), Err(Refusal::contents(12)));
-    let mut file = with(256).unwrap();
-    file[13] = 1;
-    assert_eq!(open(&file), Err(Refusal::contents(12)));
+fn a_weight_may_be_any_number() {
+    for weight in [0, 256, 257, 32_767, 32_768, 65_535] {
+        let table = [1, 1, 1, weight];
+        assert_eq!(open(&written_c(6, 1, weight).unwrap()).unwrap().table, table);
+        let mut file = written_c(6, 1, 0).unwrap();
+        file[14..16].copy_from_slice(&weight.to_be_bytes());
+        assert_eq!(open(&file).unwrap().table, table);
+    }
+}
+
+#[test]
+fn check_7_is_of_the_planes_before_a_heavy_table() {
+    assert_eq!(written_c(8, 2, 65_535), Err(Refusal::contents(2)));
+    assert_eq!(written_c(6, 2, 65_535), Err(Refusal::contents(6)));
+    let with = |place: usize, byte: u8| {
+        let mut file = written_c(6, 0, 65_535).unwrap();
+        file[place] = byte;
+        open(&file).map(drop)
+    };
+    assert_eq!(with(3, 8), Err(Refusal::contents(2)));
+    assert_eq!(with(7, 2), Err(Refusal::contents(6)));
+    assert_eq!(with(8, 255), Ok(()));
+}
+
+#[test]
+fn a_heavy_table_weighs_and_filters() {
+    let frame = row(KIND_TABLE, 8, 2, 1, &[1, 5, 3], &[0, 1, 0], &[65_535, 257, 1, 65_535]);
+    assert_eq!(filtered(&frame), (vec![1, 5, 3], 7));
+    let balance = |column, level| Window::at(&frame, column, 0).balance(level);
+    assert_eq!([1, 3, 5].map(|level| balance(1, level)), [-65_535, -65_533, 65_537]);
+    assert_eq!([1, 5].map(|level| balance(0, level)), [65_278, 65_792]);
+}
+
+#[test]
+fn the_heaviest_window() {
+    let side = 31;
+    let settings =
+        Settings { width: side, height: side, levels: 1024, guides: 2, kind: KIND_TABLE, radius: 15, smoothing: 0 };
+    let (values, guides) = (vec![1023; settings.pixels()], vec![1; settings.pixels()]);
+    let file = write(&settings.asked(), &values, &guides, &[0, 0, 0, 65_535], usize::MAX).unwrap();
+    let window = Window::at(&open(&file).unwrap(), 15, 15);
+    assert_eq!([1022, 1023].map(|level| window.balance(level)), [-961 * 65_535, 961 * 65_535]);
+    assert_eq!(window.absolute_differences(0), 1023 * 961 * 65_535);
 }
 
 #[test]

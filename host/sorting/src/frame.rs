@@ -6,8 +6,6 @@ use crate::refusal::{check, Refusal};
 pub const TRAILER: usize = 28;
 /// The trailer's last four bytes.
 pub const MARK: [u8; 4] = [0x49, 0x43, 0x45, 0x31];
-/// The greatest weight a table may hold.
-pub const WEIGHT_MOST: u16 = 256;
 /// Kind 1: weights from a table, or built in.
 pub const KIND_TABLE: u8 = 1;
 /// Kind 2: weights from the guide by equation 22 of source 000.
@@ -98,7 +96,8 @@ pub struct Frame {
     pub values: Vec<u16>,
     /// A guide for each pixel.
     pub guides: Vec<u16>,
-    /// M times M weights, the centre's guide choosing the row; empty for the built-in weights and in kind 2.
+    /// M times M weights, each any 16-bit number, the centre's guide choosing the row; empty for the built-in
+    /// weights and in kind 2.
     pub table: Vec<u16>,
 }
 
@@ -186,18 +185,17 @@ fn places_of(trailer_start: usize, trailer: &[u8], settings: &Settings) -> Resul
     Ok(Places { values, guides, table })
 }
 
-/// The numbers of one part, none above `most`; check 7.
-fn part_of(file: &[u8], place: usize, numbers: usize, most: u16) -> Result<Vec<u16>, Refusal> {
-    let mut part = Vec::with_capacity(numbers);
-    for index in 0..numbers {
-        let offset = place + 2 * index;
-        let number = number16(file, offset);
-        if number > most {
-            return Err(Refusal::contents(offset));
-        }
-        part.push(number);
+/// The numbers of one part.
+fn part_of(file: &[u8], place: usize, numbers: usize) -> Vec<u16> {
+    (0..numbers).map(|index| number16(file, place + 2 * index)).collect()
+}
+
+/// Check 7 for a plane that begins at `place`: no number above `most`.
+pub fn check_contents(plane: &[u16], most: u16, place: usize) -> Result<(), Refusal> {
+    match plane.iter().position(|&number| number > most) {
+        Some(index) => Err(Refusal::contents(place + 2 * index)),
+        None => Ok(()),
     }
-    Ok(part)
 }
 
 /// Checks 1 to 6: the settings, and where the parts begin.
@@ -208,16 +206,14 @@ pub fn locate(file: &[u8]) -> Result<(Settings, Places), Refusal> {
     Ok((settings, places))
 }
 
-/// Opens a frame: checks 1 to 7 in document 01's order.
+/// Opens a frame: checks 1 to 7 in document 01's order. No check looks at a weight: any 16-bit number is one.
 pub fn open(file: &[u8]) -> Result<Frame, Refusal> {
     let (settings, places) = locate(file)?;
-    let pixels = settings.pixels();
-    let values = part_of(file, places.values, pixels, settings.levels - 1)?;
-    let guides = part_of(file, places.guides, pixels, settings.guides - 1)?;
-    let table = match places.table {
-        Some(place) => part_of(file, place, settings.table_weights(), WEIGHT_MOST)?,
-        None => Vec::new(),
-    };
+    let values = part_of(file, places.values, settings.pixels());
+    check_contents(&values, settings.levels - 1, places.values)?;
+    let guides = part_of(file, places.guides, settings.pixels());
+    check_contents(&guides, settings.guides - 1, places.guides)?;
+    let table = places.table.map_or_else(Vec::new, |place| part_of(file, place, settings.table_weights()));
     Ok(Frame { settings, values, guides, table })
 }
 

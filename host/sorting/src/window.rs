@@ -8,6 +8,8 @@ use std::ops::RangeInclusive;
 pub struct Weighted {
     pub level: u16,
     pub guide: u16,
+    /// In 64 bits every sum fits: a window has at most 961 pixels, a table's weight is at most 65,535, kind 2's
+    /// is below 2^38 in size, and absolute differences are at most 1,023 times that.
     pub weight: i64,
 }
 

@@ -1,6 +1,6 @@
 //! The writer: value plane, guide plane, table, trailer, without gaps.
 
-use crate::frame::{bytes_of, trailer_bytes, Asked, Settings, KIND_TABLE, WEIGHT_MOST};
+use crate::frame::{bytes_of, check_contents, trailer_bytes, Asked, Settings, KIND_TABLE};
 use crate::refusal::{check, Refusal};
 
 /// Check 6: the lengths of the planes and the table.
@@ -10,21 +10,12 @@ fn check_parts(settings: &Settings, values: &[u16], guides: &[u16], table: &[u16
     check(6, values.len() != plane || guides.len() != plane || !table_fits)
 }
 
-/// Check 7 for a part that would begin at `place`.
-fn check_contents(part: &[u16], most: u16, place: usize) -> Result<(), Refusal> {
-    match part.iter().position(|&number| number > most) {
-        Some(index) => Err(Refusal::contents(place + 2 * index)),
-        None => Ok(()),
-    }
-}
-
 /// Writes a frame for an output of `lent` bytes: checks 2 to 7 and 11, then the file's bytes.
 pub fn write(asked: &Asked, values: &[u16], guides: &[u16], table: &[u16], lent: usize) -> Result<Vec<u8>, Refusal> {
     let settings = asked.settings()?;
     check_parts(&settings, values, guides, table)?;
     check_contents(values, settings.levels - 1, 0)?;
     check_contents(guides, settings.guides - 1, 2 * values.len())?;
-    check_contents(table, WEIGHT_MOST, 4 * values.len())?;
     let mut file = bytes_of(&[values, guides, table].concat());
     let (all, plane) = (file.len(), 2 * values.len());
     file.extend(trailer_bytes(&settings, [all, all - plane, all - 2 * plane]));

@@ -2,8 +2,11 @@
 
 use crate::Lent;
 use sorting_filter::calls::Walked;
-use sorting_filter::frame::locate;
+use sorting_filter::frame::{check_contents, locate, open, Frame, KIND_TABLE};
+use sorting_filter::refusal::Refusal;
 use sorting_filter::store::{Stores, BOX_CELLS};
+use sorting_filter::window::Window;
+use sorting_filter::writer;
 use std::sync::LazyLock;
 
 static CHOSEN: LazyLock<String> = LazyLock::new(|| std::env::var("STANDIN_FAULT").unwrap_or_default());
@@ -84,6 +87,76 @@ pub fn narrowed(number: u32, bits: u32, name: &str) -> u32 {
 /// A file refused only because its planes overlap.
 pub fn refuses(file: &[u8]) -> bool {
     makes("overlap_refused") && locate(file).is_ok_and(|(settings, places)| places.overlap(&settings).is_some())
+}
+
+/// Document 01's limit of a weight, which request 1 lifted, left by the mistake of that name in the check of a
+/// table that begins at `place`.
+pub fn limits(table: &[u16], place: usize, name: &str) -> Result<(), Refusal> {
+    if makes(name) {
+        return check_contents(table, 256, place);
+    }
+    Ok(())
+}
+
+/// The file as a library reads it that cuts a weight to 15 or to 8 bits: written anew with such a table.
+pub fn as_read(file: &[u8]) -> Vec<u8> {
+    let cut = |&weight: &u16| narrowed(narrowed(weight.into(), 15, "weight_bit_cut"), 8, "weight_byte_cut") as u16;
+    let Ok(frame) = open(file) else { return file.to_vec() };
+    let table: Vec<u16> = frame.table.iter().map(cut).collect();
+    if table == frame.table {
+        return file.to_vec();
+    }
+    let written = writer::write(&frame.settings.asked(), &frame.values, &frame.guides, &table, usize::MAX);
+    written.expect("an accepted frame")
+}
+
+/// A table's weight in a product of signed 16 bits: from 32,768 on it is a negative number.
+fn signed(weight: u16) -> i64 {
+    i64::from(weight as i16)
+}
+
+/// A table's weight less 32,768, which is not added back.
+fn less(weight: u16) -> i64 {
+    i64::from(weight) - 32_768
+}
+
+/// The balance of a window whose weights by a table are `wrong`.
+fn wrong_balance(frame: &Frame, column: usize, row: usize, level: u16, wrong: fn(u16) -> i64) -> i64 {
+    let mut window = Window::at(frame, column, row);
+    window.pixels.iter_mut().for_each(|pixel| pixel.weight = wrong(pixel.weight as u16));
+    window.balance(level)
+}
+
+/// Mistakes in the products of a balance.
+pub fn in_balance(file: &[u8], (column, row): (usize, usize), level: u32, balance: &mut i64) {
+    let wrong = match CHOSEN.as_str() {
+        "balance_signed" => signed,
+        "balance_less" => less,
+        _ => return,
+    };
+    if let Some(frame) = table_frame(file) {
+        *balance = wrong_balance(&frame, column, row, level as u16, wrong);
+    }
+}
+
+/// Mistakes in the products of a filter: its search goes past a level whose balance is negative by them.
+pub fn in_plane(file: &[u8], plane: &mut [u16]) {
+    let wrong = match CHOSEN.as_str() {
+        "filter_signed" => signed,
+        "filter_less" => less,
+        _ => return,
+    };
+    let Some(frame) = table_frame(file) else { return };
+    let width = usize::from(frame.settings.width);
+    for (index, level) in plane.iter_mut().enumerate() {
+        let balance = wrong_balance(&frame, index % width, index / width, *level, wrong);
+        *level += u16::from(balance < 0);
+    }
+}
+
+/// A frame of kind 1.
+fn table_frame(file: &[u8]) -> Option<Frame> {
+    open(file).ok().filter(|frame| frame.settings.kind == KIND_TABLE)
 }
 
 /// A buffer touched although the call refuses.

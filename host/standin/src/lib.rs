@@ -6,7 +6,7 @@ mod fault;
 
 use fault::{makes, narrowed, set_on_refusal};
 use sorting_filter::calls::{self, Walked};
-use sorting_filter::frame::{open, Asked};
+use sorting_filter::frame::{locate, open, Asked};
 use sorting_filter::refusal::Refusal;
 use sorting_filter::store::{ChainEntry, Lengths, Stores, BOX_CELLS};
 use sorting_filter::writer;
@@ -98,13 +98,20 @@ unsafe fn lend<'a, T>(pointer: *mut T, length: usize) -> &'a mut [T] {
     slice::from_raw_parts_mut(pointer, length)
 }
 
+/// Checks 1 to 7.
+fn check(file: &[u8]) -> Result<(), Refusal> {
+    if fault::refuses(file) {
+        return Err(Refusal::of(6));
+    }
+    let (_, places) = locate(file)?;
+    fault::limits(&open(file)?.table, places.table.unwrap_or(0), "limit_left")
+}
+
 /// # Safety
 /// As the header says.
 #[no_mangle]
 pub unsafe extern "C" fn icemedian_check(file: *const u8, file_length: usize, offset: &mut u64) -> u32 {
-    let file = read(file, file_length);
-    let result = if fault::refuses(file) { Err(Refusal::of(6)) } else { open(file).map(drop) };
-    report(result, offset).err().unwrap_or(0)
+    report(check(read(file, file_length)), offset).err().unwrap_or(0)
 }
 
 /// # Safety
@@ -131,7 +138,9 @@ pub unsafe extern "C" fn icemedian_filter(
         numbers: lend(numbers, numbers_length),
         answers: lend(output, output_length),
     };
-    let result = calls::filter(read(file, file_length), narrowed(way, 8, "filter_way_cut"), &lent.lengths());
+    let file = fault::as_read(read(file, file_length));
+    let mut result = calls::filter(&file, narrowed(way, 8, "filter_way_cut"), &lent.lengths());
+    result.iter_mut().for_each(|walked| fault::in_plane(&file, &mut walked.answers));
     finish(result, &mut lent, shifts, offset).err().unwrap_or(0)
 }
 
@@ -165,9 +174,9 @@ pub unsafe extern "C" fn icemedian_walk(
         numbers: lend(numbers, numbers_length),
         answers: lend(answers, answers_length),
     };
-    let (file, moves) = (read(file, file_length), read(moves, moves_length));
+    let (file, moves) = (fault::as_read(read(file, file_length)), read(moves, moves_length));
     let way = narrowed(way, 8, "walk_way_cut");
-    let result = calls::walk(file, way, (column, row), moves, &lent.lengths());
+    let result = calls::walk(&file, way, (column, row), moves, &lent.lengths());
     match finish(result, &mut lent, shifts, offset) {
         Ok(mut walked) => {
             fault::in_results(&mut walked);
@@ -213,8 +222,10 @@ pub unsafe extern "C" fn icemedian_balance(
     offset: &mut u64,
 ) -> u32 {
     let level = narrowed(level, 16, "level_cut");
-    match report(calls::balance(read(file, file_length), (column, row), level), offset) {
-        Ok(value) => {
+    let file = fault::as_read(read(file, file_length));
+    match report(calls::balance(&file, (column, row), level), offset) {
+        Ok(mut value) => {
+            fault::in_balance(&file, (column, row), level, &mut value);
             give(balance, if makes("balance") { -value } else { value }, "balance_left");
             0
         }
@@ -258,7 +269,10 @@ pub unsafe extern "C" fn icemedian_write(
     };
     let (values, guide) = (read(values, values_length), read(guide, guide_length));
     let (table, output) = (read(table, table_length), lend(output, output_length));
-    match report(writer::write(&asked, values, guide, table, output.len()), offset) {
+    let cut = |&weight: &u16| narrowed(weight.into(), 15, "written_weight_cut") as u16;
+    let table: Vec<u16> = table.iter().map(cut).collect();
+    let limits = |file| fault::limits(&table, 4 * values.len(), "written_limit_left").map(|()| file);
+    match report(writer::write(&asked, values, guide, &table, output.len()).and_then(limits), offset) {
         Ok(file) => {
             front(output, &file);
             fault::in_file(output, file.len());

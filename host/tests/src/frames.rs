@@ -8,10 +8,12 @@ use crate::{same, Check};
 use sorting_filter::calls;
 use sorting_filter::cases;
 use sorting_filter::frame::{locate, open, Frame, Settings, KIND_GUIDED, KIND_TABLE};
-use sorting_filter::random::{accepted_file, accepted_file_of, moves, start, Random};
+use sorting_filter::random::{accepted_file, accepted_file_of, damage_table, moves, start, Random};
+use sorting_filter::random::{random_guides, random_values};
 use sorting_filter::store::{Lengths, Way};
 use sorting_filter::walk::UNKNOWN_MOVE;
 use sorting_filter::window::Window;
+use sorting_filter::writer;
 
 /// Sides of most pictures; sides of those that hold a whole window of the largest radius; the longest list.
 const SIDE: u16 = 12;
@@ -45,9 +47,46 @@ pub fn test_largest(random: &mut Random, tally: &mut Tally) -> Check {
     Ok(())
 }
 
+/// A table whose bytes are damaged is a table: the file is accepted and every call follows the weights that
+/// stand there.
+pub fn test_damaged_table(random: &mut Random, file: &[u8], tally: &mut Tally) -> Check {
+    let mut damaged = file.to_vec();
+    if !damage_table(random, &mut damaged) {
+        return Ok(());
+    }
+    tally.damaged_tables += 1;
+    test_accepted(random, &damaged, tally).map_err(|error| format!("damaged table: {error}"))
+}
+
+/// The largest weights and those about 32,768 on pictures that hold a whole window of the largest radius, with
+/// every pixel above the first cut or by chance.
+pub fn test_heavy(random: &mut Random, tally: &mut Tally) -> Check {
+    let (side, centre) = (33, 16);
+    let sizes = [vec![65_535], vec![32_768], vec![32_767, 32_768], vec![0, 65_535], vec![1, 32_767, 32_768, 65_535]];
+    for (weights, guides) in sizes.iter().zip([2, 64, 65, 256, 256]) {
+        let settings =
+            Settings { width: side, height: side, levels: 8, guides, kind: KIND_TABLE, radius: 15, smoothing: 0 };
+        let table: Vec<u16> = (0..settings.table_weights()).map(|_| random.pick(weights)).collect();
+        let alike = (vec![settings.levels - 1; settings.pixels()], vec![guides - 1; settings.pixels()]);
+        let by_chance = (random_values(random, &settings), random_guides(random, &settings));
+        for (values, guides) in [alike, by_chance] {
+            let file = writer::write(&settings.asked(), &values, &guides, &table, usize::MAX)
+                .map_err(|refusal| refusal.to_string())?;
+            test_accepted(random, &file, tally)?;
+            let moves = moves(random, &settings, MOVES);
+            test_walk_from(random, &file, Way::Joint, (centre, centre), &moves, tally)?;
+            for level in 0..u32::from(settings.levels) {
+                try_balance(&file, (centre, centre), level, tally)?;
+            }
+        }
+    }
+    Ok(())
+}
+
 fn test_accepted(random: &mut Random, file: &[u8], tally: &mut Tally) -> Check {
     let frame = open(file).map_err(|refusal| format!("the generator made a bad file: {refusal}"))?;
     tally.frames[usize::from(frame.settings.kind == KIND_GUIDED)] += 1;
+    tally.heavy_tables += u64::from(frame.table.iter().any(|&weight| weight >= 32_768));
     count_overlap(file, tally);
     let untouched = file.to_vec();
     same("check", &library::check(file), &Status::ACCEPTED)?;
@@ -99,7 +138,7 @@ fn test_walk_from(
     tally: &mut Tally,
 ) -> Check {
     let frame = open(file).map_err(|refusal| refusal.to_string())?;
-    count_window(&Window::at(&frame, start.0, start.1), tally);
+    count_window(&frame, &Window::at(&frame, start.0, start.1), tally);
     let needed = Lengths { answers: 1 + moves.len(), ..Lengths::of_stores(way, &frame.settings) };
     let before = Buffers::poisoned_beyond(random, &needed);
     let mut after = before.clone();
@@ -117,7 +156,10 @@ fn test_walk_from(
     Ok(())
 }
 
-fn count_window(window: &Window, tally: &mut Tally) {
+fn count_window(frame: &Frame, window: &Window, tally: &mut Tally) {
+    if frame.settings.kind == KIND_TABLE {
+        tally.heaviest = tally.heaviest.max(window.total());
+    }
     tally.hollow += u64::from(window.hollow());
     tally.negative += u64::from(window.has_negative_weight());
     tally.unsteady += u64::from(!window.steady);
@@ -179,9 +221,13 @@ fn test_balance(random: &mut Random, file: &[u8], frame: &Frame, tally: &mut Tal
     for index in tries {
         let (pixel, level) = (index / usize::from(k.levels), (index % usize::from(k.levels)) as u32);
         let place = (pixel % usize::from(k.width), pixel / usize::from(k.width));
-        let expected = calls::balance(file, place, level);
-        library::compare_balance("balance", library::balance(file, place, level), &expected)?;
-        tally.balances += 1;
+        try_balance(file, place, level, tally)?;
     }
     Ok(())
+}
+
+fn try_balance(file: &[u8], place: (usize, usize), level: u32, tally: &mut Tally) -> Check {
+    let expected = calls::balance(file, place, level);
+    tally.balances += 1;
+    library::compare_balance("balance", library::balance(file, place, level), &expected)
 }

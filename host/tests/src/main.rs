@@ -1,8 +1,9 @@
 //! Random frames through the library's C interface, held against the sorting filter.
 //!
 //! `library_tests [FRAMES] [--seed N] [--program PATH]` makes FRAMES frames (2,000 if not said), walks
-//! and filters each in every serving way, damages it, and writes it again. With `--program` it also
-//! feeds frames to the program's standard input. The same seed gives the same frames everywhere.
+//! and filters each in every serving way, once more with its table damaged, damages it, and writes it
+//! again. With `--program` it also feeds frames to the program's standard input. The same seed gives the
+//! same frames everywhere.
 
 mod buffers;
 mod damaged;
@@ -59,6 +60,7 @@ pub fn same<T: PartialEq + std::fmt::Debug>(what: &str, library: &T, expected: &
 fn test_frame(random: &mut Random, tally: &mut Tally) -> Check {
     let file = frames::test_random(random, tally)?;
     tally.random_frames += 1;
+    frames::test_damaged_table(random, &file, tally)?;
     refusals::test_calls(random, &file, tally)?;
     refusals::test_damaged(random, &file, tally)?;
     writing::test_writer(random, &file, tally)
@@ -84,6 +86,10 @@ fn run(options: &Options) -> Result<Tally, String> {
     failures.extend(damaged.err().map(|message| format!("damaged: {message}")));
     let overlapping = frames::test_overlapping(&mut Random::new(options.seed), &mut tally);
     failures.extend(overlapping.err().map(|message| format!("overlapping: {message}")));
+    let heavy = frames::test_heavy(&mut Random::new(options.seed), &mut tally);
+    failures.extend(heavy.err().map(|message| format!("heavy tables: {message}")));
+    let heavy = writing::test_heavy(&mut Random::new(options.seed), &mut tally);
+    failures.extend(heavy.err().map(|message| format!("heavy tables written: {message}")));
     let largest = frames::test_largest(&mut Random::new(options.seed), &mut tally);
     failures.extend(largest.err().map(|message| format!("largest: {message}")));
     if let Some(path) = &options.program {

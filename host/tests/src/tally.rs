@@ -2,6 +2,9 @@
 
 use std::fmt;
 
+/// The greatest sum of weights of a window by a table: 961 pixels of the largest weight.
+const HEAVIEST: i64 = 961 * 65_535;
+
 /// Accepted frames whose planes overlap, by how many bytes apart they begin.
 #[derive(Default)]
 pub struct Overlapping {
@@ -16,6 +19,12 @@ pub struct Tally {
     pub frames: [u64; 2],
     pub random_frames: u64,
     pub overlapping: Overlapping,
+    /// Frames made at random and tried again with a damaged table, also among the accepted.
+    pub damaged_tables: u64,
+    /// Frames whose table has a weight from 32,768 on, which needs 16 bits.
+    pub heavy_tables: u64,
+    /// The greatest sum of weights that a start window has by a table.
+    pub heaviest: i64,
     pub walks: u64,
     /// Walks of the list of small ones, among the walks.
     pub listed: u64,
@@ -49,7 +58,8 @@ impl Tally {
         let Overlapping { same_start, even_apart, odd_apart } = self.overlapping;
         let windows = [self.listed, self.damaged, self.marks, self.hollow, self.negative, self.unsteady];
         let frames = [self.frames[0], self.frames[1], same_start, even_apart, odd_apart];
-        if self.refusals[1..].contains(&0) || windows.contains(&0) || frames.contains(&0) {
+        let tables = [self.heavy_tables, self.damaged_tables, u64::from(self.heaviest == HEAVIEST)];
+        if [&self.refusals[1..], &windows, &frames, &tables].iter().any(|counts| counts.contains(&0)) {
             return Some(format!("the run left something untried:\n{self}"));
         }
         None
@@ -61,9 +71,10 @@ impl fmt::Display for Tally {
         let Overlapping { same_start, even_apart, odd_apart } = self.overlapping;
         writeln!(
             f,
-            "frames: {} at random, {} chosen; {} of kind 1, {} of kind 2",
+            "frames: {} at random, {} of them again with a damaged table, {} chosen; {} of kind 1, {} of kind 2",
             self.random_frames,
-            self.frames.iter().sum::<u64>() - self.random_frames,
+            self.damaged_tables,
+            self.frames.iter().sum::<u64>() - self.random_frames - self.damaged_tables,
             self.frames[0],
             self.frames[1]
         )?;
@@ -71,6 +82,11 @@ impl fmt::Display for Tally {
             f,
             "frames with planes that overlap: {} from the same byte, {} an even number of bytes apart, {} an odd number",
             same_start, even_apart, odd_apart
+        )?;
+        writeln!(
+            f,
+            "frames with a weight from 32,768 on: {}; the heaviest start window by a table: {}",
+            self.heavy_tables, self.heaviest
         )?;
         writeln!(
             f,

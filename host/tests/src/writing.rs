@@ -4,7 +4,7 @@ use crate::library::{self, Status};
 use crate::refusals::count;
 use crate::tally::Tally;
 use crate::{same, Check};
-use sorting_filter::frame::{open, Asked, Frame, WEIGHT_MOST};
+use sorting_filter::frame::{open, Asked, Frame, Settings, KIND_TABLE};
 use sorting_filter::random::Random;
 use sorting_filter::writer;
 
@@ -18,6 +18,23 @@ pub fn test_writer(random: &mut Random, file: &[u8], tally: &mut Tally) -> Check
     spoil(random, &mut asked, &mut spoilt);
     let missing = if random.once_in(4) { 1 + random.below(30) } else { 0 };
     try_write(random, &asked, &spoilt, missing, tally).map(drop)
+}
+
+/// Heavy tables: each is accepted and read back, and number 7 is of the planes before it.
+pub fn test_heavy(random: &mut Random, tally: &mut Tally) -> Check {
+    let settings = Settings { width: 2, height: 1, levels: 8, guides: 2, kind: KIND_TABLE, radius: 7, smoothing: 0 };
+    let asked = settings.asked();
+    for weight in [256, 257, 32_767, 32_768, 65_535] {
+        let mut frame = Frame { settings, values: vec![2, 6], guides: vec![0, 1], table: vec![1, 1, 1, weight] };
+        let written = try_write(random, &asked, &frame, 0, tally)?.ok_or(format!("weight {weight} refused"))?;
+        same("the heavy table read back", &open(&written), &Ok(frame.clone()))?;
+        same("check of a heavy table", &library::check(&written), &Status::ACCEPTED)?;
+        frame.guides[1] = 2;
+        same("guide 2 written", &try_write(random, &asked, &frame, 0, tally)?, &None)?;
+        frame.values[1] = 8;
+        same("value 8 written", &try_write(random, &asked, &frame, 0, tally)?, &None)?;
+    }
+    Ok(())
 }
 
 /// Writes with an output longer than needed, or `missing` bytes too short; the file if there is one.
@@ -76,14 +93,14 @@ fn lengthen_or_cut(random: &mut Random, part: &mut Vec<u16>) {
     }
 }
 
-/// A number too large in one part, and sometimes another one in a later part.
+/// A number too large in a plane or in both, and any numbers in the table.
 fn spoil_contents(random: &mut Random, frame: &mut Frame) {
-    let bounds = [frame.settings.levels, frame.settings.guides, WEIGHT_MOST + 1];
-    let parts = [&mut frame.values, &mut frame.guides, &mut frame.table];
-    for (part, bound) in parts.into_iter().zip(bounds) {
-        if !part.is_empty() && random.once_in(2) {
-            let place = random.below(part.len());
-            part[place] = random.pick(&[bound, 65_535]);
+    let bounds = [frame.settings.levels, frame.settings.guides];
+    for (plane, bound) in [&mut frame.values, &mut frame.guides].into_iter().zip(bounds) {
+        if !plane.is_empty() && random.once_in(2) {
+            let place = random.below(plane.len());
+            plane[place] = random.pick(&[bound, 65_535]);
         }
     }
+    frame.table.fill_with(|| random.bits() as u16);
 }

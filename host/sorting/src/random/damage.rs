@@ -1,7 +1,8 @@
-//! Damaged files: each change makes one check from 1 to 7 fire and touches no earlier one.
+//! Damaged files: each change makes one check from 1 to 7 fire and touches no earlier one, or is in the table,
+//! which no check refuses for what it holds.
 
 use super::Random;
-use crate::frame::{locate, Places, Settings, KIND_GUIDED, TRAILER, WEIGHT_MOST};
+use crate::frame::{locate, Places, Settings, KIND_GUIDED, TRAILER};
 
 /// Makes check `number` fire on a file that no check from 1 to `number` refuses. To damage a file
 /// twice, damage it for the later check first.
@@ -88,22 +89,37 @@ fn damage_distances(random: &mut Random, file: &mut [u8]) {
 
 fn damage_contents(random: &mut Random, file: &mut [u8]) {
     let (settings, places) = located(file);
-    let table = places.table.map(|place| (place, settings.table_weights(), WEIGHT_MOST));
-    let (place, numbers, most) = match (random.below(3), table) {
-        (0, _) => (places.values, settings.pixels(), settings.levels - 1),
-        (1, Some(table)) => table,
-        _ => (places.guides, settings.pixels(), settings.guides - 1),
-    };
-    let offset = place + 2 * random.below(numbers);
+    let (place, most) = random.pick(&[(places.values, settings.levels - 1), (places.guides, settings.guides - 1)]);
+    let offset = place + 2 * random.below(settings.pixels());
     let number = random.ranged(&[(most + 1, most + 1), (most + 1, 65_535), (65_535, 65_535)]);
     file[offset..offset + 2].copy_from_slice(&number.to_be_bytes());
+}
+
+/// Damages the table of an accepted file, which stays accepted: arbitrary bytes, often many alike, in a table
+/// that shares none with a plane, or any other place for it before the trailer. False where there is no table.
+pub fn damage_table(random: &mut Random, file: &mut [u8]) -> bool {
+    let (settings, places) = located(file);
+    let Some(place) = places.table else { return false };
+    let (length, plane) = (2 * settings.table_weights(), 2 * settings.pixels());
+    let apart = |start: usize| start + plane <= place || place + length <= start;
+    if apart(places.values) && apart(places.guides) && !random.once_in(3) {
+        let alike = random.pick(&[None, Some(0), Some(127), Some(128), Some(255)]);
+        for byte in &mut file[place..place + length] {
+            *byte = alike.filter(|_| !random.once_in(8)).unwrap_or(random.bits() as u8);
+        }
+    } else {
+        let before = file.len() - TRAILER;
+        let distance = (length + random.below(before - length + 1)) as u32;
+        put(file, 20, &distance.to_be_bytes());
+    }
+    true
 }
 
 #[cfg(test)]
 mod tests {
     use super::super::{accepted_file, Random};
-    use super::damage;
-    use crate::frame::open;
+    use super::{damage, damage_table};
+    use crate::frame::{locate, open};
 
     #[test]
     fn random_files_are_accepted() {
@@ -122,6 +138,25 @@ mod tests {
             damage(&mut random, &mut file, number);
             assert_eq!(open(&file).unwrap_err().number, number);
         }
+    }
+
+    #[test]
+    fn a_damaged_table_is_accepted() {
+        let mut random = Random::new(4);
+        let (mut heavy, mut overlapping) = (0, 0);
+        for _ in 0..2_000 {
+            let mut file = accepted_file(&mut random, 8);
+            let before = open(&file).unwrap();
+            assert_eq!(damage_table(&mut random, &mut file), !before.table.is_empty());
+            let after = open(&file).expect("an accepted frame");
+            assert_eq!((&after.values, &after.guides), (&before.values, &before.guides));
+            heavy += u32::from(after.table.iter().any(|&weight| weight > 256));
+            let (settings, places) = locate(&file).unwrap();
+            let (length, plane) = (2 * settings.table_weights(), 2 * settings.pixels());
+            let over_values = |place| place < places.values + plane && places.values < place + length;
+            overlapping += u32::from(places.table.is_some_and(over_values));
+        }
+        assert!(heavy > 100 && overlapping > 100, "{heavy} {overlapping}");
     }
 
     #[test]

@@ -4,7 +4,7 @@ mod damage;
 mod files;
 mod planes;
 
-pub use damage::damage;
+pub use damage::{damage, damage_table};
 pub use files::{accepted_file, accepted_file_of, overlapping_file, settings};
 pub use planes::{random_guides, random_table, random_values};
 

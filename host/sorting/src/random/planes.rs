@@ -2,7 +2,7 @@
 //! contents show.
 
 use super::Random;
-use crate::frame::{Settings, WEIGHT_MOST};
+use crate::frame::Settings;
 
 fn fill(length: usize, mut number: impl FnMut(usize) -> u16) -> Vec<u16> {
     (0..length).map(&mut number).collect()
@@ -40,17 +40,31 @@ pub fn random_guides(random: &mut Random, settings: &Settings) -> Vec<u16> {
     }
 }
 
-/// Weights: all 0, mostly 0, all alike, both ends, noise, or heavy above the diagonal only, where a
-/// transposed table shows.
+/// Sizes of weights: small, like the built-in ones, middle, any, the largest, and those about 32,768, where
+/// mistakes show of a library that cuts weights short, takes them as signed numbers or takes 32,768 off.
+const SIZES: [(u16, u16); 6] = [(0, 9), (0, 256), (257, 16_384), (0, 65_535), (65_534, 65_535), (32_766, 32_769)];
+
+/// Weights of one size, or in the last case of every size: all 0, mostly 0, all alike, both ends, noise, or
+/// heavy above the diagonal only, where a transposed table shows; and now and then rows of 0 among them.
 pub fn random_table(random: &mut Random, settings: &Settings) -> Vec<u16> {
     let (weights, guides) = (settings.table_weights(), usize::from(settings.guides));
-    let same = random.within(0, WEIGHT_MOST);
-    match random.below(7) {
+    let (least, most) = random.pick(&SIZES);
+    let same = random.within(least, most);
+    let mut table = match random.below(8) {
         0 => vec![0; weights],
-        1 => fill(weights, |_| if random.once_in(8) { random.within(0, WEIGHT_MOST) } else { 0 }),
+        1 => fill(weights, |_| if random.once_in(8) { random.within(least, most) } else { 0 }),
         2 => vec![same; weights],
-        3 => fill(weights, |_| if random.once_in(2) { 0 } else { WEIGHT_MOST }),
-        4 => fill(weights, |index| if index / guides < index % guides { WEIGHT_MOST } else { 1 }),
-        _ => fill(weights, |_| random.within(0, WEIGHT_MOST)),
+        3 => fill(weights, |_| if random.once_in(2) { 0 } else { most }),
+        4 => fill(weights, |index| if index / guides < index % guides { most } else { 1 }),
+        5 | 6 => fill(weights, |_| random.within(least, most)),
+        _ => fill(weights, |_| random.ranged(&SIZES)),
+    };
+    if random.once_in(4) {
+        for row in table.chunks_mut(guides) {
+            if random.once_in(3) {
+                row.fill(0);
+            }
+        }
     }
+    table
 }
