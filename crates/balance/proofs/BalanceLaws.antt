@@ -166,7 +166,8 @@ row-next {p} {k} {f} {v} {row} h r e u = record {
       λ g l. ⊎-elim (λ q. rw q (getD-set-same row k v 0 (rw (r .long) h) ∙ e)) (λ n. getD-set-other row k g v 0 n ∙ r .is g (omega arith))
       (eq-or-ne g k);
   low =
-      λ g l. ⊎-elim (λ q. subst (λ (n : ℕ). n ≤ heaviest) (sym (ap (λ (j : ℕ). getD (set row k v) j 0) q ∙ getD-set-same row k v 0 (rw (r .long) h))) u)
+      λ g l. ⊎-elim
+      (λ q. subst (λ (x : ℕ). x ≤ heaviest) (sym (ap (λ (j : ℕ). getD (set row k v) j 0) q ∙ getD-set-same row k v 0 (rw (r .long) h))) u)
       (λ n. subst (λ (x : ℕ). x ≤ heaviest) (sym (getD-set-other row k g v 0 n)) (r .low g (omega arith)))
       (eq-or-ne g k);
 }

@@ -1,4 +1,4 @@
--- Laws of the box's products: parts join, and stay small, because the cells' sizes add up to at most 961; and what is taken off the weights comes back.
+-- Laws of the box's products: parts join, and stay small, because the cells' sizes add up to at most 961; what is taken off the weights comes back.
 -- Assumes nothing.
 use mathlib.Core.Path.{_≡_, refl, sym, ap, ap₂, _∙_}
 use mathlib.Core.Bool.{Bool, true, false, cond}

@@ -19,9 +19,9 @@ use Rattle.spec.proofs.Limits.{built-in-low, be16-low}
 use Rattle.spec.proofs.Plans.{facts, pixel-of, place-low, table-own, table-built}
 use Rattle.spec.proofs.Levels.{weight-table}
 use Rattle.window.proofs.PixelLaws.{guides-range}
-use Rattle.joint_pixel.proofs.BitLaws.{eq-or-ne}
+use Rattle.joint_pixel.proofs.BitLaws.{lt-or-le, eq-or-ne}
 use Rattle.joint_search.specs.Window.{RowWeighs}
-use Rattle.joint_rows.specs.Rows.{Lower, Mirror, TableRow, exchanged}
+use Rattle.joint_rows.specs.Rows.{Mirror, PartFilled, TableRow, exchanged}
 use Rattle.joint_rows.proofs.TableLaws.{weight-place}
 
 -- the mirrored constants, moved so that the centre's is at its guide
@@ -119,23 +119,38 @@ copied-next {k = k} v {ys = ys} h e r = record {
       (λ n. ap exchanged (getD-set-other ys k g v 0 n) ∙ r .is g (omega arith)) (eq-or-ne g k);
 }
 
--- the first k numbers of the row have been exchanged, and the others are still to be
-pub record Exchanging (b : List ℕ) (first m k : ℕ) (row : List ℕ) : Type 0 where
+-- a part of the row, number by number
+pub part-start : (b : List ℕ) (first from : ℕ) (row : List ℕ) → PartFilled b first from 0 row row
+part-start b first from row = record { long = refl; is = λ g h l. absurd (omega arith); before = λ g h. refl }
+
+pub part-next : {b : List ℕ} {first from k v : ℕ} {old row : List ℕ} → from + k < length old → v ≡ plane b (first + 2 * from) k →
+    PartFilled b first from k old row → PartFilled b first from (k + 1) old (set row (from + k) v)
+part-next {b} {first} {from} {k} {v} {old} {row} h e r = record {
+  long = length-set row (from + k) v ∙ r .long;
+  is =
+      λ g l u. ⊎-elim
+      (λ q. ap (λ (j : ℕ). getD (set row (from + k) v) j 0) q ∙ getD-set-same row (from + k) v 0 (rw (r .long) h) ∙ e ∙ ap (be16 b) moved
+      ∙ ap (plane b first) (sym q))
+      (λ n. getD-set-other row (from + k) g v 0 n ∙ r .is g l (omega arith)) (eq-or-ne g (from + k));
+  before = λ g l. getD-set-other row (from + k) g v 0 (λ q. omega arith) ∙ r .before g l;
+}
+  where
+    moved : first + 2 * from + 2 * k ≡ first + 2 * (from + k)
+    moved = omega arith
+
+-- the first numbers of the row are there: none at first, then part after part
+pub record Filled (b : List ℕ) (first k : ℕ) (row : List ℕ) : Type 0 where
   pub long : length row ≡ 256
-  pub done : (g : ℕ) → g < k → getD row g 0 ≡ plane b first g
-  pub left : (g : ℕ) → k ≤ g → g < m → exchanged (getD row g 0) ≡ plane b first g
+  pub is : (g : ℕ) → g < k → getD row g 0 ≡ plane b first g
 
-pub exchange-start : {b : List ℕ} {first m : ℕ} {row : List ℕ} → Lower b first m row → Exchanging b first m 0 row
-exchange-start r = record { long = r .long; done = λ g h. absurd (omega arith); left = λ g _ h. r .is g h }
+pub filled-start : (b : List ℕ) (first : ℕ) {row : List ℕ} → length row ≡ 256 → Filled b first 0 row
+filled-start b first e = record { long = e; is = λ g h. absurd (omega arith) }
 
-pub exchange-next : {b : List ℕ} {first m k v : ℕ} {row : List ℕ} → m ≤ 256 → k < m → v ≡ exchanged (getD row k 0) → Exchanging b first m k row →
-    Exchanging b first m (k + 1) (set row k v)
-exchange-next {k = k} {v = v} {row = row} few h e r = record {
-  long = length-set row k v ∙ r .long;
-  done =
-      λ g l. ⊎-elim (λ q. rw q (getD-set-same row k v 0 (omega (arith, r .long)) ∙ e ∙ r .left k (omega arith) h))
-      (λ n. getD-set-other row k g v 0 n ∙ r .done g (omega arith)) (eq-or-ne g k);
-  left = λ g l u. ap exchanged (getD-set-other row k g v 0 (λ q. omega arith)) ∙ r .left g (omega arith) u;
+pub filled-next : {b : List ℕ} {first from n : ℕ} {old new : List ℕ} → Filled b first from old → PartFilled b first from n old new →
+    Filled b first (from + n) new
+filled-next {from = from} f p = record {
+  long = p .long ∙ f .long;
+  is = λ g h. ⊎-elim (λ l. p .before g l ∙ f .is g l) (λ l. p .is g l h) (lt-or-le g from);
 }
 
 -- all of them: the table's row
@@ -149,10 +164,10 @@ module _ {b : List ℕ} {z : Plan} (pl : Planned b z) {f : ℕ} (hf : f < z .gui
       let last = weight-place pl own f (z .guides - 1) hf (omega arith) in
       omega (arith, last .1, row-place (z .guides - 1))
 
-  pub row-exchanged : {k : ℕ} {row : List ℕ} → AllBytes b → z .guides ≤ k → Exchanging b (z .table + 2 * (f * z .guides)) (z .guides) k row →
+  pub row-filled : {k : ℕ} {row : List ℕ} → AllBytes b → z .guides ≤ k → Filled b (z .table + 2 * (f * z .guides)) k row →
       TableRow (frameOf b) (z .guides) f row
-  row-exchanged bytes h r = record {
+  row-filled bytes h r = record {
     long = r .long;
-    is = λ g l. r .done g (omega arith) ∙ ap (be16 b) (row-place g) ∙ sym (table-own pl own f g);
-    low = λ g l. rw (r .done g (omega arith)) (be16-low b bytes _);
+    is = λ g l. r .is g (omega arith) ∙ ap (be16 b) (row-place g) ∙ sym (table-own pl own f g);
+    low = λ g l. rw (r .is g (omega arith)) (be16-low b bytes _);
   }

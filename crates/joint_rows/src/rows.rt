@@ -6,7 +6,7 @@ ghost use Prim.Native.Nat.{_+_, _*_, _<_, _≤_};
 ghost use lib.ListN.{length};
 ghost use Rattle.spec.specs.Frame.{frameOf};
 ghost use Rattle.spec.specs.Checks.{Planned};
-ghost use Rattle.joint_rows.specs.Rows.{Lower, Mirror, TableRow, WeightRows, exchanged};
+ghost use Rattle.joint_rows.specs.Rows.{Lower, Mirror, PartFilled, TableRow, WeightRows, exchanged};
 
 // The built-in weights from 255 guides below the centre's to 255 above: guide f's row begins at place 255 - f.
 pub fn mirror(out: &mut [u16])
@@ -31,15 +31,15 @@ pub fn built_rows(plan: Plan, out: &mut [u16])
     }
 }
 
-// m numbers of a file from a byte on, low byte first: a plain copy of the bytes, which is fast.
-fn copy_low_first(file: &[u8], first: usize, m: usize, row: &mut [u16; 256])
-    requires { ⌜ (m ≤ 256) × (first + 2 * m ≤ length (now file)) × (length (now row) ≡ 256) ⌝ }
-    ensures { λ _. ⌜ Lower (now (file .entry)) first m (now (row .exit)) ⌝ }
+// n numbers of a file from a byte on, low byte first: a plain copy of the bytes, which is fast.
+fn copy_low_first(file: &[u8], first: usize, n: usize, part: &mut [u16; 64])
+    requires { ⌜ (n ≤ 64) × (first + 2 * n ≤ length (now file)) × (length (now part) ≡ 64) ⌝ }
+    ensures { λ _. ⌜ Lower (now (file .entry)) first n (now (part .exit)) ⌝ }
 {
     let mut k = 0;
-    while k < m {
+    while k < n {
         let at = first + 2 * k;
-        row[k] = (file[at] as u16) + (file[at + 1] as u16) * 256;
+        part[k] = (file[at] as u16) + (file[at + 1] as u16) * 256;
         k += 1;
     }
 }
@@ -51,18 +51,32 @@ fn exchanged(v: u16) -> u16
     (v % 256) * 256 + v / 256
 }
 
-// The file's own row of a guide, into an array that is lent: by value it would be copied once more. In two turns, because each is then done many
-// numbers at a time.
+// n numbers of a row that begins at a byte of the file, from one on. In two turns over a short array, because the compiler then does each for many
+// numbers at a time and keeps them in registers.
+fn fill_part(file: &[u8], first: usize, from: usize, n: usize, row: &mut [u16; 256])
+    requires { ⌜ (n ≤ 64) × (from + n ≤ 256) × (first + 2 * (from + n) ≤ length (now file)) × (length (now row) ≡ 256) ⌝ }
+    ensures { λ _. ⌜ PartFilled (now (file .entry)) first from n (now (row .entry)) (now (row .exit)) ⌝ }
+{
+    let mut part = [0u16; 64];
+    copy_low_first(file, first + 2 * from, n, &mut part);
+    let mut k = 0;
+    while k < n {
+        row[from + k] = exchanged(part[k]);
+        k += 1;
+    }
+}
+
+// The file's own row of a guide, into an array that is lent: by value it would be copied once more.
 pub fn own_row(file: &[u8], plan: Plan, f: Guide, row: &mut [u16; 256])
     requires { ⌜ (Planned (now file) plan) × (f .0 < plan .guides) × (plan .weights ≡ 0 → ⊥) × (length (now row) ≡ 256) ⌝ }
     ensures { λ _. ⌜ TableRow (frameOf (now (file .entry))) (plan .guides) (f .0) (now (row .exit)) ⌝ }
 {
     let m = plan.guides;
     let first = plan.table + 2 * ((f.0 as usize) * m);
-    copy_low_first(file, first, m, row);
-    let mut k = 0;
-    while k < m {
-        row[k] = exchanged(row[k]);
-        k += 1;
+    let mut from = 0;
+    while from + 64 <= m {
+        fill_part(file, first, from, 64, row);
+        from += 64;
     }
+    fill_part(file, first, from, m - from, row);
 }

@@ -83,11 +83,7 @@ pub fn descend(
     let mut counted = shifts;
     while 0 < i {
         let here = Level(i);
-        let lower = step_balance(
-            b,
-            -2,
-            level_weight(row, here, sizes.guides, counts, words),
-        );
+        let lower = step_balance(b, -2, level_weight(row, here, sizes.guides, counts, words));
         if lower < 0 {
             return SearchEnd {
                 level: here,

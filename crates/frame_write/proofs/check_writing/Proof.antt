@@ -54,8 +54,8 @@ returns c =
     let a = c .before .before .before .before .before .before .args in
     stopped (settingsOutcome (a .settings))
     (of-length (a .settings) (a .values .now) (a .guides .now) (a .table .now) (a .room) ▷ of-values (a .settings) (a .values .now)
-    (a .guides .now) (a .table .now) (a .room) ▷ of-guides (a .settings) (a .values .now) (a .guides .now) (a .table .now) (a .room) ▷ of-room (a .settings) (a .values .now) (a .guides .now)
-    (a .table .now) (a .room))
+    (a .guides .now) (a .table .now) (a .room) ▷ of-guides (a .settings) (a .values .now) (a .guides .now) (a .table .now) (a .room) ▷ of-room
+    (a .settings) (a .values .now) (a .guides .now) (a .table .now) (a .room))
     (c .before .before .check-settings .ensures) (c .before .stops .ensures) (c .if1 .taken)
 
 bad-length-requires : tie.Need-bad-length-requires
@@ -81,7 +81,8 @@ returns-3 c =
     let a = s2 d .args in
     past2 _ _ _ _ _ (q1 (d .before .before)) (q2 d)
     (stopped (of-values (a .settings) (a .values .now) (a .guides .now) (a .table .now) (a .room))
-    (of-guides (a .settings) (a .values .now) (a .guides .now) (a .table .now) (a .room) ▷ of-room (a .settings) (a .values .now) (a .guides .now) (a .table .now) (a .room))
+    (of-guides (a .settings) (a .values .now) (a .guides .now) (a .table .now) (a .room) ▷ of-room (a .settings) (a .values .now)
+    (a .guides .now) (a .table .now) (a .room))
     (c .before .before .scan-list .ensures) (c .before .stops2 .ensures) (c .if3 .taken))
 
 mul-scan-list : tie.Need-mul-scan-list
@@ -100,7 +101,8 @@ returns-4 c =
     let a = s3 d .args in
     past3 _ _ _ _ _ (q1 (e .before .before)) (q2 e) (q3 d)
     (stopped (of-guides (a .settings) (a .values .now) (a .guides .now) (a .table .now) (a .room))
-    (of-room (a .settings) (a .values .now) (a .guides .now) (a .table .now) (a .room)) (rw (d .before .before .before .product .ensures .0) at (c .before .before .scan-list2 .ensures))
+    (of-room (a .settings) (a .values .now) (a .guides .now) (a .table .now) (a .room))
+    (rw (d .before .before .before .product .ensures .0) at (c .before .before .scan-list2 .ensures))
     (c .before .stops3 .ensures) (c .if4 .taken))
 
 mul-if5 : tie.Need-mul-if5

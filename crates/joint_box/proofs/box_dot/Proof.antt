@@ -33,7 +33,8 @@ next : (h : tie.At-loop Inv-loop μ-loop) (n : ℕ) → h .loop .f + n ≤ start
 next h n l = let at = start h in part-within (part-of (at .pre .0) (at .pre .1) (at .pre .2)) (omega arith) (omega (arith, zero-add (at .args .m), l))
 
 -- their sum, as the part after those before it
-after : (h : tie.At-loop Inv-loop μ-loop) (n : ℕ) {q : ℤ} → q ≡ centredPart (start h .args .balance-box .now) (start h .args .row .now) (h .loop .f) n →
+after : (h : tie.At-loop Inv-loop μ-loop) (n : ℕ) {q : ℤ} →
+    q ≡ centredPart (start h .args .balance-box .now) (start h .args .row .now) (h .loop .f) n →
     q ≡ centredPart (start h .args .balance-box .now) (start h .args .row .now) (0 + h .loop .f) n
 after h n e = e ∙ ap (λ (j : ℕ). centredPart (start h .args .balance-box .now) (start h .args .row .now) j n) (sym (zero-add (h .loop .f)))
 

@@ -7,10 +7,10 @@ use Rattle.joint_rows.proofs.rows.copy_low_first.Statement.{statement}
 use Rattle.joint_rows.proofs.rows.copy_low_first.Tie as tie
 
 abbrev Inv-loop : tie.InvT-loop
-Inv-loop file first m row₀ k₀ row k = (k ≤ m) × Copied file first k row₀ row
+Inv-loop file first n part₀ k₀ part k = (k ≤ n) × Copied file first k part₀ part
 
 abbrev μ-loop : tie.MeasureT-loop
-μ-loop file first m row₀ k₀ row k = m - k
+μ-loop file first n part₀ k₀ part k = n - k
 
 loop-holds : tie.Need-loop-holds Inv-loop μ-loop
 loop-holds c = (omega arith, copied-start _ _ _)
@@ -21,36 +21,36 @@ mul-at c = omega (arith, c .before .before .pre)
 add-at : tie.Need-add-at Inv-loop μ-loop
 add-at c = omega (arith, c .before .before .pre, c .before .before .good .0)
 
-shared-slice-read-row : tie.Need-shared-slice-read-row Inv-loop μ-loop
-shared-slice-read-row c = omega (arith, c .before .loop-test .taken, c .before .before .before .pre)
+shared-slice-read-part : tie.Need-shared-slice-read-part Inv-loop μ-loop
+shared-slice-read-part c = omega (arith, c .before .loop-test .taken, c .before .before .before .pre)
 
-cast-row : tie.Need-cast-row Inv-loop μ-loop
-cast-row c = omega (arith, c .shared-slice-known .given (c .before .before .before .args .first + 2 * c .before .before .loop .k))
+cast-part : tie.Need-cast-part Inv-loop μ-loop
+cast-part c = omega (arith, c .shared-slice-known .given (c .before .before .before .args .first + 2 * c .before .before .loop .k))
 
-add-row : tie.Need-add-row Inv-loop μ-loop
-add-row c = omega (arith, c .before .loop-test .taken, c .before .before .before .pre, c .before .before .before .good .0)
+add-part : tie.Need-add-part Inv-loop μ-loop
+add-part c = omega (arith, c .before .loop-test .taken, c .before .before .before .pre, c .before .before .before .good .0)
 
-shared-slice-read-row-2 : tie.Need-shared-slice-read-row-2 Inv-loop μ-loop
-shared-slice-read-row-2 c = omega (arith, c .before .before .loop-test .taken, c .before .before .before .before .pre)
+shared-slice-read-part-2 : tie.Need-shared-slice-read-part-2 Inv-loop μ-loop
+shared-slice-read-part-2 c = omega (arith, c .before .before .loop-test .taken, c .before .before .before .before .pre)
 
 -- the two bytes at k
 abbrev place : tie.After-shared-slice-known2 Inv-loop μ-loop → ℕ
 place c = c .before .before .before .before .args .first + 2 * c .before .before .before .loop .k
 
-cast-row-2 : tie.Need-cast-row-2 Inv-loop μ-loop
-cast-row-2 c = omega (arith, c .shared-slice-known2 .given (place c + 1))
+cast-part-2 : tie.Need-cast-part-2 Inv-loop μ-loop
+cast-part-2 c = omega (arith, c .shared-slice-known2 .given (place c + 1))
 
-mul-row : tie.Need-mul-row Inv-loop μ-loop
-mul-row c = omega (arith, c .shared-slice-known2 .given (place c + 1))
+mul-part : tie.Need-mul-part Inv-loop μ-loop
+mul-part c = omega (arith, c .shared-slice-known2 .given (place c + 1))
 
-add-row-2 : tie.Need-add-row-2 Inv-loop μ-loop
-add-row-2 c = omega (arith, c .before .shared-slice-known .given (place c), c .shared-slice-known2 .given (place c + 1))
+add-part-2 : tie.Need-add-part-2 Inv-loop μ-loop
+add-part-2 c = omega (arith, c .before .shared-slice-known .given (place c), c .shared-slice-known2 .given (place c + 1))
 
-mul-row-2 : tie.Need-mul-row-2 Inv-loop μ-loop
-mul-row-2 c = omega (arith, c .before .before .loop-test .taken, c .before .before .before .before .pre)
+mul-part-2 : tie.Need-mul-part-2 Inv-loop μ-loop
+mul-part-2 c = omega (arith, c .before .before .loop-test .taken, c .before .before .before .before .pre)
 
-element-write-row : tie.Need-element-write-row Inv-loop μ-loop
-element-write-row c =
+element-write-part : tie.Need-element-write-part Inv-loop μ-loop
+element-write-part c =
     omega (arith, c .before .before .loop-test .taken, c .before .before .before .before .pre, c .before .before .before .loop .inv .1 .long)
 
 add-k : tie.Need-add-k Inv-loop μ-loop
@@ -88,15 +88,15 @@ copy-low-first-spec =
     loop-holds
     mul-at
     add-at
-    shared-slice-read-row
-    cast-row
-    add-row
-    shared-slice-read-row-2
-    cast-row-2
-    mul-row
-    add-row-2
-    mul-row-2
-    element-write-row
+    shared-slice-read-part
+    cast-part
+    add-part
+    shared-slice-read-part-2
+    cast-part-2
+    mul-part
+    add-part-2
+    mul-part-2
+    element-write-part
     add-k
     loop-less
     loop-again

@@ -1,4 +1,5 @@
--- `own_row` meets its contract: the bytes copied, then each number's two exchanged. Assumes nothing.
+-- `own_row` meets its contract: 64 numbers a turn, then the rest. Assumes nothing.
+use mathlib.Core.Path.{_≡_}
 use native.Mathlib.Omega.{arith}
 use borrow.Author.Needs.{needs}
 use Prim.Native.Nat.{ℕ, _+_, _*_, _-_, _≤_, _<_}
@@ -6,15 +7,15 @@ use lib.ListN.{length}
 use Rattle.spec.proofs.Plans.{facts}
 use Rattle.window.proofs.PixelLaws.{guides-range}
 use Rattle.joint_rows.proofs.TableLaws.{weight-place}
-use Rattle.joint_rows.proofs.RowLaws.{Exchanging, exchange-start, exchange-next, row-inside, row-exchanged}
+use Rattle.joint_rows.proofs.RowLaws.{Filled, filled-start, filled-next, row-inside, row-filled}
 use Rattle.joint_rows.proofs.rows.own_row.Statement.{statement}
 use Rattle.joint_rows.proofs.rows.own_row.Tie as tie
 
 abbrev Inv-loop : tie.InvT-loop
-Inv-loop file row₀ m first k₀ row k = (k ≤ m) × Exchanging file first m k row
+Inv-loop file row₀ m first from₀ row from = (from ≤ m) × Filled file first from row
 
 abbrev μ-loop : tie.MeasureT-loop
-μ-loop file row₀ m first k₀ row k = m - k
+μ-loop file row₀ m first from₀ row from = m - from
 
 -- the row's place, small and in the file
 module _ (at : tie.Start Inv-loop μ-loop) where
@@ -25,7 +26,7 @@ module _ (at : tie.Start Inv-loop μ-loop) where
   inside = row-inside (at .pre .0) (at .pre .1) (at .pre .2)
 
 abbrev begin : tie.At-loop Inv-loop μ-loop → tie.Start Inv-loop μ-loop
-begin h = h .before .before .before .before .before .before
+begin h = h .before .before .before .before
 
 -- at most 256 guides
 few : (h : tie.At-loop Inv-loop μ-loop) → begin h .args .plan .guides ≤ 256
@@ -43,47 +44,50 @@ mul-first-2 c = omega (arith, small (c .before .before))
 add-first : tie.Need-add-first Inv-loop μ-loop
 add-first c = let at = c .before .before .before in omega (arith, inside at, at .good .0, small at, facts (at .pre .0) .value-last)
 
-copy-low-first-requires : tie.Need-copy-low-first-requires Inv-loop μ-loop
-copy-low-first-requires c κs = let at =
-    c .before .before .before .before in (guides-range (at .pre .0) .1, omega (arith, inside at), at .pre .3)
+-- n numbers from the loop's place on are in the file
+fill-asks : (h : tie.At-loop Inv-loop μ-loop) (n : ℕ) → n ≤ 64 → h .loop .from + n ≤ begin h .args .plan .guides →
+    (n ≤ 64) × (h .loop .from + n ≤ 256) ×
+    (begin h .args .plan .table + 2 * (begin h .args .f .0 * begin h .args .plan .guides) + 2 * (h .loop .from + n)
+    ≤ length (begin h .args .file .now)) × (length (h .loop .row) ≡ 256)
+fill-asks h n l u = (l, omega (arith, few h), omega (arith, inside (begin h)), h .loop .inv .1 .long)
 
 loop-holds : tie.Need-loop-holds Inv-loop μ-loop
-loop-holds c = (omega arith, exchange-start (c .copy-low-first .ensures))
+loop-holds c = (omega arith, filled-start _ _ (c .before .before .before .pre .3))
 
-mul-exchanged : tie.Need-mul-exchanged Inv-loop μ-loop
-mul-exchanged c = omega (arith, c .loop-test .taken, few (c .before))
+add-loop : tie.Need-add-loop Inv-loop μ-loop
+add-loop c = omega (arith, c .loop .inv .0, few c)
 
-element-copy-out-exchanged : tie.Need-element-copy-out-exchanged Inv-loop μ-loop
-element-copy-out-exchanged c = omega (arith, c .loop-test .taken, few (c .before), c .before .loop .inv .1 .long)
+fill-part-requires : tie.Need-fill-part-requires Inv-loop μ-loop
+fill-part-requires c κs = let t = c .before in fill-asks (t .before) 64 (omega arith) (t .loop-test .taken)
 
-exchanged-requires : tie.Need-exchanged-requires Inv-loop μ-loop
-exchanged-requires c κs = search needs
-
-mul-row : tie.Need-mul-row Inv-loop μ-loop
-mul-row c = let t = c .before .before in omega (arith, t .loop-test .taken, few (t .before))
-
-element-write-row : tie.Need-element-write-row Inv-loop μ-loop
-element-write-row c = let t = c .before .before in omega (arith, t .loop-test .taken, few (t .before), t .before .loop .inv .1 .long)
-
-add-k : tie.Need-add-k Inv-loop μ-loop
-add-k c = let t = c .before .before in omega (arith, t .loop-test .taken, few (t .before))
+add-from : tie.Need-add-from Inv-loop μ-loop
+add-from c = let t = c .before .before in omega (arith, t .loop-test .taken, few (t .before))
 
 loop-less : tie.Need-loop-less Inv-loop μ-loop
 loop-less c = omega (arith, c .before .before .loop-test .taken)
 
 loop-again : tie.Need-loop-again Inv-loop μ-loop
-loop-again c =
-    let t = c .before .before in (
-      omega (arith, t .loop-test .taken),
-      exchange-next (few (t .before)) (t .loop-test .taken) (c .exchanged .ensures) (t .before .loop .inv .1),
-    )
+loop-again c = let t = c .before .before in (t .loop-test .taken, filled-next (t .before .loop .inv .1) (c .fill-part .ensures))
+
+sub-fill-part : tie.Need-sub-fill-part Inv-loop μ-loop
+sub-fill-part c = c .before .loop .inv .0
+
+-- what is left of the m, fewer than 64
+rest : (h : tie.At-loop Inv-loop μ-loop) → h .loop .from + (begin h .args .plan .guides - h .loop .from) ≡ begin h .args .plan .guides
+rest h = omega (arith, h .loop .inv .0)
+
+fill-part-requires-2 : tie.Need-fill-part-requires-2 Inv-loop μ-loop
+fill-part-requires-2 c κs =
+    let l = c .before in
+    let h = l .before in
+    fill-asks h (begin h .args .plan .guides - h .loop .from) (omega (arith, l .loop-test .left)) (omega (arith, rest h))
 
 returns : tie.Need-returns Inv-loop μ-loop
 returns c =
-    let h = c .before in
+    let h = c .before .before .before in
     let at = begin h in
-    row-exchanged (at .pre .0) (at .pre .1) (at .pre .2) (λ i. omega (arith, h .before .before .before .before .before .shared-slice-known .given i))
-    (omega (arith, c .loop-test .left)) (h .loop .inv .1)
+    row-filled (at .pre .0) (at .pre .1) (at .pre .2) (λ i. omega (arith, h .before .before .before .shared-slice-known .given i))
+    (omega (arith, rest h)) (filled-next (h .loop .inv .1) (c .fill-part2 .ensures))
 
 pub own-row-spec : {M : Type 1} → statement M
 own-row-spec =
@@ -95,14 +99,12 @@ own-row-spec =
     mul-first
     mul-first-2
     add-first
-    copy-low-first-requires
     loop-holds
-    mul-exchanged
-    element-copy-out-exchanged
-    exchanged-requires
-    mul-row
-    element-write-row
-    add-k
+    add-loop
+    fill-part-requires
+    add-from
     loop-less
     loop-again
+    sub-fill-part
+    fill-part-requires-2
     returns)

@@ -1,4 +1,4 @@
--- `descend` meets its contract: down to level i no balance is negative, each level passed counted one shift, and the box is that of i. Assumes nothing.
+-- `descend` meets its contract: down to level i no balance is negative, each level passed counted a shift, and the box is that of i. Assumes nothing.
 use mathlib.Core.Path.{_≡_, refl, sym, ap, _∙_, subst}
 use native.Mathlib.Omega.{arith}
 use Prim.Native.Nat.{ℕ, _+_, _-_, _≤_, _<_}
