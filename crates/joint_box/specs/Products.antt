@@ -19,9 +19,12 @@ boxDot bx row n = boxPart bx (λ k. pos (getD row k 0)) 0 n
 abbrev pub boxSum : List ℤ → ℕ → ℤ
 boxSum bx n = boxPart bx (λ k. pos 1) 0 n
 
--- a weight less half of what 16 bits can hold is a signed number of 16 bits: pairs of those are multiplied in one instruction
+-- half of what 16 bits can hold; a weight less that half is a signed number of 16 bits, and pairs of those are multiplied in one instruction
+abbrev pub half : ℕ
+half = 32768
+
 abbrev pub centred : ℕ → ℤ
-centred n = pos n -ℤ pos 32768
+centred n = pos n -ℤ pos half
 
 abbrev pub centredPart : List ℤ → List ℕ → ℕ → ℕ → ℤ
 centredPart bx row f n = boxPart bx (λ k. centred (getD row k 0)) f n

@@ -7,8 +7,9 @@ ghost use Prim.Native.Nat.{_≤_};
 ghost use lib.IntN.{pos, natAbs, _+ℤ_, _*ℤ_};
 ghost use Rattle.joint_cells.specs.Scan.{RowFits};
 ghost use Rattle.joint_cells.specs.Box.{BoxInBounds};
-ghost use Rattle.joint_box.specs.Products.{PartFits, boxDot, boxSum, centred, centredPart};
+ghost use Rattle.joint_box.specs.Products.{PartFits, boxDot, boxSum, half, centred, centredPart};
 
+// Half of what 16 bits can hold.
 const HALF: i32 = 32768;
 
 // A weight less that half.
@@ -19,7 +20,7 @@ fn centred(n: u16) -> i16
 }
 
 fn product(x: i16, y: i16) -> i32
-    requires { ⌜ (natAbs x ≤ 961) × (natAbs y ≤ 32768) ⌝ }
+    requires { ⌜ (natAbs x ≤ 961) × (natAbs y ≤ half) ⌝ }
     ensures { λ r. ⌜ r ≡ x *ℤ y ⌝ }
 {
     (x as i32) * (y as i32)
@@ -71,7 +72,7 @@ fn sum_cells(balance_box: &[i16; 256], m: usize) -> i16
 // Products with that half back, all being the sum of their cells.
 fn restored(dot: i32, all: i16) -> i32
     requires { ⌜ (natAbs dot ≤ 31490048) × (natAbs all ≤ 961) ⌝ }
-    ensures { λ r. ⌜ r ≡ dot +ℤ pos 32768 *ℤ all ⌝ }
+    ensures { λ r. ⌜ r ≡ dot +ℤ pos half *ℤ all ⌝ }
 {
     dot + HALF * (all as i32)
 }
