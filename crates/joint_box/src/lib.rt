@@ -70,11 +70,11 @@ fn sum_cells(balance_box: &[i16; 256], m: usize) -> i16
 }
 
 // Products with that half back, all being the sum of their cells.
-fn restored(dot: i32, all: i16) -> i32
+fn restored(dot: i32, all: i32) -> i32
     requires { ⌜ (natAbs dot ≤ 31490048) × (natAbs all ≤ 961) ⌝ }
     ensures { λ r. ⌜ r ≡ dot +ℤ pos half *ℤ all ⌝ }
 {
-    dot + HALF * (all as i32)
+    dot + HALF * all
 }
 
 // Over the first m cells. 32 at a time: of a part whose length is known the compiler makes one sum of products without a loop, which takes half the
@@ -90,5 +90,5 @@ pub fn box_dot(balance_box: &[i16; 256], row: &[u16], m: usize) -> i32
         f += 32;
     }
     let whole = add(dot, part(balance_box, row, f, m - f));
-    restored(whole, sum_cells(balance_box, m))
+    restored(whole, sum_cells(balance_box, m) as i32)
 }

@@ -1,12 +1,13 @@
 -- `box_dot` meets its contract: 32 cells a turn, then the rest. Assumes nothing.
-use mathlib.Core.Path.{_≡_, ap, ap₂, sym, _∙_}
+use mathlib.Core.Path.{_≡_, ap, ap₂, sym, _∙_, subst}
 use native.Mathlib.Nat.{zero-add, le-refl}
 use native.Mathlib.Omega.{arith}
 use Prim.Native.Nat.{ℕ, _+_, _-_, _≤_}
 use lib.IntN.{ℤ, pos, natAbs, _+ℤ_, _*ℤ_}
 use mir.Syntax.{w16, w32}
-use mir.Val.{toZ, ofZ}
+use mir.Val.{SFits, toZ, ofZ}
 use mir.Facts.{toZ-ofZ}
+use Rattle.ints.specs.Bound.{sfits-abs}
 use Rattle.ints.specs.Machine.{read-bounded}
 use Rattle.joint_box.specs.Products.{PartFits, boxSum, centredPart}
 use Rattle.joint_box.proofs.BoxLaws.{part-none, part-of, part-within, part-low, sum-low, more-asks, more, dot-centred}
@@ -98,23 +99,31 @@ whole a =
     (a .add2 .ok) (a .add2 .ensures) ∙ ap (centredPart (start h .args .balance-box .now) (start h .args .row .now) 0) (rest h)
 
 sum-cells-requires : tie.Need-sum-cells-requires Inv-loop μ-loop
-sum-cells-requires c κs = let at = start (head c) in (at .pre .0, at .pre .2)
+sum-cells-requires c κs = let h = head c in let at = start h in (omega (arith, h .loop .inv .0, at .pre .0), at .pre .2)
 
--- their sum, as it comes back
-cells : (d : tie.After-sum-cells Inv-loop μ-loop) → let at = start (head (d .before)) in
-    (toZ w16 (ofZ w16 (d .sum-cells .result)) ≡ boxSum (at .args .balance-box .now) (at .args .m)) ×
-    (natAbs (boxSum (at .args .balance-box .now) (at .args .m)) ≤ 961)
-cells d =
-    let at = start (head (d .before)) in
-    let low = sum-low (at .pre .2) (at .args .m) (at .pre .0) in
-    (ap (λ (q : ℤ). toZ w16 (ofZ w16 q)) (d .sum-cells .ensures) ∙ read-bounded w16 961 low tt, low)
+-- their sum, as it comes back from 16 bits and from 32
+module _ (d : tie.After-sum-cells Inv-loop μ-loop) where
+  abbrev at : tie.Start Inv-loop μ-loop
+  at = start (head (d .before))
+
+  cells-low : natAbs (boxSum (at .args .balance-box .now) (at .args .m)) ≤ 961
+  cells-low = sum-low (at .pre .2) (at .args .m) (at .pre .0)
+
+  cells-16 : toZ w16 (ofZ w16 (d .sum-cells .result)) ≡ boxSum (at .args .balance-box .now) (at .args .m)
+  cells-16 = ap (λ (q : ℤ). toZ w16 (ofZ w16 q)) (d .sum-cells .ensures) ∙ read-bounded w16 961 cells-low tt
+
+  cells-32 : toZ w32 (ofZ w32 (toZ w16 (ofZ w16 (d .sum-cells .result)))) ≡ boxSum (at .args .balance-box .now) (at .args .m)
+  cells-32 = ap (λ (q : ℤ). toZ w32 (ofZ w32 q)) cells-16 ∙ read-bounded w32 961 cells-low tt
+
+cast-restored : tie.Need-cast-restored Inv-loop μ-loop
+cast-restored c = subst (λ (z : ℤ). SFits w32 z) (sym (cells-16 c)) (sfits-abs 961 (cells-low c) tt)
 
 restored-requires : tie.Need-restored-requires Inv-loop μ-loop
 restored-requires c κs =
     let a = c .before in
     let h = head a in (
       rw (whole a) (part-low (first h (start h .args .m) (le-refl (start h .args .m)))),
-      rw (cells c .0) (cells c .1),
+      subst (λ (z : ℤ). natAbs z ≤ 961) (sym (cells-32 c)) (cells-low c),
     )
 
 returns : tie.Need-returns Inv-loop μ-loop
@@ -122,7 +131,7 @@ returns c =
     let d = c .before in
     let a = d .before in
     let at = start (head a) in
-    toZ-ofZ (record { sfits = c .restored .ok }) ∙ c .restored .ensures ∙ ap₂ (λ (x y : ℤ). x +ℤ pos 32768 *ℤ y) (whole a) (cells d .0)
+    toZ-ofZ (record { sfits = c .restored .ok }) ∙ c .restored .ensures ∙ ap₂ (λ (x y : ℤ). x +ℤ pos 32768 *ℤ y) (whole a) (cells-32 d)
     ∙ sym (dot-centred (at .args .balance-box .now) (at .args .row .now) (at .args .m))
 
 pub box-dot-spec : {M : Type 1} → statement M
@@ -142,5 +151,6 @@ box-dot-spec =
     part-requires-2
     add-requires-2
     sum-cells-requires
+    cast-restored
     restored-requires
     returns)

@@ -128,7 +128,8 @@ plus-times-requires : tie.Need-plus-times-requires Inv-loop μ-loop
 plus-times-requires c κs =
     let g = c .before .before .before in
     let at = start (head g) in
-    shift-asks (at .pre .0) (pos 2) _ _ _ (g .guide .result .0) (omega arith) (at .pre .2) (guide-low g) (moved g)
+    let q = shift-asks (at .pre .0) (pos 2) _ _ _ (g .guide .result .0) (omega arith) (at .pre .2) (guide-low g) (moved g) in
+    (q .0, omega arith, q .2)
 
 mul-t19 : tie.Need-mul-t19 Inv-loop μ-loop
 mul-t19 c = let g = c .before .before .before .before in omega (arith, guide-low g, (start (head g)) .pre .0 .guides)
