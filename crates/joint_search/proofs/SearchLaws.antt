@@ -31,7 +31,7 @@ use Rattle.joint_cells.specs.Box.{BoxInBounds, CountsAdded, boxSize}
 use Rattle.joint_box.specs.Products.{boxPart, boxDot}
 use Rattle.joint_search.specs.declared.Sizes.{Sizes}
 use Rattle.joint_search.specs.Levels.{balanceOf}
-use Rattle.joint_search.specs.Search.{levelWeightIn, balanceIn, totalIn, boxIn, pixelsIn, Searchable}
+use Rattle.joint_search.specs.Search.{levelWeightIn, balanceIn, boxIn, pixelsIn, Searchable}
 use Rattle.joint_cells.proofs.ScanLaws.{sum-upto, sum-skip, dot-low}
 use Rattle.joint_search.proofs.LevelsLaws.{balance-next, balance-last, balance-size, balance-same, balance-scale, balance-sum, total-low}
 

@@ -21,7 +21,7 @@ use Rattle.spec.proofs.Sums.{over-le, over-abs, over-constant, pixelCou
 use Rattle.spec.specs.Checks.{SettingsLimits}
 use Rattle.spec.proofs.Limits.{FrameLimits, Pixel}
 use Rattle.spec.proofs.Plans.{smoothing-of}
-use Rattle.spec.proofs.Levels.{levelWeight, weight-table, weight-guided, cell, balance-signed}
+use Rattle.spec.proofs.Levels.{weight-table, weight-guided, cell, balance-signed}
 use Rattle.spec.proofs.Totals.{variance-pos}
 
 span-high : (r c n : ℕ) → span r c n ≤ 2 * r + 1
@@ -96,7 +96,7 @@ cell-abs {p} {s} {t} k c f =
     one true = le-refl 1
     one false = le-refl 1
 
--- T, U, a level's weight, the balance and the weighted sum of differences, where no weight of the frame's guides is more than B in size
+-- T, U, the balance and the weighted sum of differences, where no weight of the frame's guides is more than B in size
 module _ {p : Frame} {s t : ℕ} (k : Pixel p s t) (B : ℕ) (low : (g : ℕ) → g < p .set .guides → natAbs (weight p s t g) ≤ B) where
   weight-size : (x y : ℕ) → InWindow p s t x y → natAbs (weight p s t (guide p x y)) ≤ B
   weight-size x y h = low (guide p x y) (k .good .guide-low x y (h .wide) (h .high))
@@ -108,21 +108,16 @@ module _ {p : Frame} {s t : ℕ} (k : Pixel p s t) (B : ℕ) (low : (g : ℕ) �
   unfolding totalWeight
   total-abs = sum-size _ B weight-size
 
-  -- for readers: every cumulative weight is as small
   pub cumulative-abs : (i : ℕ) → natAbs (cumulative p s t i) ≤ 961 * B
   unfolding cumulative
   cumulative-abs i = sum-size _ B (λ x y h. if-abs (leb (level p x y) i) (weight p s t (guide p x y)) B (weight-size x y h))
-
-  pub level-abs : (i : ℕ) → natAbs (levelWeight p s t i) ≤ 961 * B
-  unfolding levelWeight
-  level-abs i = sum-size _ B (λ x y h. if-abs (eqb (level p x y) i) (weight p s t (guide p x y)) B (weight-size x y h))
 
   pub balance-abs : (c : ℕ) → natAbs (balance p s t c) ≤ 961 * B
   balance-abs c =
       subst (λ (z : ℤ). natAbs z ≤ 961 * B) (sym (balance-signed p s t c))
       (sum-size _ B (λ x y h. sign-abs (leb (level p x y) c) (weight p s t (guide p x y)) B (weight-size x y h)))
 
-  -- for readers: what the answer minimises
+  -- what the answer minimises
   pub differences-abs : (i : ℕ) → i < p .set .levels → natAbs (differences p s t i) ≤ 961 * (B * 1023)
   unfolding differences
   differences-abs i l =

@@ -2,7 +2,7 @@
 use native.Mathlib.Omega.{arith}
 use borrow.Author.Needs.{needs}
 use mathlib.Core.Path.{_∙_}
-use Prim.Native.Nat.{ℕ, _+_, _*_, _-_, _≤_}
+use Prim.Native.Nat.{_+_, _*_, _-_, _≤_}
 use Rattle.joint_rows.specs.Rows.{Lower, PartFilled}
 use Rattle.joint_rows.proofs.RowLaws.{part-start, part-next}
 use Rattle.joint_rows.proofs.rows.fill_part.Statement.{statement}
