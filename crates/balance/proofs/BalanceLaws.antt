@@ -6,8 +6,7 @@ use mathlib.Core.List.{List}
 use Prim.Native.Nat.{ℕ, _+_, _-_, _*_, _^_, _≤_, _<_}
 use native.Mathlib.Nat.{le-trans}
 use native.Mathlib.Omega.{arith}
-use lib.ListN.{getD, set, replicate, length-replicate, length-set}
-use lib.Seq.{getD-set-same, getD-set-other}
+use lib.ListN.{getD}
 use lib.IntN.{ℤ, pos, natAbs, _+ℤ_, _-ℤ_, _*ℤ_, +ℤ-idr}
 use lib.Signed.{mag}
 use mir.Syntax.{w64}
@@ -19,7 +18,7 @@ use Rattle.ints.specs.Machine.{read-bounded}
 use Rattle.ints.specs.Polynomial.{_⊕_, _⊖_, _⊗_, opposite, #_, _≐_, solve2}
 use Rattle.ints.specs.Ring.{one-mul}
 use Rattle.spec.specs.declared.Plan.{Plan}
-use Rattle.spec.specs.Frame.{Frame, table, heaviest, frameOf}
+use Rattle.spec.specs.Frame.{Frame, heaviest, frameOf}
 use Rattle.spec.specs.Checks.{Planned}
 use Rattle.spec.specs.Window.{span}
 use Rattle.spec.specs.Weight.{weight}
@@ -39,7 +38,6 @@ use Rattle.joint_pixel.proofs.SideLaws.{side-low, side-high}
 use Rattle.balance.specs.declared.formula.Formula.{Formula}
 use Rattle.balance.specs.Formula.{weightBy, Weighs, Ramp}
 use Rattle.joint_search.specs.Window.{RowWeighs}
-use Rattle.joint_rows.specs.Rows.{TableRow}
 use Rattle.balance.specs.Balance.{signedWeight, signedBy, PixelsWeighed, Weighed}
 
 side-abs : (c i : ℕ) → natAbs (side c i) ≤ 1
@@ -154,23 +152,10 @@ module _ {b : List ℕ} {z : Plan} {s t : ℕ} {row : List ℕ} {w : Formula} (w
   columns-balance c {x} ex en =
       columns-window _+ℤ_ (pos 0) b z x t (signedWeight (frameOf b) s t c) (wd .planned) s ex en ∙ sym (balance-signed (frameOf b) s t c)
 
--- ---- the table's row of a guide, after k turns
-pub row-start : (p : Frame) (f : ℕ) → TableRow p 0 f (replicate 256 0)
-row-start p f = record { long = length-replicate {A = ℕ} 256 0; is = λ g h. absurd (omega arith); low = λ g h. absurd (omega arith) }
-
-pub row-next : {p : Frame} {k f v : ℕ} {row : List ℕ} → k < 256 → TableRow p k f row → v ≡ table p f k → v ≤ heaviest →
-    TableRow p (k + 1) f (set row k v)
-row-next {p} {k} {f} {v} {row} h r e u = record {
-  long = length-set row k v ∙ r .long;
-  is =
-      λ g l. ⊎-elim (λ q. rw q (getD-set-same row k v 0 (rw (r .long) h) ∙ e)) (λ n. getD-set-other row k g v 0 n ∙ r .is g (omega arith))
-      (eq-or-ne g k);
-  low =
-      λ g l. ⊎-elim
-      (λ q. subst (λ (x : ℕ). x ≤ heaviest) (sym (ap (λ (j : ℕ). getD (set row k v) j 0) q ∙ getD-set-same row k v 0 (rw (r .long) h))) u)
-      (λ n. subst (λ (x : ℕ). x ≤ heaviest) (sym (getD-set-other row k g v 0 n)) (r .low g (omega arith)))
-      (eq-or-ne g k);
-}
+-- ---- one weight more that is not too large
+pub low-next : {rule : ℕ → ℕ} {k v : ℕ} → v ≡ rule k → v ≤ heaviest → ((g : ℕ) → g < k → rule g ≤ heaviest) →
+    (g : ℕ) → g < k + 1 → rule g ≤ heaviest
+low-next {rule} {k} {v} e u low g h = ⊎-elim (λ q. rw q (subst (λ (n : ℕ). n ≤ heaviest) e u)) (λ n. low g (omega arith)) (eq-or-ne g k)
 
 -- ---- kind 1: a row of weights with slope 1 and offset 0
 pub row-formula : {p : Frame} {s t : ℕ} {row : List ℕ} → RowWeighs p s t row → Weighs p s t row (record { slope = pos 1; offset = pos 0 })

@@ -65,7 +65,8 @@ pub fn count_strip(
     add: bool,
 )
     requires { ⌜ Planned (now file) plan ⌝ }
-    requires { ⌜ (y < plan .height) × (first + count ≤ plan .width) × (2 * (plan .width * plan .levels) + 2 * plan .levels ≤ length (now blocks)) ⌝ }
+    requires { ⌜ (y < plan .height) × (first + count ≤ plan .width)
+        × (2 * (plan .width * plan .levels) + 2 * plan .levels ≤ length (now blocks)) ⌝ }
     requires { ⌜ ((x : ℕ) → x < plan .width → (a + x * apart < 2 * plan .width + 2) × (b + x * apart < 2 * plan .width + 2)) ⌝ }
     requires { ⌜ Able add (plan .levels) (stripD (frameOf (now file)) y a b apart first count) (now blocks) ⌝ }
     ensures { λ _. ⌜ Put add (plan .levels) (stripD (frameOf (now (file .entry))) y a b apart first count) (now (blocks .entry))
@@ -169,7 +170,8 @@ pub fn count_row_if(
     add: bool,
 )
     requires { ⌜ Planned (now file) plan ⌝ }
-    requires { ⌜ (s < plan .width) × (on ≡ true → y < plan .height) × (2 * (plan .width * plan .levels) + 2 * plan .levels ≤ length (now blocks)) ⌝ }
+    requires { ⌜ (s < plan .width) × (on ≡ true → y < plan .height)
+        × (2 * (plan .width * plan .levels) + 2 * plan .levels ≤ length (now blocks)) ⌝ }
     requires { ⌜ Able add (plan .levels) (λ m i. when on (rowD (frameOf (now file)) s y m i)) (now blocks) ⌝ }
     ensures { λ _. ⌜ Put add (plan .levels) (λ m i. when on (rowD (frameOf (now (file .entry))) s y m i)) (now (blocks .entry))
         (now (blocks .exit)) ⌝ }

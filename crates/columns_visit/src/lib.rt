@@ -42,7 +42,8 @@ pub fn answer_from(
     cut: Level,
     shifts: u64,
 ) -> Found
-    requires { ⌜ (plan .width ≤ 1024) × (plan .levels ≤ 1024) × (2 * (plan .width * plan .levels) + 2 * plan .levels ≤ length (now blocks)) ⌝ }
+    requires { ⌜ (plan .width ≤ 1024) × (plan .levels ≤ 1024)
+        × (2 * (plan .width * plan .levels) + 2 * plan .levels ≤ length (now blocks)) ⌝ }
     requires { ⌜ Answerable coefficients (plan .guides) monotone (cut .0) shifts below
         (windowCounts plan (now blocks)) (windowGuides plan (now blocks)) ⌝ }
     ensures { λ f. ⌜ (FoundAt coefficients (windowCounts plan (now (blocks .entry))) (windowGuides plan (now (blocks .entry))) f)

@@ -125,7 +125,8 @@ pub fn write(
     table: &[u16],
     output: &mut [u8],
 ) -> Written
-    ensures { λ r. ⌜ Writes settings (now (values .entry)) (now (guides .entry)) (now (table .entry)) (now (output .entry)) r (now (output .exit)) ⌝ }
+    ensures { λ r. ⌜ Writes settings (now (values .entry)) (now (guides .entry)) (now (table .entry))
+        (now (output .entry)) r (now (output .exit)) ⌝ }
 {
     let verdict = check_writing(settings, values, guides, table, output.len());
     if stops(verdict) {

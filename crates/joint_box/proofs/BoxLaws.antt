@@ -83,19 +83,19 @@ module _ (bx : List ℤ) (row : List ℕ) where
       ∙ sym (ap₂ (λ (p a : ℤ). p +ℤ pos 32768 *ℤ a) (part-next bx _ 0 n) (part-next bx _ 0 n))
 
 -- what is left of a weight is a signed number of 16 bits
-pub centred-low : (n : ℕ) → n ≤ 65535 → natAbs (centred n) ≤ 32768
-centred-low n h = go (ltb n 32768)
+centred-sizes : (n : ℕ) → n ≤ 65535 → (natAbs (centred n) ≤ 32768) × (mag (centred n) < 32768)
+centred-sizes n h = go (ltb n 32768)
   where
-    go : (b : Bool) → natAbs (cond b (negsuc (32768 - suc n)) (pos (n - 32768))) ≤ 32768
-    go true = omega arith
-    go false = omega arith
+    go : (b : Bool) → (natAbs (cond b (negsuc (32768 - suc n)) (pos (n - 32768))) ≤ 32768)
+        × (mag (cond b (negsuc (32768 - suc n)) (pos (n - 32768))) < 32768)
+    go true = (omega arith, omega arith)
+    go false = (omega arith, omega arith)
+
+pub centred-low : (n : ℕ) → n ≤ 65535 → natAbs (centred n) ≤ 32768
+centred-low n h = centred-sizes n h .0
 
 pub centred-fits : (n : ℕ) → n ≤ 65535 → SFits w16 (centred n)
-centred-fits n h = record { sfits = go (ltb n 32768) }
-  where
-    go : (b : Bool) → mag (cond b (negsuc (32768 - suc n)) (pos (n - 32768))) < 32768
-    go true = omega arith
-    go false = omega arith
+centred-fits n h = record { sfits = centred-sizes n h .1 }
 
 -- ---- the cells
 module _ {bx : List ℤ} (lo : BoxInBounds bx) where
@@ -151,11 +151,8 @@ module _ {bx : List ℤ} {row : List ℕ} where
     pub more-asks : (natAbs (toZ w32 d) ≤ 31490048) × (natAbs (toZ w32 (ofZ w32 q)) ≤ 31490048)
     more-asks = (before-low, rw back more-low)
 
-    pub more-is : {v : ℤ} → v ≡ toZ w32 d +ℤ toZ w32 (ofZ w32 q) → v ≡ centredPart bx row f (n + k)
-    more-is e = e ∙ ap₂ (λ (x y : ℤ). x +ℤ y) ed (back ∙ eq) ∙ sym (part-join bx _ f n k)
-
     pub more : {v : ℤ} → mag v < 2 ^ hbits w32 → v ≡ toZ w32 d +ℤ toZ w32 (ofZ w32 q) → toZ w32 (ofZ w32 v) ≡ centredPart bx row f (n + k)
-    more s e = toZ-ofZ (record { sfits = s }) ∙ more-is e
+    more s e = toZ-ofZ (record { sfits = s }) ∙ e ∙ ap₂ (λ (x y : ℤ). x +ℤ y) ed (back ∙ eq) ∙ sym (part-join bx _ f n k)
 
   -- ---- the first cells of the box, as the search asks for them
   pub part-of : {m : ℕ} → m ≤ 256 → RowFits m row → BoxInBounds bx → PartFits m 0 bx row

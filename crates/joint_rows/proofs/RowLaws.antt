@@ -12,7 +12,7 @@ use lib.IntN.{pos}
 use Rattle.spec.specs.declared.Plan.{Plan}
 use Rattle.spec.specs.Base.{distance}
 use Rattle.spec.specs.Bytes.{AllBytes, be16}
-use Rattle.spec.specs.Frame.{guide, table, heaviest, plane, pixelGuide, builtIn, frameOf}
+use Rattle.spec.specs.Frame.{Frame, guide, table, heaviest, plane, pixelGuide, builtIn, frameOf}
 use Rattle.spec.specs.Checks.{Planned}
 use Rattle.spec.proofs.Lists.{part-long, part-cell}
 use Rattle.spec.proofs.Limits.{built-in-low, be16-low}
@@ -21,7 +21,7 @@ use Rattle.spec.proofs.Levels.{weight-table}
 use Rattle.window.proofs.PixelLaws.{guides-range}
 use Rattle.joint_pixel.proofs.BitLaws.{lt-or-le, eq-or-ne}
 use Rattle.joint_search.specs.Window.{RowWeighs}
-use Rattle.joint_rows.specs.Rows.{Mirror, PartFilled, TableRow, exchanged}
+use Rattle.joint_rows.specs.Rows.{Made, Mirror, TableRow, exchanged, lowFirst}
 use Rattle.joint_rows.proofs.TableLaws.{weight-place}
 
 -- the mirrored constants, moved so that the centre's is at its guide
@@ -76,84 +76,51 @@ module _ {b : List ℕ} {z : Plan} (pl : Planned b z) {s t : ℕ} (hs : s < z .w
     row-weighs one r =
         table-weighs one (omega (arith, r .long, few)) (λ h l. r .is h (rw (facts pl .guides) l)) (λ h l. r .low h (rw (facts pl .guides) l))
 
--- ---- lists that are made number by number: after k turns the first k are there
-pub record Made (F : ℕ → ℕ) (k : ℕ) (xs ys : List ℕ) : Type 0 where
-  pub long : length ys ≡ length xs
-  pub is : (f : ℕ) → f < k → getD ys f 0 ≡ F f
+-- ---- numbers made one after the other: none at first, one more, as many more; and by the same rule in other words
+pub made-start : (rule : ℕ → ℕ) (from : ℕ) (xs : List ℕ) → Made rule from 0 xs xs
+made-start rule from xs = record { long = refl; is = λ g h l. absurd (omega arith); before = λ g h. refl }
 
-pub made-start : (F : ℕ → ℕ) (xs : List ℕ) → Made F 0 xs xs
-made-start F xs = record { long = refl; is = λ f h. absurd (omega arith) }
-
-pub made-next : {F : ℕ → ℕ} (k v : ℕ) (xs ys : List ℕ) → k < length xs → v ≡ F k → Made F k xs ys → Made F (k + 1) xs (set ys k v)
-made-next k v xs ys h e r = record {
-  long = length-set ys k v ∙ r .long;
+pub made-next : {rule : ℕ → ℕ} {from k : ℕ} (j v : ℕ) {xs ys : List ℕ} → j ≡ from + k → j < length xs → v ≡ rule j → Made rule from k xs ys →
+    Made rule from (k + 1) xs (set ys j v)
+made-next {rule} {from} {k} j v {xs} {ys} ej h e r = record {
+  long = length-set ys j v ∙ r .long;
   is =
-      λ f l. ⊎-elim (λ q. rw q (getD-set-same ys k v 0 (rw (r .long) h) ∙ e)) (λ n. getD-set-other ys k f v 0 n ∙ r .is f (omega arith))
-      (eq-or-ne f k);
+      λ g l u. ⊎-elim (λ q. ap (λ (i : ℕ). getD (set ys j v) i 0) q ∙ getD-set-same ys j v 0 (rw (r .long) h) ∙ e ∙ ap rule (sym q))
+      (λ n. getD-set-other ys j g v 0 n ∙ r .is g l (omega arith)) (eq-or-ne g j);
+  before = λ g l. getD-set-other ys j g v 0 (λ q. omega arith) ∙ r .before g l;
 }
 
--- ---- a row of the file's table: its bytes low byte first, then exchanged
-pub low-first : (b : List ℕ) (first g : ℕ) → getD b (first + 2 * g) 0 < 256 → getD b (first + 2 * g + 1) 0 < 256 →
-    exchanged (getD b (first + 2 * g) 0 + getD b (first + 2 * g + 1) 0 * 256) ≡ plane b first g
-unfolding exchanged be16
-low-first b first g h l =
+pub made-more : {rule : ℕ → ℕ} {from n j k : ℕ} {xs ys zs : List ℕ} → j ≡ from + n → Made rule from n xs ys → Made rule j k ys zs →
+    Made rule from (n + k) xs zs
+made-more {j = j} e r q = record {
+  long = q .long ∙ r .long;
+  is = λ g l u. ⊎-elim (λ h. q .before g h ∙ r .is g l (omega arith)) (λ h. q .is g h (omega arith)) (lt-or-le g j);
+  before = λ g l. q .before g (omega arith) ∙ r .before g l;
+}
+
+-- the first k of 256 are those of the table, and none of them is too large: its row
+pub row-made : {p : Frame} {rule : ℕ → ℕ} {m k f : ℕ} {xs row : List ℕ} → Made rule 0 k xs row → length xs ≡ 256 → m ≤ k →
+    ((g : ℕ) → g < m → rule g ≡ table p f g) → ((g : ℕ) → g < m → rule g ≤ heaviest) → TableRow p m f row
+row-made r e h same low = record {
+  long = r .long ∙ e;
+  is = λ g l. r .is g (omega arith) (omega arith) ∙ same g l;
+  low = λ g l. rw (r .is g (omega arith) (omega arith)) (low g l);
+}
+
+-- ---- a number of the file as its bytes stand, and exchanged
+pub low-first : (b : List ℕ) → AllBytes b → (first g : ℕ) → exchanged (lowFirst b first g) ≡ plane b first g
+unfolding lowFirst exchanged be16
+low-first b bytes first g =
     let x = getD b (first + 2 * g) 0 in
     let y = getD b (first + 2 * g + 1) 0 in
+    let h : x < 256 = bytes (first + 2 * g) in
     let e : x + y * 256 ≡ y * 256 + x = omega arith in
     ap₂ (λ (p q : ℕ). p * 256 + q) (ap (λ (n : ℕ). n % 256) e ∙ digits-mod y h) (ap (λ (n : ℕ). n / 256) e ∙ digits-div y h)
 
--- the first k numbers have been copied
-pub record Copied (b : List ℕ) (first k : ℕ) (xs ys : List ℕ) : Type 0 where
-  pub long : length ys ≡ length xs
-  pub is : (g : ℕ) → g < k → exchanged (getD ys g 0) ≡ plane b first g
+pub plane-on : (b : List ℕ) (first from k : ℕ) → plane b (first + 2 * from) k ≡ plane b first (from + k)
+plane-on b first from k = let e : first + 2 * from + 2 * k ≡ first + 2 * (from + k) = omega arith in ap (be16 b) e
 
-pub copied-start : (b : List ℕ) (first : ℕ) (xs : List ℕ) → Copied b first 0 xs xs
-copied-start b first xs = record { long = refl; is = λ g h. absurd (omega arith) }
-
-pub copied-next : {b : List ℕ} {first k : ℕ} (v : ℕ) {xs ys : List ℕ} → k < length xs → exchanged v ≡ plane b first k → Copied b first k xs ys →
-    Copied b first (k + 1) xs (set ys k v)
-copied-next {k = k} v {ys = ys} h e r = record {
-  long = length-set ys k v ∙ r .long;
-  is =
-      λ g l. ⊎-elim (λ q. rw q (ap exchanged (getD-set-same ys k v 0 (rw (r .long) h)) ∙ e))
-      (λ n. ap exchanged (getD-set-other ys k g v 0 n) ∙ r .is g (omega arith)) (eq-or-ne g k);
-}
-
--- a part of the row, number by number
-pub part-start : (b : List ℕ) (first from : ℕ) (row : List ℕ) → PartFilled b first from 0 row row
-part-start b first from row = record { long = refl; is = λ g h l. absurd (omega arith); before = λ g h. refl }
-
-pub part-next : {b : List ℕ} {first from k v : ℕ} {old row : List ℕ} → from + k < length old → v ≡ plane b (first + 2 * from) k →
-    PartFilled b first from k old row → PartFilled b first from (k + 1) old (set row (from + k) v)
-part-next {b} {first} {from} {k} {v} {old} {row} h e r = record {
-  long = length-set row (from + k) v ∙ r .long;
-  is =
-      λ g l u. ⊎-elim
-      (λ q. ap (λ (j : ℕ). getD (set row (from + k) v) j 0) q ∙ getD-set-same row (from + k) v 0 (rw (r .long) h) ∙ e ∙ ap (be16 b) moved
-      ∙ ap (plane b first) (sym q))
-      (λ n. getD-set-other row (from + k) g v 0 n ∙ r .is g l (omega arith)) (eq-or-ne g (from + k));
-  before = λ g l. getD-set-other row (from + k) g v 0 (λ q. omega arith) ∙ r .before g l;
-}
-  where
-    moved : first + 2 * from + 2 * k ≡ first + 2 * (from + k)
-    moved = omega arith
-
--- the first numbers of the row are there: none at first, then part after part
-pub record Filled (b : List ℕ) (first k : ℕ) (row : List ℕ) : Type 0 where
-  pub long : length row ≡ 256
-  pub is : (g : ℕ) → g < k → getD row g 0 ≡ plane b first g
-
-pub filled-start : (b : List ℕ) (first : ℕ) {row : List ℕ} → length row ≡ 256 → Filled b first 0 row
-filled-start b first e = record { long = e; is = λ g h. absurd (omega arith) }
-
-pub filled-next : {b : List ℕ} {first from n : ℕ} {old new : List ℕ} → Filled b first from old → PartFilled b first from n old new →
-    Filled b first (from + n) new
-filled-next {from = from} f p = record {
-  long = p .long ∙ f .long;
-  is = λ g h. ⊎-elim (λ l. p .before g l ∙ f .is g l) (λ l. p .is g l h) (lt-or-le g from);
-}
-
--- all of them: the table's row
+-- ---- the file's own row
 module _ {b : List ℕ} {z : Plan} (pl : Planned b z) {f : ℕ} (hf : f < z .guides) (own : z .weights ≡ 0 → ⊥) where
   row-place : (g : ℕ) → z .table + 2 * (f * z .guides) + 2 * g ≡ z .table + 2 * (f * z .guides + g)
   row-place g = omega arith
@@ -164,10 +131,6 @@ module _ {b : List ℕ} {z : Plan} (pl : Planned b z) {f : ℕ} (hf : f < z .gui
       let last = weight-place pl own f (z .guides - 1) hf (omega arith) in
       omega (arith, last .1, row-place (z .guides - 1))
 
-  pub row-filled : {k : ℕ} {row : List ℕ} → AllBytes b → z .guides ≤ k → Filled b (z .table + 2 * (f * z .guides)) k row →
-      TableRow (frameOf b) (z .guides) f row
-  row-filled bytes h r = record {
-    long = r .long;
-    is = λ g l. r .is g (omega arith) ∙ ap (be16 b) (row-place g) ∙ sym (table-own pl own f g);
-    low = λ g l. rw (r .is g (omega arith)) (be16-low b bytes _);
-  }
+  pub row-own : {k : ℕ} {xs row : List ℕ} → AllBytes b → length xs ≡ 256 → z .guides ≤ k →
+      Made (plane b (z .table + 2 * (f * z .guides))) 0 k xs row → TableRow (frameOf b) (z .guides) f row
+  row-own bytes e h r = row-made r e h (λ g l. ap (be16 b) (row-place g) ∙ sym (table-own pl own f g)) (λ g l. be16-low b bytes _)

@@ -4,9 +4,9 @@ use spec::Plan;
 ghost use mathlib.Core.Path.{_≡_};
 ghost use Prim.Native.Nat.{_+_, _*_, _<_, _≤_};
 ghost use lib.ListN.{length};
-ghost use Rattle.spec.specs.Frame.{frameOf};
+ghost use Rattle.spec.specs.Frame.{frameOf, plane};
 ghost use Rattle.spec.specs.Checks.{Planned};
-ghost use Rattle.joint_rows.specs.Rows.{Lower, Mirror, PartFilled, TableRow, WeightRows, exchanged};
+ghost use Rattle.joint_rows.specs.Rows.{Made, Mirror, TableRow, WeightRows, exchanged, lowFirst};
 
 // The built-in weights from 255 guides below the centre's to 255 above: guide f's row begins at place 255 - f.
 pub fn mirror(out: &mut [u16])
@@ -34,7 +34,7 @@ pub fn built_rows(plan: Plan, out: &mut [u16])
 // n numbers of a file from a byte on, low byte first: a plain copy of the bytes, which is fast.
 fn copy_low_first(file: &[u8], first: usize, n: usize, part: &mut [u16; 64])
     requires { ⌜ (n ≤ 64) × (first + 2 * n ≤ length (now file)) × (length (now part) ≡ 64) ⌝ }
-    ensures { λ _. ⌜ Lower (now (file .entry)) first n (now (part .exit)) ⌝ }
+    ensures { λ _. ⌜ Made (lowFirst (now (file .entry)) first) 0 n (now (part .entry)) (now (part .exit)) ⌝ }
 {
     let mut k = 0;
     while k < n {
@@ -55,7 +55,7 @@ fn exchanged(v: u16) -> u16
 // numbers at a time and keeps them in registers.
 fn fill_part(file: &[u8], first: usize, from: usize, n: usize, row: &mut [u16; 256])
     requires { ⌜ (n ≤ 64) × (from + n ≤ 256) × (first + 2 * (from + n) ≤ length (now file)) × (length (now row) ≡ 256) ⌝ }
-    ensures { λ _. ⌜ PartFilled (now (file .entry)) first from n (now (row .entry)) (now (row .exit)) ⌝ }
+    ensures { λ _. ⌜ Made (plane (now (file .entry)) first) from n (now (row .entry)) (now (row .exit)) ⌝ }
 {
     let mut part = [0u16; 64];
     copy_low_first(file, first + 2 * from, n, &mut part);

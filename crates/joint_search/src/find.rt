@@ -1,5 +1,5 @@
-// Levels looked through one by one, a shift counted for each, and the box's cut point moved along with the search: a level's counts are at hand then.
-// And the cut point moved to a level that is known.
+// Kind 1: levels looked through one by one, a shift counted for each, and the box's cut point moved along with the search, because a level's counts
+// are at hand then. Kind 2 finds its level elsewhere: the cut point moved to a level that is known.
 use crate::Sizes;
 use joint_cells::level::level_weight;
 use joint_cells::raise::raise_level;
@@ -40,8 +40,8 @@ pub fn climb(
     requires { ⌜ (Searchable sizes (now counts) (now words)) × (RowFits (sizes .guides) (now row)) ⌝ }
     requires { ⌜ (from .0 < sizes .levels) × (bal ≡ balanceIn sizes (now counts) (now row) (from .0)) × (shifts < 1099511627776)
         × (now «balance_box» ≡ boxIn sizes (now counts) (from .0)) ⌝ }
-    ensures { λ r. ⌜ (Climbed (balanceIn sizes (now (counts .entry)) (now (row .entry))) (sizes .levels) (from .0) (r .level .0) shifts (r .shifts))
-        × (now («balance_box» .exit) ≡ boxIn sizes (now (counts .entry)) (r .level .0)) ⌝ }
+    ensures { λ r. ⌜ (Climbed (balanceIn sizes (now (counts .entry)) (now (row .entry))) (sizes .levels) (from .0) (r .level .0) shifts
+        (r .shifts)) × (now («balance_box» .exit) ≡ boxIn sizes (now (counts .entry)) (r .level .0)) ⌝ }
 {
     let mut i = from.0;
     let mut b = bal;

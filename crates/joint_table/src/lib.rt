@@ -77,7 +77,8 @@ pub fn visit(
     words: &[u64],
 ) -> Visit
     requires { ⌜ (Counted (now file) plan column row (now counts) (now words)) × (WeightRows plan (now weights)) × (plan .kind ≡ 1) ⌝ }
-    requires { ⌜ (cut .0 < plan .levels) × (shifts ≤ 4294967296) × (now «balance_box» ≡ balanceBox (frameOf (now file)) column row (cut .0)) ⌝ }
+    requires { ⌜ (cut .0 < plan .levels) × (shifts ≤ 4294967296)
+        × (now «balance_box» ≡ balanceBox (frameOf (now file)) column row (cut .0)) ⌝ }
     ensures { λ r. ⌜ (stateOf r ≡ arrive (frameOf (now (file .entry))) column row (cut .0) shifts)
         × (now («balance_box» .exit) ≡ balanceBox (frameOf (now (file .entry))) column row (r .cut .0)) ⌝ }
 {

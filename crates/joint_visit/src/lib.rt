@@ -31,7 +31,8 @@ pub fn enter(
     requires { ⌜ (Fresh (now file) plan column row (now counts) (now words)) × (Blank (plan .levels) (now histogram)) ⌝ }
     requires { ⌜ WeightRows plan (now weights) ⌝ }
     ensures { λ r. ⌜ JointVisited (frameOf (now (file .entry))) (arrive (frameOf (now (file .entry))) column row 0 0) r
-        (now (counts .entry)) (now (words .entry)) (now (counts .exit)) (now (words .exit)) (now («balance_box» .exit)) (now (histogram .exit)) ⌝ }
+        (now (counts .entry)) (now (words .entry)) (now (counts .exit)) (now (words .exit))
+        (now («balance_box» .exit)) (now (histogram .exit)) ⌝ }
 {
     store_start::build(
         file,
@@ -88,7 +89,8 @@ pub fn slide(
         (now histogram)) ⌝ }
     requires { ⌜ (WeightRows plan (now weights)) × (Within plan from) ⌝ }
     ensures { λ r. ⌜ JointVisited (frameOf (now (file .entry))) (arrive (frameOf (now (file .entry))) column row (from .cut .0) (from .shifts)) r
-        (now (counts .entry)) (now (words .entry)) (now (counts .exit)) (now (words .exit)) (now («balance_box» .exit)) (now (histogram .exit)) ⌝ }
+        (now (counts .entry)) (now (words .entry)) (now (counts .exit)) (now (words .exit))
+        (now («balance_box» .exit)) (now (histogram .exit)) ⌝ }
 {
     let step = line::step_to(plan, from.column, from.row, column, row);
     let mut entering = [0u16; 62];

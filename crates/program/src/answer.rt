@@ -46,7 +46,8 @@ fn put_guided(
 ) -> usize
     requires { ⌜ Admitted (now input) plan ⌝ }
     requires { ⌜ TextRoom (now out) at (guidedText (plan .kind) (filterEnd (frameOf (now input)) .shifts)) ⌝ }
-    ensures { λ r. ⌜ Puts (now (out .entry)) (now (out .exit)) at r (guidedText (plan .kind) (filterEnd (frameOf (now (input .entry))) .shifts)) ⌝ }
+    ensures { λ r. ⌜ Puts (now (out .entry)) (now (out .exit)) at r
+        (guidedText (plan .kind) (filterEnd (frameOf (now (input .entry))) .shifts)) ⌝ }
 {
     if plan.kind != 2 {
         return at;

@@ -39,7 +39,8 @@ badRadius settings = ltb 15 (settings .radius)
 
 -- checks 2 to 5, which the writer shares
 unfoldable pub settingsOutcome : Settings → Outcome
-settingsOutcome settings = refuse 2 (badSize settings) ▷ refuse 3 (badCounts settings) ▷ refuse 4 (badKind settings) ▷ refuse 5 (badRadius settings)
+settingsOutcome settings =
+    refuse 2 (badSize settings) ▷ refuse 3 (badCounts settings) ▷ refuse 4 (badKind settings) ▷ refuse 5 (badRadius settings)
 
 -- document 01's limits, as checks 2 to 5 leave them (`settings-limits` of proofs/Limits)
 pub record SettingsLimits (settings : Settings) : Type 0 where
@@ -53,7 +54,8 @@ pub record SettingsLimits (settings : Settings) : Type 0 where
   pub guides-low : 2 ≤ settings .guides
   pub guides-high : settings .guides ≤ 256
   pub radius-high : settings .radius ≤ 15
-  pub kinds : ((settings .kind ≡ 1) × (settings .smoothing ≡ 0)) ⊎ ((settings .kind ≡ 2) × (1 ≤ settings .smoothing) × (settings .smoothing ≤ 65025))
+  pub kinds : ((settings .kind ≡ 1) × (settings .smoothing ≡ 0))
+      ⊎ ((settings .kind ≡ 2) × (1 ≤ settings .smoothing) × (settings .smoothing ≤ 65025))
 
 -- check 6, of a file whose trailer begins at an offset
 unfoldable pub badDistance : ℕ → Trailer → Bool

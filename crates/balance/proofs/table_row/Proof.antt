@@ -2,16 +2,19 @@
 use native.Mathlib.Omega.{arith}
 use borrow.Author.Needs.{needs}
 use Prim.Native.Nat.{ℕ, _-_, _≤_, _<_}
-use Rattle.spec.specs.Frame.{frameOf}
+use mathlib.Core.Path.{_≡_, refl}
+use lib.ListN.{length, length-replicate}
+use Rattle.spec.specs.Frame.{table, heaviest, frameOf}
 use Rattle.window.proofs.PixelLaws.{guides-high}
-use Rattle.joint_rows.specs.Rows.{TableRow}
-use Rattle.balance.proofs.BalanceLaws.{row-start, row-next}
+use Rattle.joint_rows.specs.Rows.{Made}
+use Rattle.joint_rows.proofs.RowLaws.{made-start, made-next, row-made}
+use Rattle.balance.proofs.BalanceLaws.{low-next}
 use Rattle.balance.proofs.table_row.Statement.{statement}
 use Rattle.balance.proofs.table_row.Tie as tie
 
 abbrev Inv-loop : tie.InvT-loop
 Inv-loop file plan f built m out₀ k₀ out k =
-    (k ≤ m) × TableRow (frameOf file) k (f .0) out
+    (k ≤ m) × Made (table (frameOf file) (f .0)) 0 k out₀ out × ((g : ℕ) → g < k → table (frameOf file) (f .0) g ≤ heaviest) × (length out₀ ≡ 256)
 
 abbrev μ-loop : tie.MeasureT-loop
 μ-loop file plan f built m out₀ k₀ out k = m - k
@@ -23,7 +26,7 @@ constants-requires : tie.Need-constants-requires Inv-loop μ-loop
 constants-requires c κs = search needs
 
 loop-holds : tie.Need-loop-holds Inv-loop μ-loop
-loop-holds c = (omega arith, row-start _ _)
+loop-holds c = (omega arith, made-start _ _ _, (λ g h. absurd (omega arith)), length-replicate {A = ℕ} 256 0)
 
 cast-t12 : tie.Need-cast-t12 Inv-loop μ-loop
 cast-t12 c = let t = c .before in omega (arith, t .loop-test .taken, guides-high (start (t .before) .pre .0))
@@ -36,15 +39,15 @@ weight-at-requires c κs =
 
 mul-out : tie.Need-mul-out Inv-loop μ-loop
 mul-out c = let t = c .before .before in let at =
-    start (t .before) in omega (arith, t .loop-test .taken, guides-high (at .pre .0), t .before .loop .inv .1 .long)
+    start (t .before) in omega (arith, t .loop-test .taken, guides-high (at .pre .0), t .before .loop .inv .1 .long, t .before .loop .inv .3)
 
 array-write-out : tie.Need-array-write-out Inv-loop μ-loop
 array-write-out c = let t = c .before .before in let at =
-    start (t .before) in omega (arith, t .loop-test .taken, guides-high (at .pre .0), t .before .loop .inv .1 .long)
+    start (t .before) in omega (arith, t .loop-test .taken, guides-high (at .pre .0), t .before .loop .inv .1 .long, t .before .loop .inv .3)
 
 add-k : tie.Need-add-k Inv-loop μ-loop
 add-k c = let t = c .before .before in let at =
-    start (t .before) in omega (arith, t .loop-test .taken, guides-high (at .pre .0), t .before .loop .inv .1 .long)
+    start (t .before) in omega (arith, t .loop-test .taken, guides-high (at .pre .0), t .before .loop .inv .1 .long, t .before .loop .inv .3)
 
 loop-less : tie.Need-loop-less Inv-loop μ-loop
 loop-less c = omega (arith, c .before .before .loop-test .taken)
@@ -52,18 +55,20 @@ loop-less c = omega (arith, c .before .before .loop-test .taken)
 loop-again : tie.Need-loop-again Inv-loop μ-loop
 loop-again c =
     let t = c .before .before in
-    let at = start (t .before) in (
+    let h = t .before in
+    let w = c .weight-at .ensures in (
       omega (arith, t .loop-test .taken),
-      row-next (omega (arith, t .loop-test .taken, guides-high (at .pre .0))) (t .before .loop .inv .1)
-          (c .weight-at .ensures .0) (c .weight-at .ensures .1),
+      made-next (h .loop .k) _ (omega arith) (omega (arith, t .loop-test .taken, guides-high (start h .pre .0), h .loop .inv .3)) (w .0)
+          (h .loop .inv .1),
+      low-next (w .0) (w .1) (h .loop .inv .2),
+      h .loop .inv .3,
     )
 
 returns : tie.Need-returns Inv-loop μ-loop
 returns c =
     let h = c .before in
-    let row = h .loop .inv .1 in
-    let all : (g : ℕ) → g < start h .args .plan .guides → g < h .loop .k = λ g l. omega (arith, h .loop .inv .0, c .loop-test .left) in
-    record { long = row .long; is = λ g l. row .is g (all g l); low = λ g l. row .low g (all g l) }
+    let all : start h .args .plan .guides ≤ h .loop .k = omega (arith, h .loop .inv .0, c .loop-test .left) in
+    row-made (h .loop .inv .1) (h .loop .inv .3) all (λ g l. refl) (λ g l. h .loop .inv .2 g (omega arith))
 
 pub table-row-spec : {M : Type 1} → statement M
 table-row-spec =

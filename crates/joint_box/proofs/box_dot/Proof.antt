@@ -109,8 +109,11 @@ module _ (d : tie.After-sum-cells Inv-loop μ-loop) where
   cells-low : natAbs (boxSum (at .args .balance-box .now) (at .args .m)) ≤ 961
   cells-low = sum-low (at .pre .2) (at .args .m) (at .pre .0)
 
+  cells-are : d .sum-cells .result ≡ boxSum (at .args .balance-box .now) (at .args .m)
+  cells-are = d .sum-cells .ensures
+
   cells-16 : toZ w16 (ofZ w16 (d .sum-cells .result)) ≡ boxSum (at .args .balance-box .now) (at .args .m)
-  cells-16 = ap (λ (q : ℤ). toZ w16 (ofZ w16 q)) (d .sum-cells .ensures) ∙ read-bounded w16 961 cells-low tt
+  cells-16 = ap (λ (q : ℤ). toZ w16 (ofZ w16 q)) cells-are ∙ read-bounded w16 961 cells-low tt
 
   cells-32 : toZ w32 (ofZ w32 (toZ w16 (ofZ w16 (d .sum-cells .result)))) ≡ boxSum (at .args .balance-box .now) (at .args .m)
   cells-32 = ap (λ (q : ℤ). toZ w32 (ofZ w32 q)) cells-16 ∙ read-bounded w32 961 cells-low tt

@@ -40,8 +40,11 @@ weight e = getD (start (turn e .before) .args .row .now) (place e) 0
 light : (e : tie.After-centred Inv-loop μ-loop) → weight e ≤ 65535
 light e = start (turn e .before) .pre .weights (place e) (omega arith) (omega (arith, turn e .loop-test .taken))
 
+factor : (e : tie.After-centred Inv-loop μ-loop) → e .centred .result ≡ centred (weight e)
+factor e = e .centred .ensures
+
 factor-back : (e : tie.After-centred Inv-loop μ-loop) → toZ w16 (ofZ w16 (e .centred .result)) ≡ centred (weight e)
-factor-back e = ap (λ (q : ℤ). toZ w16 (ofZ w16 q)) (e .centred .ensures) ∙ read w16 (centred-fits (weight e) (light e))
+factor-back e = ap (λ (q : ℤ). toZ w16 (ofZ w16 q)) (factor e) ∙ read w16 (centred-fits (weight e) (light e))
 
 -- the product is the turn's part
 product-is : (p : tie.After-product Inv-loop μ-loop) → let at = start (turn (p .before) .before) in

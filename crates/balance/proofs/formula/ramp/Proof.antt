@@ -2,19 +2,20 @@
 use mathlib.Core.Path.{refl}
 use native.Mathlib.Omega.{arith}
 use Prim.Native.Nat.{_-_, _≤_}
-use Rattle.joint_rows.proofs.RowLaws.{Made, made-start, made-next}
+use Rattle.joint_rows.specs.Rows.{Made}
+use Rattle.joint_rows.proofs.RowLaws.{made-start, made-next}
 use Rattle.balance.proofs.formula.ramp.Statement.{statement}
 use Rattle.balance.proofs.formula.ramp.Tie as tie
 
 abbrev Inv-loop : tie.InvT-loop
 Inv-loop row₀ m k₀ row k =
-    (k ≤ m) × Made (λ f. f) k row₀ row
+    (k ≤ m) × Made (λ f. f) 0 k row₀ row
 
 abbrev μ-loop : tie.MeasureT-loop
 μ-loop row₀ m k₀ row k = m - k
 
 loop-holds : tie.Need-loop-holds Inv-loop μ-loop
-loop-holds c = (omega arith, made-start _ _)
+loop-holds c = (omega arith, made-start _ _ _)
 
 cast-row : tie.Need-cast-row Inv-loop μ-loop
 cast-row c = omega (arith, c .before .before .pre)
@@ -32,7 +33,7 @@ loop-less : tie.Need-loop-less Inv-loop μ-loop
 loop-less c = omega arith
 
 loop-again : tie.Need-loop-again Inv-loop μ-loop
-loop-again c = (omega arith, made-next (c .before .loop .k) _ _ _ (omega (arith, c .before .before .pre)) refl (c .before .loop .inv .1))
+loop-again c = (omega arith, made-next (c .before .loop .k) _ (omega arith) (omega (arith, c .before .before .pre)) refl (c .before .loop .inv .1))
 
 same-length : tie.Need-same-length Inv-loop μ-loop
 same-length c = c .before .loop .inv .1 .long
@@ -43,7 +44,7 @@ returns c =
     record {
       long = omega (arith, h .loop .inv .1 .long, h .before .pre .0);
       is =
-          λ f l. h .loop .inv .1 .is f (omega (arith, h .loop .inv .0, c .loop-test .left));
+          λ f l. h .loop .inv .1 .is f (omega arith) (omega (arith, h .loop .inv .0, c .loop-test .left));
     }
 
 pub ramp-spec : {M : Type 1} → statement M

@@ -1,19 +1,20 @@
 -- `copy_low_first` meets its contract: after k turns the first k numbers are there. Assumes nothing.
 use native.Mathlib.Omega.{arith}
 use Prim.Native.Nat.{ℕ, _+_, _*_, _-_, _≤_}
-use mathlib.Core.Path.{_∙_}
-use Rattle.joint_rows.proofs.RowLaws.{Copied, copied-start, copied-next, low-first}
+use mathlib.Core.Path.{refl}
+use Rattle.joint_rows.specs.Rows.{Made, lowFirst}
+use Rattle.joint_rows.proofs.RowLaws.{made-start, made-next}
 use Rattle.joint_rows.proofs.rows.copy_low_first.Statement.{statement}
 use Rattle.joint_rows.proofs.rows.copy_low_first.Tie as tie
 
 abbrev Inv-loop : tie.InvT-loop
-Inv-loop file first n part₀ k₀ part k = (k ≤ n) × Copied file first k part₀ part
+Inv-loop file first n part₀ k₀ part k = (k ≤ n) × Made (lowFirst file first) 0 k part₀ part
 
 abbrev μ-loop : tie.MeasureT-loop
 μ-loop file first n part₀ k₀ part k = n - k
 
 loop-holds : tie.Need-loop-holds Inv-loop μ-loop
-loop-holds c = (omega arith, copied-start _ _ _)
+loop-holds c = (omega arith, made-start _ _ _)
 
 mul-at : tie.Need-mul-at Inv-loop μ-loop
 mul-at c = omega (arith, c .before .before .pre)
@@ -60,24 +61,18 @@ loop-less : tie.Need-loop-less Inv-loop μ-loop
 loop-less c = omega (arith, c .before .before .loop-test .taken)
 
 loop-again : tie.Need-loop-again Inv-loop μ-loop
+unfolding lowFirst
 loop-again c =
     let t = c .before .before in
-    let at = t .before .before in (
-      omega (arith, t .loop-test .taken),
-      copied-next _ (omega (arith, t .loop-test .taken, at .pre))
-          (low-first (at .args .file .now) (at .args .first) (t .before .loop .k) (omega (arith, c .before .shared-slice-known .given (place c)))
-          (omega (arith, c .shared-slice-known2 .given (place c + 1))))
-          (t .before .loop .inv .1),
-    )
+    let at = t .before .before in
+    let h = t .before in
+    (omega (arith, t .loop-test .taken), made-next (h .loop .k) _ (omega arith) (omega (arith, t .loop-test .taken, at .pre)) refl (h .loop .inv .1))
 
 returns : tie.Need-returns Inv-loop μ-loop
 returns c =
     let h = c .before in
-    record {
-      long = h .loop .inv .1 .long ∙ h .before .pre .2;
-      is =
-          λ g l. h .loop .inv .1 .is g (omega (arith, h .loop .inv .0, c .loop-test .left));
-    }
+    let r = h .loop .inv .1 in
+    record { long = r .long; is = λ g l u. r .is g l (omega (arith, h .loop .inv .0, c .loop-test .left)); before = r .before }
 
 pub copy-low-first-spec : {M : Type 1} → statement M
 copy-low-first-spec =

@@ -4,12 +4,13 @@ use borrow.Author.Needs.{needs}
 use Prim.Native.Nat.{_-_, _≤_}
 use Rattle.spec.specs.Frame.{builtIn}
 use Rattle.frame_weights.proofs.Weights.{built-entry}
-use Rattle.joint_rows.proofs.RowLaws.{Made, made-start, made-next}
+use Rattle.joint_rows.specs.Rows.{Made}
+use Rattle.joint_rows.proofs.RowLaws.{made-start, made-next}
 use Rattle.joint_rows.proofs.rows.mirror.Statement.{statement}
 use Rattle.joint_rows.proofs.rows.mirror.Tie as tie
 
 abbrev Inv-loop : tie.InvT-loop
-Inv-loop out₀ built k₀ out k = (k ≤ 511) × Made (builtIn 255) k out₀ out
+Inv-loop out₀ built k₀ out k = (k ≤ 511) × Made (builtIn 255) 0 k out₀ out
 
 abbrev μ-loop : tie.MeasureT-loop
 μ-loop out₀ built k₀ out k = 511 - k
@@ -18,7 +19,7 @@ constants-requires : tie.Need-constants-requires Inv-loop μ-loop
 constants-requires c κs = search needs
 
 loop-holds : tie.Need-loop-holds Inv-loop μ-loop
-loop-holds c = (omega arith, made-start _ _)
+loop-holds c = (omega arith, made-start _ _ _)
 
 apart-requires : tie.Need-apart-requires Inv-loop μ-loop
 apart-requires c κs = search needs
@@ -52,7 +53,7 @@ loop-again c =
     let t = c .before in
     let h = t .before in (
       omega (arith, t .loop-test .taken),
-      made-next (h .loop .k) _ _ _ (omega (arith, t .loop-test .taken, h .before .before .before .pre))
+      made-next (h .loop .k) _ (omega arith) (omega (arith, t .loop-test .taken, h .before .before .before .pre))
           (built-entry 255 (h .loop .k) _ (h .before .constants .ensures) (omega (arith, c .apart .ensures, t .loop-test .taken))
           (c .apart .ensures)) (h .loop .inv .1),
     )
@@ -66,7 +67,7 @@ returns c =
     record {
       long = omega (arith, h .loop .inv .1 .long, h .before .before .before .pre);
       is =
-          λ k l. h .loop .inv .1 .is k (omega (arith, h .loop .inv .0, c .loop-test .left));
+          λ k l. h .loop .inv .1 .is k (omega arith) (omega (arith, h .loop .inv .0, c .loop-test .left));
     }
 
 pub mirror-spec : {M : Type 1} → statement M

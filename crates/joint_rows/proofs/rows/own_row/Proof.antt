@@ -1,5 +1,5 @@
 -- `own_row` meets its contract: 64 numbers a turn, then the rest. Assumes nothing.
-use mathlib.Core.Path.{_≡_}
+use mathlib.Core.Path.{_≡_, _∙_}
 use native.Mathlib.Omega.{arith}
 use borrow.Author.Needs.{needs}
 use Prim.Native.Nat.{ℕ, _+_, _*_, _-_, _≤_, _<_}
@@ -7,12 +7,14 @@ use lib.ListN.{length}
 use Rattle.spec.proofs.Plans.{facts}
 use Rattle.window.proofs.PixelLaws.{guides-range}
 use Rattle.joint_rows.proofs.TableLaws.{weight-place}
-use Rattle.joint_rows.proofs.RowLaws.{Filled, filled-start, filled-next, row-inside, row-filled}
+use Rattle.spec.specs.Frame.{plane}
+use Rattle.joint_rows.specs.Rows.{Made}
+use Rattle.joint_rows.proofs.RowLaws.{made-start, made-more, row-inside, row-own}
 use Rattle.joint_rows.proofs.rows.own_row.Statement.{statement}
 use Rattle.joint_rows.proofs.rows.own_row.Tie as tie
 
 abbrev Inv-loop : tie.InvT-loop
-Inv-loop file row₀ m first from₀ row from = (from ≤ m) × Filled file first from row
+Inv-loop file row₀ m first from₀ row from = (from ≤ m) × Made (plane file first) 0 from row₀ row
 
 abbrev μ-loop : tie.MeasureT-loop
 μ-loop file row₀ m first from₀ row from = m - from
@@ -49,10 +51,10 @@ fill-asks : (h : tie.At-loop Inv-loop μ-loop) (n : ℕ) → n ≤ 64 → h .loo
     (n ≤ 64) × (h .loop .from + n ≤ 256) ×
     (begin h .args .plan .table + 2 * (begin h .args .f .0 * begin h .args .plan .guides) + 2 * (h .loop .from + n)
     ≤ length (begin h .args .file .now)) × (length (h .loop .row) ≡ 256)
-fill-asks h n l u = (l, omega (arith, few h), omega (arith, inside (begin h)), h .loop .inv .1 .long)
+fill-asks h n l u = (l, omega (arith, few h), omega (arith, inside (begin h)), h .loop .inv .1 .long ∙ begin h .pre .3)
 
 loop-holds : tie.Need-loop-holds Inv-loop μ-loop
-loop-holds c = (omega arith, filled-start _ _ (c .before .before .before .pre .3))
+loop-holds c = (omega arith, made-start _ _ _)
 
 add-loop : tie.Need-add-loop Inv-loop μ-loop
 add-loop c = omega (arith, c .loop .inv .0, few c)
@@ -67,7 +69,7 @@ loop-less : tie.Need-loop-less Inv-loop μ-loop
 loop-less c = omega (arith, c .before .before .loop-test .taken)
 
 loop-again : tie.Need-loop-again Inv-loop μ-loop
-loop-again c = let t = c .before .before in (t .loop-test .taken, filled-next (t .before .loop .inv .1) (c .fill-part .ensures))
+loop-again c = let t = c .before .before in (t .loop-test .taken, made-more (omega arith) (t .before .loop .inv .1) (c .fill-part .ensures))
 
 sub-fill-part : tie.Need-sub-fill-part Inv-loop μ-loop
 sub-fill-part c = c .before .loop .inv .0
@@ -86,8 +88,8 @@ returns : tie.Need-returns Inv-loop μ-loop
 returns c =
     let h = c .before .before .before in
     let at = begin h in
-    row-filled (at .pre .0) (at .pre .1) (at .pre .2) (λ i. omega (arith, h .before .before .before .shared-slice-known .given i))
-    (omega (arith, rest h)) (filled-next (h .loop .inv .1) (c .fill-part2 .ensures))
+    row-own (at .pre .0) (at .pre .1) (at .pre .2) (λ i. omega (arith, h .before .before .before .shared-slice-known .given i)) (at .pre .3)
+    (omega (arith, rest h)) (made-more (omega arith) (h .loop .inv .1) (c .fill-part2 .ensures))
 
 pub own-row-spec : {M : Type 1} → statement M
 own-row-spec =
