@@ -14,7 +14,9 @@ use Rattle.spec.specs.Checks.{Planned}
 use Rattle.spec.specs.Weight.{monotone}
 use Rattle.spec.specs.Window.{pixelCount, guideSum}
 use Rattle.spec.specs.Median.{median}
+use Rattle.spec.specs.declared.Way.the-variants.{Chain}
 use Rattle.spec.specs.Walk.{answerNumber, arrive}
+use Rattle.spec.proofs.Walks.{arrive-full}
 use Rattle.spec.proofs.Plans.{facts, pixel-of}
 use Rattle.spec.proofs.Totals.{median-low}
 use Rattle.spec.proofs.Climb.{guided-full}
@@ -80,8 +82,9 @@ module _ {b : List ℕ} {z : Plan} (pl : Planned b z) where
       climbed k w free m c r h = h (z .levels) (levels-high pl) (climbs k w free m c) ∙ climb-is k w
 
       -- no window of kind 2 is weightless
-      arrive-is : (c n : ℕ) → arrive (frameOf b) s t c n
+      arrive-is : (c n : ℕ) → arrive Chain (frameOf b) s t c n
           ≡ record {
+            way = Chain;
             column = s;
             row = t;
             cut = median (frameOf b) s t;
@@ -90,29 +93,28 @@ module _ {b : List ℕ} {z : Plan} (pl : Planned b z) where
             answer =
                 median (frameOf b) s t;
           }
-      unfolding arrive
-      arrive-is c n = rw (guided-full (pixel-of pl hs ht) kind-is .1) refl
+      arrive-is c n = arrive-full Chain (frameOf b) s t c n (guided-full (pixel-of pl hs ht) kind-is .1)
 
       -- a visit whose level is the median, with what it adds to the shift count
       pub answers : (c n : ℕ) (v : Visit) (r more : ℕ) (q : Bool) → v .column ≡ s → v .row ≡ t → v .cut .0 ≡ r → answerNumber (v .answer) ≡ r
           → v .shifts ≡ n + more → r ≡ median (frameOf b) s t → q ≡ monotone (frameOf b) s t → more ≡ (if q then distance r c else r)
-          → stateOf v ≡ arrive (frameOf b) s t c n
+          → stateOf Chain v ≡ arrive Chain (frameOf b) s t c n
       answers c n v r more q ec er eu ea eh em eq ek =
           let added : v .shifts ≡ n + (if monotone (frameOf b) s t then distance (median (frameOf b) s t) c else median (frameOf b) s t) =
           eh ∙ ap (λ (x : ℕ). n + x) (ek ∙ ap₂ (λ (y : Bool) (x : ℕ). if y then distance x c else x) eq em) in
-          (λ i. record { column = ec i; row = er i; cut = (eu ∙ em) i; shifts = added i; answer = (ea ∙ em) i }) ∙ sym (arrive-is c n)
+          (λ i. record { way = Chain; column = ec i; row = er i; cut = (eu ∙ em) i; shifts = added i; answer = (ea ∙ em) i }) ∙ sym (arrive-is c n)
 
 -- the visit's window is the one that it came to, and what ran along was handed in
-pub chain-visited : (b : List ℕ) (z : Plan) (s t c n : ℕ) (v : Visit) (g : Running) (m m′ : List ℕ) → stateOf v ≡ arrive (frameOf b) s t c n →
+pub chain-visited : (b : List ℕ) (z : Plan) (s t c n : ℕ) (v : Visit) (g : Running) (m m′ : List ℕ) → stateOf Chain v ≡ arrive Chain (frameOf b) s t c n →
     v .running ≡ g
-    → SumsAt (frameOf b) s t (g .sums) → Stored b z s t m (g .free) m′ → ChainVisited b z (arrive (frameOf b) s t c n) m v m′
+    → SumsAt (frameOf b) s t (g .sums) → Stored b z s t m (g .free) m′ → ChainVisited b z (arrive Chain (frameOf b) s t c n) m v m′
 chain-visited b z s t c n v g m m′ e same sums stored =
     record {
       state = e;
       sums =
-          at-visit (frameOf b) s t c n (λ x y. SumsAt (frameOf b) x y (v .running .sums)) v e
+          at-visit Chain (frameOf b) s t c n (λ x y. SumsAt (frameOf b) x y (v .running .sums)) v e
           (subst (λ (q : Running). SumsAt (frameOf b) s t (q .sums)) (sym same) sums);
       stored =
-          at-visit (frameOf b) s t c n (λ x y. Stored b z x y m (v .running .free) m′) v e
+          at-visit Chain (frameOf b) s t c n (λ x y. Stored b z x y m (v .running .free) m′) v e
           (subst (λ (q : Running). Stored b z s t m (q .free) m′) (sym same) stored);
     }

@@ -9,6 +9,7 @@ use Rattle.spec.specs.Walk.{State}
 use Rattle.window.specs.Sums.{SumsAt}
 use Rattle.chain.specs.Moves.{Listed, Stored}
 use Rattle.visit.specs.declared.Visit.{Visit}
+use Rattle.spec.specs.declared.Way.the-variants.{Chain}
 use Rattle.visit.specs.Visit.{stateOf}
 
 -- the store m holds the list of the visit's window, and its sums and the free list run along
@@ -18,6 +19,6 @@ pub record ChainAt (b : List ℕ) (plan : Plan) (v : Visit) (m : List ℕ) : Typ
 
 -- the visit is in the state x, and the store m has become m′, which holds its window; nothing beyond the way's numbers has changed
 pub record ChainVisited (b : List ℕ) (plan : Plan) (x : State) (m : List ℕ) (v : Visit) (m′ : List ℕ) : Type 0 where
-  pub state : stateOf v ≡ x
+  pub state : stateOf Chain v ≡ x
   pub sums : SumsAt (frameOf b) (v .column) (v .row) (v .running .sums)
   pub stored : Stored b plan (v .column) (v .row) m (v .running .free) m′

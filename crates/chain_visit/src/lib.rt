@@ -15,6 +15,7 @@ ghost use lib.ListN.{length};
 ghost use Rattle.spec.specs.Base.{if_then_else_, distance};
 ghost use Rattle.spec.specs.Checks.{Planned};
 ghost use Rattle.spec.specs.Frame.{frameOf};
+ghost use Rattle.spec.specs.declared.Way.the-variants.{Chain};
 ghost use Rattle.spec.specs.Walk.{arrive};
 ghost use Rattle.window.specs.Line.{Adjacent};
 ghost use Rattle.window.specs.Sums.{SumsAt};
@@ -50,7 +51,7 @@ pub fn answer_at(
     requires { ⌜ (Planned (now file) plan) × (plan .kind ≡ 2) ⌝ }
     requires { ⌜ (column < plan .width) × (row < plan .height) × (shifts ≤ 4294967295) ⌝ }
     requires { ⌜ (SumsAt (frameOf (now file)) column row (running .sums)) × (Listed (now file) plan column row (running .free) (now numbers)) ⌝ }
-    ensures { λ r. ⌜ (stateOf r ≡ arrive (frameOf (now (file .entry))) column row (cut .0) shifts) × (r .running ≡ running) ⌝ }
+    ensures { λ r. ⌜ (stateOf Chain r ≡ arrive Chain (frameOf (now (file .entry))) column row (cut .0) shifts) × (r .running ≡ running) ⌝ }
 {
     let sums = running.sums;
     let coefficients = coefficients::of_window(file, plan, sums, column, row);
@@ -65,7 +66,7 @@ pub fn enter(file: &[u8], plan: Plan, column: usize, row: usize, numbers: &mut [
     requires { ⌜ (Planned (now file) plan) × (plan .kind ≡ 2) ⌝ }
     requires { ⌜ (column < plan .width) × (row < plan .height) ⌝ }
     requires { ⌜ storeSize (now file) ≤ length (now numbers) ⌝ }
-    ensures { λ r. ⌜ ChainVisited (now (file .entry)) plan (arrive (frameOf (now (file .entry))) column row 0 0) (now (numbers .entry)) r
+    ensures { λ r. ⌜ ChainVisited (now (file .entry)) plan (arrive Chain (frameOf (now (file .entry))) column row 0 0) (now (numbers .entry)) r
         (now (numbers .exit)) ⌝ }
 {
     let sums = sums::start(file, plan, column, row);
@@ -87,7 +88,7 @@ pub fn slide(
     requires { ⌜ (Planned (now file) plan) × (plan .kind ≡ 2) ⌝ }
     requires { ⌜ (Within plan from) × (Adjacent plan (from .column) (from .row) column row) ⌝ }
     requires { ⌜ ChainAt (now file) plan from (now numbers) ⌝ }
-    ensures { λ r. ⌜ ChainVisited (now (file .entry)) plan (arrive (frameOf (now (file .entry))) column row (from .cut .0) (from .shifts))
+    ensures { λ r. ⌜ ChainVisited (now (file .entry)) plan (arrive Chain (frameOf (now (file .entry))) column row (from .cut .0) (from .shifts))
         (now (numbers .entry)) r (now (numbers .exit)) ⌝ }
 {
     let step = line::step_to(plan, from.column, from.row, column, row);

@@ -10,10 +10,13 @@ pub fn bad_way(plan: Plan, way: u32) -> bool
     if way < 1 {
         return true;
     }
-    if 3 < way {
+    if 4 < way {
         return true;
     }
     if way == 1 {
+        return false;
+    }
+    if way == 4 {
         return false;
     }
     plan.kind != 2

@@ -3,7 +3,7 @@ use spec::Plan;
 use spec::Room;
 use spec::Way;
 ghost use mathlib.Core.Path.{_≡_};
-ghost use Rattle.spec.specs.Calls.{wayOf, roomOf, lacks, short};
+ghost use Rattle.spec.specs.Calls.{wayOf, jointRoom, numbersRoom, roomOf, lacks, short};
 ghost use Rattle.spec.specs.Checks.{SettingsLimits};
 ghost use Rattle.spec.specs.Frame.{settingsIn};
 
@@ -17,7 +17,37 @@ pub fn way_of(way: u32) -> Way
     if way == 2 {
         return Way::Columns;
     }
-    Way::Chain
+    if way == 3 {
+        return Way::Chain;
+    }
+    Way::Coarse
+}
+
+// Ways 1 and 4: a joint store, and so many numbers of a summary.
+fn joint_room(plan: Plan, blocks: usize) -> Room
+    requires { ⌜ SettingsLimits (settingsIn plan) ⌝ }
+    ensures { λ r. ⌜ r ≡ jointRoom (settingsIn plan) blocks ⌝ }
+{
+    let l = plan.levels;
+    let m = plan.guides;
+    Room {
+        counts: l * m,
+        words: l * ((m + 63) / 64),
+        numbers: 0,
+        summary: blocks,
+    }
+}
+
+// Ways 2 and 3.
+fn numbers_room(n: usize) -> Room
+    ensures { λ r. ⌜ r ≡ numbersRoom n ⌝ }
+{
+    Room {
+        counts: 0,
+        words: 0,
+        numbers: n,
+        summary: 0,
+    }
 }
 
 // How much of each store a way uses.
@@ -26,24 +56,12 @@ fn needed(way: Way, plan: Plan) -> Room
     ensures { λ r. ⌜ r ≡ roomOf way (settingsIn plan) ⌝ }
 {
     let l = plan.levels;
-    let m = plan.guides;
     let side = 2 * plan.radius + 1;
     match way {
-        Way::Joint => Room {
-            counts: l * m,
-            words: l * ((m + 63) / 64),
-            numbers: 0,
-        },
-        Way::Columns => Room {
-            counts: 0,
-            words: 0,
-            numbers: 2 * (plan.width * l) + 2 * l,
-        },
-        Way::Chain => Room {
-            counts: 0,
-            words: 0,
-            numbers: 1 + 4 * (side * side),
-        },
+        Way::Joint => joint_room(plan, 0),
+        Way::Columns => numbers_room(2 * (plan.width * l) + 2 * l),
+        Way::Chain => numbers_room(1 + 4 * (side * side)),
+        Way::Coarse => joint_room(plan, (l + 15) / 16),
     }
 }
 
@@ -56,7 +74,10 @@ fn lacking(need: Room, have: Room) -> bool
     if have.words < need.words {
         return true;
     }
-    have.numbers < need.numbers
+    if have.numbers < need.numbers {
+        return true;
+    }
+    have.summary < need.summary
 }
 
 // Check 11: a store of the way, or an output that is to take n numbers, is too short.

@@ -12,6 +12,7 @@ use Rattle.spec.specs.Frame.{Frame, frameOf}
 use Rattle.spec.specs.Checks.{Planned}
 use Rattle.spec.specs.Calls.{roomOf}
 use Rattle.spec.specs.Columns.{columnStore}
+use Rattle.spec.specs.declared.Way.the-variants.{Columns}
 use Rattle.spec.specs.Walk.{arrive}
 use Rattle.spec.proofs.Lists.{part-long, part-cell}
 use Rattle.spec.proofs.Plans.{facts}
@@ -115,11 +116,11 @@ running a f = record { sums = a; below = f .tally; free = record { head = 0; cou
 
 pub visited : (p : Frame) (s t c n : ℕ) (a : Sums) (f : Found) (v : Visit) (xs ys : List ℕ) → v ≡ answered s t (f .level) (f .shifts) (running a f) →
     SumsAt p s t a
-    → Answered p s t c n f → ys ≡ columnStore p s t ++ drop (blocksSize p) xs → ColumnsVisited p (arrive p s t c n) xs v ys
+    → Answered Columns p s t c n f → ys ≡ columnStore p s t ++ drop (blocksSize p) xs → ColumnsVisited p (arrive Columns p s t c n) xs v ys
 visited p s t c n a f v xs ys e q h m =
-    subst (λ (v : Visit). ColumnsVisited p (arrive p s t c n) xs v ys) (sym e)
+    subst (λ (v : Visit). ColumnsVisited p (arrive Columns p s t c n) xs v ys) (sym e)
     (record {
-      state = state-is p s t c n (f .level) (f .shifts) (f .level) (running a f) (h .cut) (h .shifts) (h .answer);
+      state = state-is Columns p s t c n (f .level) (f .shifts) (f .level) (running a f) (h .cut) (h .shifts) (h .answer);
       sums = q;
       below = h .below;
       store = made p s t xs ys m;

@@ -13,6 +13,7 @@ use Rattle.spec.specs.Walk.{State}
 use Rattle.window.specs.Sums.{SumsAt}
 use Rattle.levels.specs.Tally.{BelowAt}
 use Rattle.visit.specs.declared.Visit.{Visit}
+use Rattle.spec.specs.declared.Way.the-variants.{Columns}
 use Rattle.visit.specs.Visit.{stateOf}
 
 -- the window's counts of each level in a store, and its guide sums
@@ -29,11 +30,11 @@ storeAt p s t xs = columnStore p s t ++ drop (roomOf Columns (p .set) .numbers) 
 -- the visit is in the state x, its sums and the tally up to the cut point run along, and the store xs has become ys, that of its window; nothing
 -- beyond the way's numbers has changed
 pub record ColumnsVisited (p : Frame) (x : State) (xs : List ℕ) (v : Visit) (ys : List ℕ) : Type 0 where
-  pub state : stateOf v ≡ x
+  pub state : stateOf Columns v ≡ x
   pub sums : SumsAt p (v .column) (v .row) (v .running .sums)
   pub below : BelowAt p (v .column) (v .row) (v .cut .0 + 1) (v .running .below)
   pub store : ys ≡ storeAt p (v .column) (v .row) xs
 
 -- the store xs is that of the visit's window already
 abbrev pub ColumnsAt : Frame → Visit → List ℕ → Type 0
-ColumnsAt p v xs = ColumnsVisited p (stateOf v) xs v xs
+ColumnsAt p v xs = ColumnsVisited p (stateOf Columns v) xs v xs

@@ -24,9 +24,10 @@ ghost use Rattle.spec.specs.Base.{if_then_else_, distance};
 ghost use Rattle.spec.specs.Calls.{roomOf};
 ghost use Rattle.spec.specs.Checks.{Planned};
 ghost use Rattle.spec.specs.Frame.{frameOf};
+ghost use Rattle.spec.specs.declared.Way.the-variants.{Columns};
 ghost use Rattle.spec.specs.Walk.{arrive};
 ghost use Rattle.window.specs.Line.{Adjacent};
-ghost use Rattle.levels.specs.Answer.{Answerable};
+ghost use Rattle.levels.specs.Answer.{Answerable, FromCut};
 ghost use Rattle.levels.specs.Tally.{BelowAt};
 ghost use Rattle.level_search.specs.Search.{FoundAt};
 ghost use Rattle.visit.specs.Visit.{Within};
@@ -44,8 +45,8 @@ pub fn answer_from(
 ) -> Found
     requires { ⌜ (plan .width ≤ 1024) × (plan .levels ≤ 1024)
         × (2 * (plan .width * plan .levels) + 2 * plan .levels ≤ length (now blocks)) ⌝ }
-    requires { ⌜ Answerable coefficients (plan .guides) monotone (cut .0) shifts below
-        (windowCounts plan (now blocks)) (windowGuides plan (now blocks)) ⌝ }
+    requires { ⌜ (Answerable coefficients (plan .guides) monotone shifts (windowCounts plan (now blocks)) (windowGuides plan (now blocks)))
+        × (FromCut monotone (cut .0) below (windowCounts plan (now blocks)) (windowGuides plan (now blocks))) ⌝ }
     ensures { λ f. ⌜ (FoundAt coefficients (windowCounts plan (now (blocks .entry))) (windowGuides plan (now (blocks .entry))) f)
         × (f .shifts ≡ shifts + (if monotone then distance (f .level .0) (cut .0) else f .level .0)) ⌝ }
 {
@@ -98,7 +99,7 @@ pub fn enter(file: &[u8], plan: Plan, column: usize, row: usize, blocks: &mut [u
     requires { ⌜ (Planned (now file) plan) × (plan .kind ≡ 2) ⌝ }
     requires { ⌜ (column < plan .width) × (row < plan .height) ⌝ }
     requires { ⌜ roomOf Columns (frameOf (now file) .set) .numbers ≤ length (now blocks) ⌝ }
-    ensures { λ r. ⌜ ColumnsVisited (frameOf (now (file .entry))) (arrive (frameOf (now (file .entry))) column row 0 0) (now (blocks .entry)) r
+    ensures { λ r. ⌜ ColumnsVisited (frameOf (now (file .entry))) (arrive Columns (frameOf (now (file .entry))) column row 0 0) (now (blocks .entry)) r
         (now (blocks .exit)) ⌝ }
 {
     store::start(file, plan, blocks, column, row);
@@ -125,7 +126,7 @@ pub fn slide(
     requires { ⌜ (Planned (now file) plan) × (plan .kind ≡ 2) ⌝ }
     requires { ⌜ (Within plan from) × (Adjacent plan (from .column) (from .row) column row) ⌝ }
     requires { ⌜ ColumnsAt (frameOf (now file)) from (now blocks) ⌝ }
-    ensures { λ r. ⌜ ColumnsVisited (frameOf (now (file .entry))) (arrive (frameOf (now (file .entry))) column row (from .cut .0) (from .shifts))
+    ensures { λ r. ⌜ ColumnsVisited (frameOf (now (file .entry))) (arrive Columns (frameOf (now (file .entry))) column row (from .cut .0) (from .shifts))
         (now (blocks .entry)) r (now (blocks .exit)) ⌝ }
 {
     let step = line::step_to(plan, from.column, from.row, column, row);

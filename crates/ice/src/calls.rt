@@ -10,7 +10,7 @@ use spec::Level;
 use spec::Room;
 use spec::Verdict;
 use spec::stops;
-ghost use Rattle.ways.specs.Visit.{stores};
+ghost use Rattle.ice_step.specs.Finished.{lent};
 ghost use Rattle.ice.specs.Result.{Zeroed};
 ghost use Rattle.ice.specs.Contract.{Walks, Filters, Balances};
 
@@ -37,17 +37,19 @@ pub fn walk(
     counts: &mut [u16],
     words: &mut [u64],
     numbers: &mut [u32],
+    summary: &mut [i64],
     answers: &mut [u16],
 ) -> Walked
     ensures { λ r. ⌜ Walks (now (file .entry)) way column row (now (moves .entry))
-        (stores (now (counts .entry)) (now (words .entry)) (now (numbers .entry)))
-        (stores (now (counts .exit)) (now (words .exit)) (now (numbers .exit)))
+        (lent (now (counts .entry)) (now (words .entry)) (now (numbers .entry)) (now (summary .entry)))
+        (lent (now (counts .exit)) (now (words .exit)) (now (numbers .exit)) (now (summary .exit)))
         (now (answers .entry)) (now (answers .exit)) r ⌝ }
 {
     let have = Room {
         counts: counts.len(),
         words: words.len(),
         numbers: numbers.len(),
+        summary: summary.len(),
     };
     let opened = open_plan(file);
     let v = opened.verdict;
@@ -70,6 +72,7 @@ pub fn walk(
         counts,
         words,
         numbers,
+        summary,
         answers,
     )
 }
@@ -81,17 +84,19 @@ pub fn filter(
     counts: &mut [u16],
     words: &mut [u64],
     numbers: &mut [u32],
+    summary: &mut [i64],
     output: &mut [u16],
 ) -> Walked
     ensures { λ r. ⌜ Filters (now (file .entry)) way
-        (stores (now (counts .entry)) (now (words .entry)) (now (numbers .entry)))
-        (stores (now (counts .exit)) (now (words .exit)) (now (numbers .exit)))
+        (lent (now (counts .entry)) (now (words .entry)) (now (numbers .entry)) (now (summary .entry)))
+        (lent (now (counts .exit)) (now (words .exit)) (now (numbers .exit)) (now (summary .exit)))
         (now (output .entry)) (now (output .exit)) r ⌝ }
 {
     let have = Room {
         counts: counts.len(),
         words: words.len(),
         numbers: numbers.len(),
+        summary: summary.len(),
     };
     let opened = open_plan(file);
     let v = opened.verdict;
@@ -104,7 +109,7 @@ pub fn filter(
         return refused(w);
     }
     let by = checks_room::way_of(way);
-    sweep(file, plan, by, counts, words, numbers, output)
+    sweep(file, plan, by, counts, words, numbers, summary, output)
 }
 
 // The balance of the window at a pixel, at a level. The level is a number like the column and the row until check 9 has passed.

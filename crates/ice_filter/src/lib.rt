@@ -1,10 +1,10 @@
 // The filter: the walk through the whole picture, each answer at its pixel's place. It comes after every check.
 use ice_moves::turn_at;
 use ice_step::Walked;
+use ice_step::finish;
 use ice_step::step;
 use joint_rows::rows;
 use spec::Plan;
-use spec::Verdict;
 use spec::Way;
 use spec::answer_number;
 use ways::dispatch;
@@ -15,8 +15,8 @@ ghost use lib.ListN.{length, drop};
 ghost use Rattle.spec.specs.Frame.{frameOf, pixels, settingsIn};
 ghost use Rattle.spec.specs.Checks.{Planned};
 ghost use Rattle.spec.specs.Filter.{filtered, filterEnd};
-ghost use Rattle.ways.specs.Visit.{stores, StoresFit, Serves};
-ghost use Rattle.ice_step.specs.Finished.{Finished};
+ghost use Rattle.ways.specs.Visit.{Serves};
+ghost use Rattle.ice_step.specs.Finished.{lent, LentFits, Finished};
 
 // The filter's work, after the checks. The built-in weights, the box and the histogram are its own, and made once.
 pub fn sweep(
@@ -26,14 +26,15 @@ pub fn sweep(
     counts: &mut [u16],
     words: &mut [u64],
     numbers: &mut [u32],
+    summary: &mut [i64],
     output: &mut [u16],
 ) -> Walked
     requires { ⌜ (Planned (now file) plan) × (Serves way plan) ⌝ }
-    requires { ⌜ StoresFit way (settingsIn plan) (stores (now counts) (now words) (now numbers)) ⌝ }
+    requires { ⌜ LentFits way (settingsIn plan) (lent (now counts) (now words) (now numbers) (now summary)) ⌝ }
     requires { ⌜ plan .width * plan .height ≤ length (now output) ⌝ }
-    ensures { λ r. ⌜ Finished way (frameOf (now (file .entry))) (filterEnd (frameOf (now (file .entry))))
-        (stores (now (counts .entry)) (now (words .entry)) (now (numbers .entry)))
-        (stores (now (counts .exit)) (now (words .exit)) (now (numbers .exit))) r ⌝ }
+    ensures { λ r. ⌜ Finished way (frameOf (now (file .entry))) (filterEnd way (frameOf (now (file .entry))))
+        (lent (now (counts .entry)) (now (words .entry)) (now (numbers .entry)) (now (summary .entry)))
+        (lent (now (counts .exit)) (now (words .exit)) (now (numbers .exit)) (now (summary .exit))) r ⌝ }
     ensures { λ _. ⌜ now (output .exit) ≡ filtered (frameOf (now (file .entry)))
         ++ drop (pixels (frameOf (now (file .entry)) .set)) (now (output .entry)) ⌝ }
 {
@@ -79,12 +80,5 @@ pub fn sweep(
         let answer = then.answer;
         output[at] = answer_number(answer);
     }
-    let cut = visit.cut;
-    let shifts = visit.shifts;
-    Walked {
-        verdict: Verdict::Accepted,
-        shifts,
-        cut,
-        balance_box,
-    }
+    finish(file, plan, way, visit, balance_box, summary)
 }

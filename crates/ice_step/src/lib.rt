@@ -1,4 +1,4 @@
-// What the two loops under the public calls share: one byte of a list of moves, and the result.
+// What the two loops under the public calls share: one byte of a list of moves, the end, and the result.
 use ice_moves::next;
 use spec::Answer;
 use spec::Level;
@@ -6,15 +6,20 @@ use spec::Move;
 use spec::Plan;
 use spec::Verdict;
 use spec::Way;
+use spec::by_blocks;
 use visit::Visit;
 use ways::dispatch;
 ghost use mathlib.Core.Path.{_≡_};
+ghost use Prim.Native.Nat.{_≤_};
+ghost use lib.ListN.{length};
 ghost use Rattle.spec.specs.Frame.{frameOf, settingsIn};
 ghost use Rattle.spec.specs.Checks.{Planned};
 ghost use Rattle.spec.specs.Walk as definitions;
+ghost use Rattle.spec.specs.Calls.{roomOf};
 ghost use Rattle.joint_rows.specs.Rows.{WeightRows};
 ghost use Rattle.visit.specs.Visit.{stateOf, Within};
-ghost use Rattle.ways.specs.Visit.{stores, StoresFit, Serves, AtWindow, Visited};
+ghost use Rattle.ways.specs.Visit.{stores, StoresFit, Serves, ownBox, AtWindow, Visited};
+ghost use Rattle.ice_step.specs.Finished.{Closed};
 
 // What walk and filter give back beside the buffers: the verdict; the shift count, the last cut point and, for the joint way, the balance box (zeros
 // for the other ways; all zeros where refused).
@@ -43,7 +48,7 @@ pub fn step(
     requires { ⌜ Within plan visit ⌝ }
     requires { ⌜ StoresFit way (settingsIn plan) (stores (now counts) (now words) (now numbers)) ⌝ }
     requires { ⌜ AtWindow way (now file) (stores (now counts) (now words) (now numbers)) (now histogram) (now «balance_box») visit ⌝ }
-    ensures { λ r. ⌜ Visited way (now (file .entry)) (definitions.step (frameOf (now (file .entry))) (stateOf visit) byte)
+    ensures { λ r. ⌜ Visited way (now (file .entry)) (definitions.step (frameOf (now (file .entry))) (stateOf way visit) byte)
         (stores (now (counts .entry)) (now (words .entry)) (now (numbers .entry)))
         (stores (now (counts .exit)) (now (words .exit)) (now (numbers .exit)))
         (now (histogram .exit)) (now («balance_box» .exit)) r ⌝ }
@@ -76,5 +81,40 @@ pub fn step(
                 running,
             }
         }
+    }
+}
+
+// The end of a loop, at its last window: the result, and way 4's summary. A pixel's weight depends on the window's centre, so that no sum of weights
+// could be carried along; and the box that way 4 searched by is the walk's own.
+pub fn finish(
+    file: &[u8],
+    plan: Plan,
+    way: Way,
+    visit: Visit,
+    balance_box: [i16; 256],
+    summary: &mut [i64],
+) -> Walked
+    requires { ⌜ (Planned (now file) plan) × (Within plan visit) ⌝ }
+    requires { ⌜ («balance_box» ≡ ownBox way (frameOf (now file)) (visit .column) (visit .row) (visit .cut .0))
+        × (roomOf way (settingsIn plan) .summary ≤ length (now summary)) ⌝ }
+    ensures { λ r. ⌜ Closed way (frameOf (now (file .entry))) (stateOf way visit) (now (summary .entry)) (now (summary .exit)) r ⌝ }
+{
+    let cut = visit.cut;
+    let shifts = visit.shifts;
+    if by_blocks(way) {
+        summary::fill(file, plan, visit.column, visit.row, summary);
+        let none = [0i16; 256];
+        return Walked {
+            verdict: Verdict::Accepted,
+            shifts,
+            cut,
+            balance_box: none,
+        };
+    }
+    Walked {
+        verdict: Verdict::Accepted,
+        shifts,
+        cut,
+        balance_box,
     }
 }

@@ -1,9 +1,9 @@
 // The walk: the loop along a list of moves. It comes after every check.
 use ice_step::Walked;
+use ice_step::finish;
 use ice_step::step;
 use joint_rows::rows;
 use spec::Plan;
-use spec::Verdict;
 use spec::Way;
 use spec::answer_number;
 use ways::dispatch;
@@ -14,8 +14,8 @@ ghost use lib.ListN.{length, drop};
 ghost use Rattle.spec.specs.Frame.{frameOf, settingsIn};
 ghost use Rattle.spec.specs.Checks.{Planned};
 ghost use Rattle.spec.specs.Walk as definitions;
-ghost use Rattle.ways.specs.Visit.{stores, StoresFit, Serves};
-ghost use Rattle.ice_step.specs.Finished.{Finished};
+ghost use Rattle.ways.specs.Visit.{Serves};
+ghost use Rattle.ice_step.specs.Finished.{lent, LentFits, Finished};
 
 // The walk's work, after the checks. The built-in weights, the box and the histogram are its own, and made once.
 pub fn travel(
@@ -28,16 +28,17 @@ pub fn travel(
     counts: &mut [u16],
     words: &mut [u64],
     numbers: &mut [u32],
+    summary: &mut [i64],
     answers: &mut [u16],
 ) -> Walked
     requires { ⌜ (Planned (now file) plan) × (Serves way plan) ⌝ }
     requires { ⌜ (column < plan .width) × (row < plan .height) ⌝ }
     requires { ⌜ length (now moves) ≤ 1048576 ⌝ }
-    requires { ⌜ StoresFit way (settingsIn plan) (stores (now counts) (now words) (now numbers)) ⌝ }
+    requires { ⌜ LentFits way (settingsIn plan) (lent (now counts) (now words) (now numbers) (now summary)) ⌝ }
     requires { ⌜ length (now moves) + 1 ≤ length (now answers) ⌝ }
-    ensures { λ r. ⌜ Finished way (frameOf (now (file .entry))) (definitions.walkEnd (frameOf (now (file .entry))) column row (now (moves .entry)))
-        (stores (now (counts .entry)) (now (words .entry)) (now (numbers .entry)))
-        (stores (now (counts .exit)) (now (words .exit)) (now (numbers .exit))) r ⌝ }
+    ensures { λ r. ⌜ Finished way (frameOf (now (file .entry))) (definitions.walkEnd way (frameOf (now (file .entry))) column row (now (moves .entry)))
+        (lent (now (counts .entry)) (now (words .entry)) (now (numbers .entry)) (now (summary .entry)))
+        (lent (now (counts .exit)) (now (words .exit)) (now (numbers .exit)) (now (summary .exit))) r ⌝ }
     ensures { λ _. ⌜ now (answers .exit) ≡ definitions.walkAnswers (frameOf (now (file .entry))) column row (now (moves .entry))
         ++ drop (length (now (moves .entry)) + 1) (now (answers .entry)) ⌝ }
 {
@@ -80,12 +81,5 @@ pub fn travel(
         i += 1;
         answers[i] = answer_number(answer);
     }
-    let cut = visit.cut;
-    let shifts = visit.shifts;
-    Walked {
-        verdict: Verdict::Accepted,
-        shifts,
-        cut,
-        balance_box,
-    }
+    finish(file, plan, way, visit, balance_box, summary)
 }

@@ -8,7 +8,7 @@ use frame_write::Written;
 use ice::calls;
 use spec::Verdict;
 ghost use Rattle.spec.specs.Checks.{verdict};
-ghost use Rattle.ways.specs.Visit.{stores};
+ghost use Rattle.ice_step.specs.Finished.{lent};
 ghost use Rattle.c_values.specs.Results.{Reported};
 ghost use Rattle.c_values.specs.Settings.{settingsFrom};
 ghost use Rattle.icemedian_c.specs.Exports.{WalkCall, FilterCall, BalanceCall, WriteCall};
@@ -33,6 +33,7 @@ pub extern "C" fn icemedian_walk(
     counts: &mut [u16],
     words: &mut [u64],
     numbers: &mut [u32],
+    summary: &mut [i64],
     answers: &mut [u16],
     shifts: &mut u64,
     cut: &mut u16,
@@ -40,8 +41,8 @@ pub extern "C" fn icemedian_walk(
     offset: &mut u64,
 ) -> u32
     ensures { λ r. ⌜ WalkCall (now (file .entry)) way column row (now (moves .entry))
-        (stores (now (counts .entry)) (now (words .entry)) (now (numbers .entry)))
-        (stores (now (counts .exit)) (now (words .exit)) (now (numbers .exit)))
+        (lent (now (counts .entry)) (now (words .entry)) (now (numbers .entry)) (now (summary .entry)))
+        (lent (now (counts .exit)) (now (words .exit)) (now (numbers .exit)) (now (summary .exit)))
         (now (answers .entry)) (now (answers .exit)) r (now (shifts .entry)) (now (shifts .exit)) (now (cut .entry)) (now (cut .exit))
         (now («balance_box» .entry)) (now («balance_box» .exit)) (now (offset .entry)) (now (offset .exit)) ⌝ }
 {
@@ -54,6 +55,7 @@ pub extern "C" fn icemedian_walk(
         counts,
         words,
         numbers,
+        summary,
         answers,
     );
     let v = walked.verdict;
@@ -79,16 +81,17 @@ pub extern "C" fn icemedian_filter(
     counts: &mut [u16],
     words: &mut [u64],
     numbers: &mut [u32],
+    summary: &mut [i64],
     output: &mut [u16],
     shifts: &mut u64,
     offset: &mut u64,
 ) -> u32
     ensures { λ r. ⌜ FilterCall (now (file .entry)) way
-        (stores (now (counts .entry)) (now (words .entry)) (now (numbers .entry)))
-        (stores (now (counts .exit)) (now (words .exit)) (now (numbers .exit)))
+        (lent (now (counts .entry)) (now (words .entry)) (now (numbers .entry)) (now (summary .entry)))
+        (lent (now (counts .exit)) (now (words .exit)) (now (numbers .exit)) (now (summary .exit)))
         (now (output .entry)) (now (output .exit)) r (now (shifts .entry)) (now (shifts .exit)) (now (offset .entry)) (now (offset .exit)) ⌝ }
 {
-    let filtered = calls::filter(file, way, counts, words, numbers, output);
+    let filtered = calls::filter(file, way, counts, words, numbers, summary, output);
     let v = filtered.verdict;
     let status = report(v, offset);
     if status == 0 {

@@ -1,6 +1,7 @@
-// Way 1, joint, level by level: a level's occupied guides, what it weighs by a row of weights, and the balance box with a level's pixels on the other
-// side.
+// Way 1, joint, level by level: a level's occupied guides, what it weighs by a row of weights, the balance box with a level's pixels on the other side;
+// and blocks of levels without a pixel.
 pub mod level;
 pub mod raise;
 pub mod scan;
 pub mod shift;
+pub mod vacant;

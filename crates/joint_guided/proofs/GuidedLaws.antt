@@ -8,6 +8,7 @@ use native.Mathlib.Omega.{arith}
 use lib.ListN.{length, getD, take, drop}
 use lib.Seq.{length-take-le}
 use Rattle.spec.specs.declared.Plan.{Plan}
+use Rattle.spec.specs.declared.Way.{Way}
 use Rattle.spec.specs.Frame.{frameOf}
 use Rattle.spec.specs.Checks.{Planned}
 use Rattle.spec.specs.Median.{median}
@@ -54,8 +55,9 @@ module _ {b : List ℕ} {z : Plan} (pl : Planned b z) where
     profiled-parts = rw (first-part l ns, second-part l last ns ea) profiled
 
   -- ---- kind 2: the answer is a level
-  module _ {s t c n : ℕ} (hs : s < z .width) (ht : t < z .height) (two : z .kind ≡ 2) {f : Found} (h : Answered (frameOf b) s t c n f) where
-    cut-is : arrive (frameOf b) s t c n .cut ≡ median (frameOf b) s t
+  module _ {s t c n : ℕ} (hs : s < z .width) (ht : t < z .height) (two : z .kind ≡ 2) {way : Way} {f : Found}
+      (h : Answered way (frameOf b) s t c n f) where
+    cut-is : arrive way (frameOf b) s t c n .cut ≡ median (frameOf b) s t
     unfolding arrive
     cut-is = rw (guided-full (pixel-of pl hs ht) (kind-of pl two) .1) refl
 

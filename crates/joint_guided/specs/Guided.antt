@@ -5,6 +5,7 @@ use mathlib.Core.List.{List}
 use Prim.Native.Nat.{ℕ, _+_}
 use lib.IntN.{ℤ}
 use lib.ListN.{take, drop}
+use Rattle.spec.specs.declared.Way.the-variants.{Joint, Coarse}
 use Rattle.spec.specs.Frame.{Frame}
 use Rattle.spec.specs.Joint.{balanceBox}
 use Rattle.spec.specs.Walk.{arrive}
@@ -29,8 +30,13 @@ pub record GuidedAt (p : Frame) (s t c : ℕ) (a : Sums) (w : Tally) (ns : List 
   pub below : BelowAt p s t (c + 1) w
   pub histogram : Histogram p s t ns
 
--- the visit is in its state, with the box, and all of that, at its cut point
+-- way 1: the visit is in its state, with the box, and all of that, at its cut point
 pub record GuidedVisited (p : Frame) (s t c n : ℕ) (v : Visit) (bx : List ℤ) (ns : List ℕ) : Type 0 where
-  pub state : stateOf v ≡ arrive p s t c n
+  pub state : stateOf Joint v ≡ arrive Joint p s t c n
   pub box : bx ≡ balanceBox p s t (v .cut .0)
+  pub guided : GuidedAt p s t (v .cut .0) (v .running .sums) (v .running .below) ns
+
+-- way 4: the same without a box, whatever the cut point was
+pub record BlocksVisited (p : Frame) (s t n : ℕ) (v : Visit) (ns : List ℕ) : Type 0 where
+  pub state : (c : ℕ) → stateOf Coarse v ≡ arrive Coarse p s t c n
   pub guided : GuidedAt p s t (v .cut .0) (v .running .sums) (v .running .below) ns

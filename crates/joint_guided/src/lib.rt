@@ -1,11 +1,13 @@
-// Way 1, joint, in kind 2: a window's part in a walk. Its weights can be negative, so that most windows are searched from level 0: the search goes by
-// the window's histogram of levels, two numbers a level, and the box is moved to the answer once that is known.
+// Ways 1 and 4, joint and coarse, in kind 2: a window's part in a walk. Its weights can be negative, so that most windows are searched from level 0:
+// the search goes by the window's histogram of levels, two numbers a level. Way 1's box is moved to the answer once that is known; way 4 has no use
+// for one.
 use chain_nodes::FreeList;
 use joint_search::Sizes;
 use joint_search::find;
 use level_search::Tally;
 use level_search::search;
 use levels::answer;
+use levels::blocks;
 use levels::tally;
 use pixels::sums;
 use spec::Level;
@@ -18,13 +20,14 @@ ghost use mathlib.Core.Path.{_≡_};
 ghost use Prim.Native.Nat.{_+_, _<_, _≤_};
 ghost use lib.ListN.{length};
 ghost use Rattle.spec.specs.Frame.{frameOf};
+ghost use Rattle.spec.specs.Checks.{Planned};
 ghost use Rattle.spec.specs.Joint.{balanceBox};
 ghost use Rattle.window.specs.Sums.{SumsAt};
 ghost use Rattle.level_search.specs.Search.{LevelCells, TallyTo};
 ghost use Rattle.levels.specs.ListTally.{Carries};
 ghost use Rattle.histogram.specs.Histogram.{Blank, Histogram};
 ghost use Rattle.joint_search.specs.Window.{Counted};
-ghost use Rattle.joint_guided.specs.Guided.{countsIn, guideSumsIn, GuidedVisited};
+ghost use Rattle.joint_guided.specs.Guided.{countsIn, guideSumsIn, GuidedVisited, BlocksVisited};
 
 // The tally of the levels below the end, by a histogram: the counts of its levels, and behind them the guide sums.
 pub fn tally_below(histogram: &[u32], levels: usize, end: usize) -> Tally
@@ -36,7 +39,7 @@ pub fn tally_below(histogram: &[u32], levels: usize, end: usize) -> Tally
     search::gather(&histogram[0..levels], &histogram[levels..last], end)
 }
 
-// The window's answer, and the box moved to it; before is the tally of the window that the two lists lead from. Only a monotone window needs it, and
+// Way 1: the window's answer, and the box moved to it; before is the tally of the window that the two lists lead from. Only a monotone window needs it, and
 // it is carried there alone.
 pub fn arrive(
     file: &[u8],
@@ -90,7 +93,55 @@ pub fn arrive(
     visit::answered(s, t, level, r.shifts, running)
 }
 
-// A walk's first window at (s, t), its stores and its box being made.
+// Way 4: the window's answer, which no cut point enters.
+pub fn arrive_by_blocks(
+    file: &[u8],
+    plan: Plan,
+    a: Sums,
+    s: usize,
+    t: usize,
+    shifts: u64,
+    histogram: &[u32],
+) -> Visit
+    requires { ⌜ (Planned (now file) plan) × (plan .kind ≡ 2) × (s < plan .width) × (t < plan .height) ⌝ }
+    requires { ⌜ (SumsAt (frameOf (now file)) s t a) × (Histogram (frameOf (now file)) s t (now histogram)) × (shifts ≤ 4294967296) ⌝ }
+    ensures { λ r. ⌜ BlocksVisited (frameOf (now (file .entry))) s t shifts r (now (histogram .entry)) ⌝ }
+{
+    let l = plan.levels;
+    let last = l + l;
+    let coefficients = coefficients::of_window(file, plan, a, s, t);
+    let monotone = coefficients::monotone(plan, coefficients);
+    let r = blocks::answer(
+        &histogram[0..l],
+        &histogram[l..last],
+        coefficients,
+        plan.guides,
+        monotone,
+        shifts,
+    );
+    let level = r.level;
+    let tally = r.tally;
+    let free = FreeList { head: 0, count: 0 };
+    let running = Running {
+        sums: a,
+        below: tally,
+        free,
+    };
+    visit::answered(s, t, level, r.shifts, running)
+}
+
+// Way 4's first window at (s, t).
+pub fn enter_by_blocks(file: &[u8], plan: Plan, s: usize, t: usize, histogram: &mut [u32]) -> Visit
+    requires { ⌜ (Planned (now file) plan) × (plan .kind ≡ 2) × (s < plan .width) × (t < plan .height) ⌝ }
+    requires { ⌜ Blank (plan .levels) (now histogram) ⌝ }
+    ensures { λ r. ⌜ BlocksVisited (frameOf (now (file .entry))) s t 0 r (now (histogram .exit)) ⌝ }
+{
+    histogram::start(file, plan, s, t, histogram);
+    let a = sums::start(file, plan, s, t);
+    arrive_by_blocks(file, plan, a, s, t, 0, histogram)
+}
+
+// Way 1's first window at (s, t), its stores and its box being made.
 pub fn enter(
     file: &[u8],
     plan: Plan,

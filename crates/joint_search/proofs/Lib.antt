@@ -1,4 +1,5 @@
 pub mod LevelsLaws
 pub mod SearchLaws
+pub mod VacantLaws
 pub mod ArriveLaws
 pub mod WindowLaws

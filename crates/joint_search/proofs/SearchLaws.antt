@@ -59,11 +59,11 @@ level-low m cs row i = 0≤pos
 
 -- ---- the box
 module _ (sizes : Sizes) (cs : List ℕ) where
-  box-long : (c : ℕ) → length (boxIn sizes cs c) ≡ 256
+  pub box-long : (c : ℕ) → length (boxIn sizes cs c) ≡ 256
   unfolding boxIn
   box-long c = length-tabulate 256 _
 
-  box-cell : (c f : ℕ) → f < 256 → getD (boxIn sizes cs c) f (pos 0) ≡ balanceOf (λ i. pos (countIn (sizes .guides) cs i f)) (sizes .levels) c
+  pub box-cell : (c f : ℕ) → f < 256 → getD (boxIn sizes cs c) f (pos 0) ≡ balanceOf (λ i. pos (countIn (sizes .guides) cs i f)) (sizes .levels) c
   unfolding boxIn
   box-cell c f h = getD-tabulate 256 _ f (pos 0) h
 

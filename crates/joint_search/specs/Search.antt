@@ -49,17 +49,15 @@ pub record Searchable (sizes : Sizes) (cs ws : List ℕ) : Type 0 where
 
 -- ---- what it finds, by the balance B c of each of l levels
 
--- r is the first level from c on whose balance is not negative, and as many shifts as levels were passed are counted
-pub record Climbed (B : ℕ → ℤ) (l c r n n′ : ℕ) : Type 0 where
+-- r is the first level from c on whose balance is not negative
+pub record Climbed (B : ℕ → ℤ) (l c r : ℕ) : Type 0 where
   pub level : r < l
   pub from : c ≤ r
   pub here : pos 0 ≤ℤ B r
   pub before : (j : ℕ) → c ≤ j → j < r → B j <ℤ pos 0
-  pub shifts : n′ + c ≡ n + r
 
--- r is the first level of those up to c whose balances are all not negative, and the levels passed are counted
-pub record Descended (B : ℕ → ℤ) (c r n n′ : ℕ) : Type 0 where
+-- r is the first level of those up to c whose balances are all not negative
+pub record Descended (B : ℕ → ℤ) (c r : ℕ) : Type 0 where
   pub upto : r ≤ c
   pub here : pos 0 ≤ℤ B r
   pub below : (j : ℕ) → r ≡ j + 1 → B j <ℤ pos 0
-  pub shifts : n′ + r ≡ n + c

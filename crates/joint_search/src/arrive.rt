@@ -1,13 +1,15 @@
 // What the window that the counts hold answers by a row of weights, and the box moved to it. A window without weight keeps cut point, shifts and box.
 use crate::Sizes;
 use crate::find;
-use crate::find::SearchEnd;
 use joint_box::box_dot;
 use joint_cells::level::level_weight;
 use spec::Level;
+use spec::Way;
+use spec::by_blocks;
+use spec::shifts_to;
 ghost use mathlib.Core.Path.{_≡_};
-ghost use Prim.Native.Nat.{_+_, _<_};
-ghost use Rattle.spec.specs.Base.{distance};
+ghost use Prim.Native.Nat.{_<_};
+ghost use Rattle.spec.specs.Walk.{byBlocks};
 ghost use Rattle.joint_cells.specs.Scan.{RowFits};
 ghost use Rattle.joint_search.specs.Search.{balanceIn, medianIn, weightlessIn, boxIn, Searchable};
 ghost use Rattle.joint_search.specs.Arrive.{arrivalIn};
@@ -19,27 +21,27 @@ pub struct Arrival {
     pub shifts: u64,
 }
 
-// From the cut point, where the balance is bal, up or down.
+// From the cut point, where the balance is bal, up or down; by blocks where that is asked for.
 pub fn from_cut(
     sizes: Sizes,
     row: &[u16],
+    blocks: bool,
     cut: Level,
     bal: i32,
-    shifts: u64,
     balance_box: &mut [i16; 256],
     counts: &[u16],
     words: &[u64],
-) -> SearchEnd
+) -> Level
     requires { ⌜ (Searchable sizes (now counts) (now words)) × (RowFits (sizes .guides) (now row)) ⌝ }
-    requires { ⌜ (cut .0 < sizes .levels) × (bal ≡ balanceIn sizes (now counts) (now row) (cut .0)) × (shifts < 1099511627776) ⌝ }
-    requires { ⌜ now «balance_box» ≡ boxIn sizes (now counts) (cut .0) ⌝ }
-    ensures { λ r. ⌜ (r .level .0 ≡ medianIn sizes (now (counts .entry)) (now (row .entry))) × (r .shifts ≡ shifts + distance (r .level .0) (cut .0))
-        × (now («balance_box» .exit) ≡ boxIn sizes (now (counts .entry)) (r .level .0)) ⌝ }
+    requires { ⌜ (cut .0 < sizes .levels) × (bal ≡ balanceIn sizes (now counts) (now row) (cut .0))
+        × (now «balance_box» ≡ boxIn sizes (now counts) (cut .0)) ⌝ }
+    ensures { λ r. ⌜ (r .0 ≡ medianIn sizes (now (counts .entry)) (now (row .entry)))
+        × (now («balance_box» .exit) ≡ boxIn sizes (now (counts .entry)) (r .0)) ⌝ }
 {
     if bal < 0 {
-        return find::climb(sizes, row, cut, bal, shifts, balance_box, counts, words);
+        return find::climb(sizes, row, blocks, cut, bal, balance_box, counts, words);
     }
-    find::descend(sizes, row, cut, bal, shifts, balance_box, counts, words)
+    find::descend(sizes, row, blocks, cut, bal, balance_box, counts, words)
 }
 
 // Whether no level weighs anything.
@@ -63,6 +65,7 @@ pub fn none_weighs(sizes: Sizes, row: &[u16], counts: &[u16], words: &[u64]) -> 
 pub fn arrive(
     sizes: Sizes,
     row: &[u16],
+    way: Way,
     cut: Level,
     shifts: u64,
     balance_box: &mut [i16; 256],
@@ -71,7 +74,7 @@ pub fn arrive(
 ) -> Arrival
     requires { ⌜ (Searchable sizes (now counts) (now words)) × (RowFits (sizes .guides) (now row)) ⌝ }
     requires { ⌜ (cut .0 < sizes .levels) × (shifts < 1099511627776) × (now «balance_box» ≡ boxIn sizes (now counts) (cut .0)) ⌝ }
-    ensures { λ r. ⌜ (r ≡ arrivalIn sizes (now (counts .entry)) (now (row .entry)) (cut .0) shifts)
+    ensures { λ r. ⌜ (r ≡ arrivalIn (byBlocks way) sizes (now (counts .entry)) (now (row .entry)) (cut .0) shifts)
         × (now («balance_box» .exit) ≡ boxIn sizes (now (counts .entry)) (r .cut .0)) ⌝ }
 {
     let bal = box_dot(balance_box, row, sizes.guides);
@@ -82,11 +85,12 @@ pub fn arrive(
             shifts: shifts,
         };
     }
-    let found = from_cut(sizes, row, cut, bal, shifts, balance_box, counts, words);
-    let level = found.level;
+    let blocks = by_blocks(way);
+    let level = from_cut(sizes, row, blocks, cut, bal, balance_box, counts, words);
+    let total = shifts + shifts_to(blocks, level, cut);
     Arrival {
         hollow: false,
         cut: level,
-        shifts: found.shifts,
+        shifts: total,
     }
 }

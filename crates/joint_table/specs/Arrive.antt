@@ -4,6 +4,7 @@ use mathlib.Core.Path.{_≡_}
 use mathlib.Core.List.{List}
 use Prim.Native.Nat.{ℕ}
 use lib.IntN.{ℤ}
+use Rattle.spec.specs.declared.Way.{Way}
 use Rattle.spec.specs.Frame.{Frame}
 use Rattle.spec.specs.Median.{weightless}
 use Rattle.spec.specs.Joint.{balanceBox}
@@ -11,8 +12,8 @@ use Rattle.spec.specs.Walk.{arrive}
 use Rattle.joint_search.specs.declared.arrive.Arrival.{Arrival}
 
 -- whether it is hollow, and the cut point, the shifts and the box after it
-pub record Arrives (p : Frame) (s t c n : ℕ) (r : Arrival) (bx : List ℤ) : Type 0 where
+pub record Arrives (way : Way) (p : Frame) (s t c n : ℕ) (r : Arrival) (bx : List ℤ) : Type 0 where
   pub hollow : r .hollow ≡ weightless p s t
-  pub cut : r .cut .0 ≡ arrive p s t c n .cut
-  pub shifts : r .shifts ≡ arrive p s t c n .shifts
+  pub cut : r .cut .0 ≡ arrive way p s t c n .cut
+  pub shifts : r .shifts ≡ arrive way p s t c n .shifts
   pub box : bx ≡ balanceBox p s t (r .cut .0)

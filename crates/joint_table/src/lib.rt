@@ -1,4 +1,4 @@
-// Way 1, joint, in kind 1: a window's part in a walk, its stores and its box being made. A window without weight answers its centre's own level and
+// Ways 1 and 4, joint and coarse, in kind 1: a window's part in a walk, its stores and its box being made. A window without weight answers its centre's own level and
 // keeps cut point and shifts.
 use chain_nodes::FreeList;
 use joint_rows::rows;
@@ -9,6 +9,7 @@ use level_search::Tally;
 use spec::Answer;
 use spec::Level;
 use spec::Plan;
+use spec::Way;
 use visit::Running;
 use visit::Visit;
 use window::pixel;
@@ -27,6 +28,7 @@ ghost use Rattle.joint_table.specs.Arrive.{Arrives};
 pub fn arrive(
     file: &[u8],
     plan: Plan,
+    way: Way,
     weights: &[u16],
     s: usize,
     t: usize,
@@ -38,7 +40,7 @@ pub fn arrive(
 ) -> Arrival
     requires { ⌜ (Counted (now file) plan s t (now counts) (now words)) × (WeightRows plan (now weights)) × (plan .kind ≡ 1) ⌝ }
     requires { ⌜ (cut .0 < plan .levels) × (shifts < 1099511627776) × (now «balance_box» ≡ balanceBox (frameOf (now file)) s t (cut .0)) ⌝ }
-    ensures { λ r. ⌜ Arrives (frameOf (now (file .entry))) s t (cut .0) shifts r (now («balance_box» .exit)) ⌝ }
+    ensures { λ r. ⌜ Arrives way (frameOf (now (file .entry))) s t (cut .0) shifts r (now («balance_box» .exit)) ⌝ }
 {
     let sizes = Sizes {
         levels: plan.levels,
@@ -51,6 +53,7 @@ pub fn arrive(
         return search::arrive(
             sizes,
             &weights[from..end],
+            way,
             cut,
             shifts,
             balance_box,
@@ -60,13 +63,14 @@ pub fn arrive(
     }
     let mut row = [0u16; 256];
     rows::own_row(file, plan, centre, &mut row);
-    search::arrive(sizes, &row, cut, shifts, balance_box, counts, words)
+    search::arrive(sizes, &row, way, cut, shifts, balance_box, counts, words)
 }
 
 // The visit. Nothing runs along.
 pub fn visit(
     file: &[u8],
     plan: Plan,
+    way: Way,
     weights: &[u16],
     column: usize,
     row: usize,
@@ -79,7 +83,7 @@ pub fn visit(
     requires { ⌜ (Counted (now file) plan column row (now counts) (now words)) × (WeightRows plan (now weights)) × (plan .kind ≡ 1) ⌝ }
     requires { ⌜ (cut .0 < plan .levels) × (shifts ≤ 4294967296)
         × (now «balance_box» ≡ balanceBox (frameOf (now file)) column row (cut .0)) ⌝ }
-    ensures { λ r. ⌜ (stateOf r ≡ arrive (frameOf (now (file .entry))) column row (cut .0) shifts)
+    ensures { λ r. ⌜ (stateOf way r ≡ arrive way (frameOf (now (file .entry))) column row (cut .0) shifts)
         × (now («balance_box» .exit) ≡ balanceBox (frameOf (now (file .entry))) column row (r .cut .0)) ⌝ }
 {
     let sums = Sums {
@@ -93,6 +97,7 @@ pub fn visit(
     let r = arrive(
         file,
         plan,
+        way,
         weights,
         column,
         row,

@@ -1,15 +1,23 @@
 -- Laws of a visit: from the stores that a start or a move leaves to those that the search reads.
 -- Assumes nothing.
-use mathlib.Core.Path.{_≡_}
+use mathlib.Core.Path.{_≡_, refl, sym, ap, _∙_}
+use mathlib.Core.Bool.{Bool, true, false, true≢false}
+use mathlib.Core.Logic.{inl, inr}
 use mathlib.Core.List.{List}
 use Prim.Native.Nat.{ℕ, _<_}
 use native.Mathlib.Omega.{arith}
+use lib.Dec.{eqb}
 use lib.IntN.{ℤ}
+use borrow.Author.Tests.{eq-eqb, ne-eqb}
 use Rattle.spec.specs.declared.Plan.{Plan}
+use Rattle.spec.specs.declared.Way.{Way}
+use Rattle.spec.specs.declared.Way.the-variants.{Joint, Coarse}
+use Rattle.spec.specs.Base.{if_then_else_}
 use Rattle.spec.specs.Frame.{Frame, frameOf}
 use Rattle.spec.specs.Checks.{Planned}
-use Rattle.spec.specs.Walk.{arrive}
-use Rattle.spec.proofs.Plans.{facts, pixel-of}
+use Rattle.spec.specs.Joint.{balanceBox}
+use Rattle.spec.specs.Walk.{byBlocks, arrive}
+use Rattle.spec.proofs.Plans.{facts, kind-of, pixel-of}
 use Rattle.window.specs.declared.sums.Sums.{Sums}
 use Rattle.level_search.specs.declared.Tally.{Tally}
 use Rattle.joint.specs.Window.{JointAt}
@@ -18,7 +26,8 @@ use Rattle.joint_search.specs.Window.{Counted}
 use Rattle.visit.specs.declared.Visit.{Visit}
 use Rattle.visit.specs.Visit.{stateOf}
 use Rattle.visit.proofs.Laws.{at-visit}
-use Rattle.joint_visit.specs.Visit.{GuidedCarried, JointVisited}
+use Rattle.joint_guided.specs.Guided.{GuidedVisited, BlocksVisited}
+use Rattle.joint_visit.specs.Visit.{JointWay, boxCut, GuidedCarried, JointVisited}
 
 module _ {b : List ℕ} {z : Plan} (pl : Planned b z) where
   pub counted-of : {s t c : ℕ} {xs ws xs′ ws′ : List ℕ} {bx′ : List ℤ} → s < z .width → t < z .height → JointAt (frameOf b) s t c xs ws xs′ ws′ bx′ →
@@ -31,13 +40,80 @@ module _ {b : List ℕ} {z : Plan} (pl : Planned b z) where
   pub carried-none : {s t c : ℕ} {a : Sums} {w : Tally} {ns : List ℕ} → z .kind ≡ 1 → GuidedCarried (frameOf b) s t c a w ns
   carried-none one = record { guided = λ two. absurd (omega (arith, one, facts pl .kind, two)) }
 
+-- ---- the level of the box
+pub box-cut-table : (blocks : Bool) (kind c : ℕ) → kind ≡ 1 → boxCut blocks kind c ≡ c
+unfolding boxCut
+box-cut-table blocks kind c e = rw (ne-eqb kind 2 (λ d. omega arith)) refl
+
+pub box-cut-joint : (kind c : ℕ) → boxCut false kind c ≡ c
+unfolding boxCut
+box-cut-joint kind c = go (eqb kind 2)
+  where
+    go : (b : Bool) → (if b then c else c) ≡ c
+    go true = refl
+    go false = refl
+
+pub box-cut-guided : (kind c : ℕ) → kind ≡ 2 → boxCut true kind c ≡ 0
+unfolding boxCut
+box-cut-guided kind c e = rw (eq-eqb kind 2 e) refl
+
+-- which way it is
+pub coarse-way : (way : Way) → JointWay way → byBlocks way ≡ true → way ≡ Coarse
+coarse-way way (inl e) b = absurd (true≢false (sym b ∙ ap byBlocks e))
+coarse-way way (inr e) b = e
+
+pub joint-way : (way : Way) → JointWay way → byBlocks way ≡ false → way ≡ Joint
+joint-way way (inl e) b = e
+joint-way way (inr e) b = absurd (true≢false (sym (ap byBlocks e) ∙ b))
+
 -- ---- the window is the visit's own
-pub joint-visited : (p : Frame) (s t c n : ℕ) (v : Visit) (xs ws xs′ ws′ : List ℕ) (bx : List ℤ) (ns : List ℕ) → stateOf v ≡ arrive p s t c n
-    → JointAt p s t (v .cut .0) xs ws xs′ ws′ bx → GuidedCarried p s t (v .cut .0) (v .running .sums) (v .running .below) ns
-    → JointVisited p (arrive p s t c n) v xs ws xs′ ws′ bx ns
-joint-visited p s t c n v xs ws xs′ ws′ bx ns e j k =
+pub joint-visited : (way : Way) (p : Frame) (s t c n : ℕ) (v : Visit) (xs ws xs′ ws′ : List ℕ) (bx : List ℤ) (ns : List ℕ)
+    → stateOf way v ≡ arrive way p s t c n → JointAt p s t (boxCut (byBlocks way) (p .set .kind) (v .cut .0)) xs ws xs′ ws′ bx
+    → GuidedCarried p s t (v .cut .0) (v .running .sums) (v .running .below) ns → JointVisited way p (arrive way p s t c n) v xs ws xs′ ws′ bx ns
+joint-visited way p s t c n v xs ws xs′ ws′ bx ns e j k =
     record {
       state = e;
-      joint = at-visit p s t c n (λ x y. JointAt p x y (v .cut .0) xs ws xs′ ws′ bx) v e j;
-      carried = at-visit p s t c n (λ x y. GuidedCarried p x y (v .cut .0) (v .running .sums) (v .running .below) ns) v e k;
+      joint = at-visit way p s t c n (λ x y. JointAt p x y (boxCut (byBlocks way) (p .set .kind) (v .cut .0)) xs ws xs′ ws′ bx) v e j;
+      carried = at-visit way p s t c n (λ x y. GuidedCarried p x y (v .cut .0) (v .running .sums) (v .running .below) ns) v e k;
     }
+
+-- ---- by kind and way, from stores that were made or moved with the box at the kept level
+module _ {b : List ℕ} {z : Plan} (pl : Planned b z) (way : Way) (c n : ℕ) {s t : ℕ} {v : Visit} {xs ws xs′ ws′ : List ℕ} {bx : List ℤ} {ns : List ℕ} where
+  -- kind 1
+  pub table-visited : {d : ℕ} {bx₀ : List ℤ} → z .kind ≡ 1 → JointAt (frameOf b) s t d xs ws xs′ ws′ bx₀
+      → (stateOf way v ≡ arrive way (frameOf b) s t c n) × (bx ≡ balanceBox (frameOf b) s t (v .cut .0))
+      → JointVisited way (frameOf b) (arrive way (frameOf b) s t c n) v xs ws xs′ ws′ bx ns
+  table-visited one j e =
+      joint-visited way (frameOf b) s t c n v xs ws xs′ ws′ bx ns (e .0)
+      (record {
+        counts = j .counts;
+        words = j .words;
+        box = e .1 ∙ ap (balanceBox (frameOf b) s t) (sym (box-cut-table (byBlocks way) (frameOf b .set .kind) (v .cut .0) (kind-of pl one)));
+      })
+      (carried-none pl one)
+
+  -- kind 2, way 1
+  pub guided-visited : {d : ℕ} {bx₀ : List ℤ} → JointWay way → byBlocks way ≡ false → JointAt (frameOf b) s t d xs ws xs′ ws′ bx₀
+      → GuidedVisited (frameOf b) s t c n v bx ns → JointVisited way (frameOf b) (arrive way (frameOf b) s t c n) v xs ws xs′ ws′ bx ns
+  guided-visited w e j g =
+      rw (joint-way way w e)
+      (joint-visited Joint (frameOf b) s t c n v xs ws xs′ ws′ bx ns (g .state)
+      (record {
+        counts = j .counts;
+        words = j .words;
+        box = g .box ∙ ap (balanceBox (frameOf b) s t) (sym (box-cut-joint (frameOf b .set .kind) (v .cut .0)));
+      })
+      (record { guided = λ _. g .guided }))
+
+  -- kind 2, way 4: the box has not been touched since
+  pub blocks-visited : JointWay way → byBlocks way ≡ true → z .kind ≡ 2 → JointAt (frameOf b) s t 0 xs ws xs′ ws′ bx
+      → BlocksVisited (frameOf b) s t n v ns → JointVisited way (frameOf b) (arrive way (frameOf b) s t c n) v xs ws xs′ ws′ bx ns
+  blocks-visited w e two j g =
+      rw (coarse-way way w e)
+      (joint-visited Coarse (frameOf b) s t c n v xs ws xs′ ws′ bx ns (g .state c)
+      (record {
+        counts = j .counts;
+        words = j .words;
+        box = j .box ∙ ap (balanceBox (frameOf b) s t) (sym (box-cut-guided (frameOf b .set .kind) (v .cut .0) (kind-of pl two)));
+      })
+      (record { guided = λ _. g .guided }))

@@ -1,25 +1,43 @@
-// Way 1, joint, at a window of a walk: its stores made or moved, its answer, the cut point and the box moved to it, and the shifts counted on the
-// way. The walk lends file, rows, box, stores and histogram, and hands the visit on.
+// Ways 1 and 4, joint and coarse, at a window of a walk: the stores made or moved, its answer, the cut point moved to it, and the shifts counted. The
+// walk lends file, rows, box, stores and histogram, and hands the visit on. Way 4's box is the walk's own: kind 1 searches by it, and in kind 2, which
+// has no use for it, it stays at level 0.
 use joint::list;
 use joint::start as store_start;
 use pixels::sums;
 use spec::Level;
 use spec::Plan;
+use spec::Way;
+use spec::by_blocks;
 use visit::Visit;
 use window::line;
+ghost use mathlib.Core.Path.{_≡_};
 ghost use Rattle.spec.specs.Frame.{frameOf};
-ghost use Rattle.spec.specs.Walk.{arrive};
+ghost use Rattle.spec.specs.Walk.{byBlocks, arrive};
 ghost use Rattle.window.specs.Line.{Adjacent};
 ghost use Rattle.joint.specs.Window.{Fresh, Held};
 ghost use Rattle.histogram.specs.Histogram.{Blank};
 ghost use Rattle.joint_rows.specs.Rows.{WeightRows};
 ghost use Rattle.visit.specs.Visit.{Within};
-ghost use Rattle.joint_visit.specs.Visit.{GuidedCarried, JointVisited};
+ghost use Rattle.joint_visit.specs.Visit.{boxCut, JointWay, GuidedCarried, JointVisited};
+
+// The level that the box is kept at, with the walk's cut point.
+pub fn box_cut(blocks: bool, kind: usize, cut: Level) -> Level
+    ensures { λ r. ⌜ r .0 ≡ boxCut blocks kind (cut .0) ⌝ }
+{
+    if kind != 2 {
+        return cut;
+    }
+    if blocks {
+        return Level(0);
+    }
+    cut
+}
 
 // A walk comes to its first window, whatever the stores and the box held.
 pub fn enter(
     file: &[u8],
     plan: Plan,
+    way: Way,
     weights: &[u16],
     column: usize,
     row: usize,
@@ -29,8 +47,8 @@ pub fn enter(
     histogram: &mut [u32],
 ) -> Visit
     requires { ⌜ (Fresh (now file) plan column row (now counts) (now words)) × (Blank (plan .levels) (now histogram)) ⌝ }
-    requires { ⌜ WeightRows plan (now weights) ⌝ }
-    ensures { λ r. ⌜ JointVisited (frameOf (now (file .entry))) (arrive (frameOf (now (file .entry))) column row 0 0) r
+    requires { ⌜ (WeightRows plan (now weights)) × (JointWay way) ⌝ }
+    ensures { λ r. ⌜ JointVisited way (frameOf (now (file .entry))) (arrive way (frameOf (now (file .entry))) column row 0 0) r
         (now (counts .entry)) (now (words .entry)) (now (counts .exit)) (now (words .exit))
         (now («balance_box» .exit)) (now (histogram .exit)) ⌝ }
 {
@@ -45,6 +63,9 @@ pub fn enter(
         words,
     );
     if plan.kind == 2 {
+        if by_blocks(way) {
+            return joint_guided::enter_by_blocks(file, plan, column, row, histogram);
+        }
         return joint_guided::enter(
             file,
             plan,
@@ -59,6 +80,7 @@ pub fn enter(
     joint_table::visit(
         file,
         plan,
+        way,
         weights,
         column,
         row,
@@ -74,6 +96,7 @@ pub fn enter(
 pub fn slide(
     file: &[u8],
     plan: Plan,
+    way: Way,
     weights: &[u16],
     from: Visit,
     column: usize,
@@ -83,13 +106,13 @@ pub fn slide(
     words: &mut [u64],
     histogram: &mut [u32],
 ) -> Visit
-    requires { ⌜ (Held (now file) plan (from .column) (from .row) (from .cut .0) (now counts) (now words) (now «balance_box»))
-        × (Adjacent plan (from .column) (from .row) column row)
+    requires { ⌜ (Held (now file) plan (from .column) (from .row) (boxCut (byBlocks way) (plan .kind) (from .cut .0))
+        (now counts) (now words) (now «balance_box»)) × (Adjacent plan (from .column) (from .row) column row)
         × (GuidedCarried (frameOf (now file)) (from .column) (from .row) (from .cut .0) (from .running .sums) (from .running .below)
         (now histogram)) ⌝ }
-    requires { ⌜ (WeightRows plan (now weights)) × (Within plan from) ⌝ }
-    ensures { λ r. ⌜ JointVisited (frameOf (now (file .entry))) (arrive (frameOf (now (file .entry))) column row (from .cut .0) (from .shifts)) r
-        (now (counts .entry)) (now (words .entry)) (now (counts .exit)) (now (words .exit))
+    requires { ⌜ (WeightRows plan (now weights)) × (Within plan from) × (JointWay way) ⌝ }
+    ensures { λ r. ⌜ JointVisited way (frameOf (now (file .entry)))
+        (arrive way (frameOf (now (file .entry))) column row (from .cut .0) (from .shifts)) r (now (counts .entry)) (now (words .entry)) (now (counts .exit)) (now (words .exit))
         (now («balance_box» .exit)) (now (histogram .exit)) ⌝ }
 {
     let step = line::step_to(plan, from.column, from.row, column, row);
@@ -97,12 +120,14 @@ pub fn slide(
     let mut leaving = [0u16; 62];
     let n = pixels::read(file, plan, step.entering, &mut entering);
     let k = pixels::read(file, plan, step.leaving, &mut leaving);
+    let blocks = by_blocks(way);
     let cut = from.cut;
+    let kept = box_cut(blocks, plan.kind, cut);
     list::exchange(
         &entering[0..n],
         &leaving[0..k],
         plan.guides,
-        cut,
+        kept,
         balance_box,
         counts,
         words,
@@ -113,6 +138,17 @@ pub fn slide(
         let below = running.below;
         let a = sums::moved(known, &entering[0..n], &leaving[0..k]);
         histogram::exchange(&entering[0..n], &leaving[0..k], plan.levels, histogram);
+        if blocks {
+            return joint_guided::arrive_by_blocks(
+                file,
+                plan,
+                a,
+                column,
+                row,
+                from.shifts,
+                histogram,
+            );
+        }
         return joint_guided::arrive(
             file,
             plan,
@@ -133,6 +169,7 @@ pub fn slide(
     joint_table::visit(
         file,
         plan,
+        way,
         weights,
         column,
         row,

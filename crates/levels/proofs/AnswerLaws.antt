@@ -16,13 +16,14 @@ use borrow.Author.Tests.{eq-eqb, ne-eqb, lt-ltb, le-ltb}
 use Rattle.ints.specs.Order.{≤-trans, ≤-of-eq}
 use Rattle.ints.specs.Ring.{mul-one}
 use Rattle.spec.specs.declared.Plan.{Plan}
-use Rattle.spec.specs.Base.{if_then_else_, distance, sum}
+use Rattle.spec.specs.declared.Way.{Way}
+use Rattle.spec.specs.Base.{if_then_else_, sum}
 use Rattle.spec.specs.Frame.{Frame, level, guide, frameOf}
 use Rattle.spec.specs.Checks.{Planned}
 use Rattle.spec.specs.Window.{levelSum}
 use Rattle.spec.specs.Weight.{weight, monotone, slope, offset}
-use Rattle.spec.specs.Median.{totalWeight, cumulative, median}
-use Rattle.spec.specs.Walk.{arrive}
+use Rattle.spec.specs.Median.{totalWeight, cumulative, median, answer}
+use Rattle.spec.specs.Walk.{byBlocks, shiftsTo, adds, arrive}
 use Rattle.spec.proofs.First.{first-unique}
 use Rattle.spec.proofs.Ranges.{natSums}
 use Rattle.spec.proofs.Sums.{sum-none, sum-suc, over-inWindow, over-both, over-constant, over-mono, over-scale, over-pos}
@@ -41,7 +42,7 @@ use Rattle.level_search.specs.declared.search.Found.{Found}
 use Rattle.levels.specs.Tally.{belowSum, BelowAt}
 use Rattle.level_search.specs.Search.{sumTo, TallyTo, passes, firstLevel, LevelCells, ListsSearchable, Rising, FoundAt}
 use Rattle.level_search.specs.Block.{EndsBelow, Heaviest}
-use Rattle.levels.specs.Answer.{Profiled, Answerable, Answered}
+use Rattle.levels.specs.Answer.{Profiled, Answerable, FromCut, Answered}
 use Rattle.level_search.proofs.SearchLaws.{sumTo-none, sumTo-more}
 use Rattle.level_search.proofs.BlockLaws.{formula-below}
 use Rattle.levels.proofs.TallyLaws.{below-count-high, below-guide-high}
@@ -178,11 +179,11 @@ module _ {p : Frame} {s t : ℕ} (q : Pixel p s t) {counts sums : List ℕ} (c :
 
 -- ---- what is answered
 pub answered : {p : Frame} {s t : ℕ} → Pixel p s t → {counts sums : List ℕ} → Profiled p s t counts sums → p .set .kind ≡ 2 → {k : Coefficients} →
-    WeighsAt p s t k → {c n : ℕ} {f : Found} {m : Bool}
-    → m ≡ monotone p s t → FoundAt k counts sums f → f .shifts ≡ n + (if m then distance (f .level .0) c else f .level .0)
-    → Answered p s t c n f
-unfolding arrive
-answered {p} {s} {t} q cells two w {c} {n} {f} {m} em e sh =
+    WeighsAt p s t k → (way : Way) {c n : ℕ} {f : Found} {m : Bool}
+    → m ≡ monotone p s t → FoundAt k counts sums f → f .shifts ≡ n + (if m then shiftsTo (byBlocks way) (f .level .0) c else f .level .0)
+    → Answered way p s t c n f
+unfolding arrive adds answer
+answered {p} {s} {t} q cells two w way {c} {n} {f} {m} em e sh =
     let h = guided-full q two .1 in
     let l : f .level .0 ≡ median p s t = e .level ∙ median-is q cells two w in
     record {
@@ -202,22 +203,25 @@ module _ {b : List ℕ} {z : Plan} (pl : Planned b z) (two : z .kind ≡ 2) {s t
     is-monotone : m ≡ monotone (frameOf b) s t
     is-monotone = em ∙ ends-monotone pl two (w .0)
 
-    pub answerable : {c n : ℕ} {a : Tally} → c < z .levels → n ≤ 4294967296 → (m ≡ true → BelowAt (frameOf b) s t (c + 1) a) →
-        Answerable k (z .guides) m c n a counts sums
-    answerable lc ln below = record {
+    pub answerable : {n : ℕ} → n ≤ 4294967296 → Answerable k (z .guides) m n counts sums
+    answerable ln = record {
       search = searchable q v (guided pl two) (w .0) (w .1);
       heaviest = λ y e. heaviest q v (guided pl two) (w .0) (rw (facts pl .guides) at e);
       guides-some = guides-range pl .0;
       guides-high = guides-range pl .1;
-      cut = omega (arith, v .count-long, facts pl .levels);
       shifts = ln;
-      tally = λ e. below-tally q v (omega (arith, facts pl .levels)) (below e);
       rising = λ e. rising q v (guided pl two) (w .0) (sym is-monotone ∙ e);
     }
 
-    pub answered-at : {c n : ℕ} {f : Found} → FoundAt k counts sums f → f .shifts ≡ n + (if m then distance (f .level .0) c else f .level .0) →
-        Answered (frameOf b) s t c n f
-    answered-at e sh = answered q v (guided pl two) (w .0) is-monotone e sh
+    pub from-cut : {c : ℕ} {a : Tally} → c < z .levels → (m ≡ true → BelowAt (frameOf b) s t (c + 1) a) → FromCut m c a counts sums
+    from-cut lc below = record {
+      cut = omega (arith, v .count-long, facts pl .levels);
+      tally = λ e. below-tally q v (omega (arith, facts pl .levels)) (below e);
+    }
+
+    pub answered-at : (way : Way) {c n : ℕ} {f : Found} → FoundAt k counts sums f
+        → f .shifts ≡ n + (if m then shiftsTo (byBlocks way) (f .level .0) c else f .level .0) → Answered way (frameOf b) s t c n f
+    answered-at way e sh = answered q v (guided pl two) (w .0) way is-monotone e sh
 
 -- ---- the tally of the levels below an end
 module _ {b : List ℕ} {z : Plan} (pl : Planned b z) {s t : ℕ} (hs : s < z .width) (ht : t < z .height) {counts sums : List ℕ}

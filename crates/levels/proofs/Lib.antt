@@ -1,3 +1,4 @@
 pub mod TallyLaws
 pub mod AnswerLaws
+pub mod BlockLaws
 pub mod ListTallyLaws

@@ -1,3 +1,4 @@
 pub mod Tally
 pub mod Answer
+pub mod Blocks
 pub mod ListTally

@@ -9,7 +9,7 @@ ghost use mathlib.Core.Path.{_≡_};
 ghost use Prim.Native.Nat.{_+_};
 ghost use Rattle.spec.specs.Base.{if_then_else_, distance};
 ghost use Rattle.level_search.specs.Search.{FoundAt};
-ghost use Rattle.levels.specs.Answer.{Answerable};
+ghost use Rattle.levels.specs.Answer.{Answerable, FromCut};
 
 // By the coefficients over so many guides: from the cut point where the window is monotone, with the tally of the levels up to it; else, and that
 // is often, from level 0, where no tally is asked for.
@@ -23,7 +23,7 @@ pub fn answer(
     cut: Level,
     shifts: u64,
 ) -> Found
-    requires { ⌜ Answerable coefficients guides monotone (cut .0) shifts below (now counts) (now sums) ⌝ }
+    requires { ⌜ (Answerable coefficients guides monotone shifts (now counts) (now sums)) × (FromCut monotone (cut .0) below (now counts) (now sums)) ⌝ }
     ensures { λ f. ⌜ (FoundAt coefficients (now (counts .entry)) (now (sums .entry)) f)
         × (f .shifts ≡ shifts + (if monotone then distance (f .level .0) (cut .0) else f .level .0)) ⌝ }
 {

@@ -8,6 +8,7 @@ use lib.ListN.{replicate, take, drop}
 use lib.IntN.{ℤ, pos, negsuc}
 use Rattle.spec.specs.declared.Settings.{Settings}
 use Rattle.spec.specs.declared.Room.{Room}
+use Rattle.spec.specs.declared.Way.the-variants.{Joint, Coarse}
 use Rattle.spec.specs.Base.{fold, foldRect, first, tabulateFrom, tabulate}
 use Rattle.spec.specs.Bytes.{be16, be32, to16, to32, all16}
 use Rattle.spec.specs.Refusal.{Outcome, accepted, refused}
@@ -45,11 +46,12 @@ use Rattle.spec.specs.Checks.{
 use Rattle.spec.specs.Window.{span, over, pixelCount, guideSum, squareSum, count, levelSum}
 use Rattle.spec.specs.Weight.{scaledVariance, guidedWeight, weight, monotone}
 use Rattle.spec.specs.Median.{totalWeight, cumulative, balance, isZero, weightless, median, answer, differences}
-use Rattle.spec.specs.Walk.{State, arrive, move, follow, step, after, answers, walkEnd, walkAnswers}
+use Rattle.spec.specs.Walk.{State, adds, arrive, move, follow, step, after, answers, walkEnd, walkAnswers}
 use Rattle.spec.specs.Filter.{turn, serpentine, filtered, filterEnd}
 use Rattle.spec.specs.Joint.{jointCounts, occupancyWord, occupancyWords, balanceBox}
 use Rattle.spec.specs.Columns.{columnSum, columnStore}
 use Rattle.spec.specs.Chain.{Entry, entryOf, entries, Reads, ChainStore}
+use Rattle.spec.specs.Coarse.{blockWeight, summary}
 use Rattle.spec.specs.Calls.{
   wayOf,
   badWay,
@@ -83,6 +85,8 @@ pub data Question : Type 0 where
   parts : List ℕ → Question
   worst : List ℕ → ℕ → List ℕ → Question
   stores : List ℕ → ℕ → ℕ → List ℕ → Question
+  coarse : List ℕ → ℕ → ℕ → List ℕ → Question
+  coarseFilter : List ℕ → Question
 
 pub data Reply : Type 0 where
   says : Outcome → Reply
@@ -90,6 +94,7 @@ pub data Reply : Type 0 where
   weighs : List ℤ → Reply
   prints : List ℕ → Reply
   holds : List ℕ → List ℕ → List ℤ → List ℕ → List Entry → Reply
+  sums : List ℕ → ℕ → List ℤ → Reply
 
 abbrev closed : State → List ℕ → Reply
 closed x l = gives l (x .shifts)
@@ -102,13 +107,13 @@ unfoldable pub reply : Question → Reply
 unfolding fold foldRect first tabulateFrom tabulate be16 be32 to16 to32 all16 trailerAt settingsOf trailerOf ownWeights valuePart guidePart tablePart
     builtIn planOf pixelLevel pixelGuide frameOf badMark badSize badCounts badKind badRadius settingsOutcome badDistance scan scanFile valueScan
     guideScan contents trailerOutcome verdict span over pixelCount guideSum squareSum count levelSum scaledVariance guidedWeight weight
-    monotone totalWeight cumulative balance isZero weightless median answer differences arrive move follow step after answers walkEnd walkAnswers
-    turn serpentine filtered filterEnd jointCounts occupancyWord occupancyWords balanceBox columnSum columnStore entryOf entries wayOf badWay roomOf
+    monotone totalWeight cumulative balance isZero weightless median answer differences adds arrive move follow step after answers walkEnd walkAnswers
+    turn serpentine filtered filterEnd jointCounts occupancyWord occupancyWords balanceBox columnSum columnStore entryOf entries blockWeight summary wayOf badWay roomOf
     badPixel lacks short walkChecks walkOutcome filterChecks filterOutcome balanceChecks balanceOutcome fieldBytes distanceBytes written writtenSize
     badLength scanList writerOutcome digits spaced rows ways tooLarge programOutcome beside outputText printed
 reply (accept b) = says (verdict b)
-reply (walk b s t l) = let p = frameOf b in closed (walkEnd p s t l) (walkAnswers p s t l)
-reply (filter b) = let p = frameOf b in closed (filterEnd p) (filtered p)
+reply (walk b s t l) = let p = frameOf b in closed (walkEnd Joint p s t l) (walkAnswers p s t l)
+reply (filter b) = let p = frameOf b in closed (filterEnd Joint p) (filtered p)
 reply (weigh b s) = let p = frameOf b in weighs (tabulate (p .set .width) (λ x. weight p s 0 (guide p x 0)))
 reply (sumOf b s) = weighs (totalWeight (frameOf b) s 0 ∷ [])
 reply (balances b s l) = weighs (map (balance (frameOf b) s 0) l)
@@ -120,11 +125,19 @@ reply (parts b) = prints (valuePart b ++ guidePart b ++ tablePart b)
 reply (worst b s l) = weighs (map (differences (frameOf b) s 0) l)
 reply (stores b s t l) =
     let p = frameOf b in
-    let x = walkEnd p s t l in
+    let x = walkEnd Joint p s t l in
     let u = x .column in
     let v = x .row in
     holds (jointCounts p u v) (occupancyWords p u v) (take (p .set .guides + 1) (balanceBox p u v (x .cut))) (columnStore p u v)
     (entries p u v (p .set .levels))
+reply (coarse b s t l) =
+    let p = frameOf b in
+    let x = walkEnd Coarse p s t l in
+    sums (walkAnswers p s t l) (x .shifts) (summary p (x .column) (x .row))
+reply (coarseFilter b) =
+    let p = frameOf b in
+    let x = filterEnd Coarse p in
+    sums (filtered p) (x .shifts) (summary p (x .column) (x .row))
 
 -- ---- the files
 
@@ -157,6 +170,20 @@ fileG = made 1 1 8 2 1 1 0 (2 ∷ []) (0 ∷ []) (1 ∷ 1 ∷ 1 ∷ 1 ∷ [])
 abbrev fileHeavy : List ℕ
 fileHeavy = made 3 1 8 2 1 1 0 (1 ∷ 5 ∷ 3 ∷ []) (0 ∷ 1 ∷ 0 ∷ []) (65535 ∷ 257 ∷ 1 ∷ 65535 ∷ [])
 
+-- document 02, ask 2: 40 levels are three blocks, the last of 8 levels. The issue's frame; a table that is not symmetric; B with its levels apart, so
+-- that the pixel of negative weight has a block of its own; a window between two others that has no weight
+abbrev fileSheet : List ℕ
+fileSheet = made 4 1 40 2 1 1 0 (2 ∷ 39 ∷ 17 ∷ 20 ∷ []) (0 ∷ 1 ∷ 0 ∷ 1 ∷ []) (1 ∷ 2 ∷ 0 ∷ 1 ∷ [])
+
+abbrev fileBlocks : List ℕ
+fileBlocks = made 4 1 40 2 1 1 0 (33 ∷ 2 ∷ 39 ∷ 17 ∷ []) (0 ∷ 1 ∷ 1 ∷ 0 ∷ []) (1 ∷ 2 ∷ 0 ∷ 3 ∷ [])
+
+abbrev fileApart : List ℕ
+fileApart = made 5 1 40 16 2 2 1 (17 ∷ 34 ∷ 37 ∷ 35 ∷ 3 ∷ []) (7 ∷ 7 ∷ 15 ∷ 7 ∷ 0 ∷ []) []
+
+abbrev fileBetween : List ℕ
+fileBetween = made 3 1 40 2 1 0 0 (20 ∷ 35 ∷ 31 ∷ []) (0 ∷ 1 ∷ 0 ∷ []) (1 ∷ 0 ∷ 0 ∷ 0 ∷ [])
+
 -- two rows; one window's formula is negative at guide 0, another's at M − 1
 abbrev fileTwoRows : List ℕ
 fileTwoRows = made 3 2 8 16 2 1 1 (6 ∷ 1 ∷ 3 ∷ 7 ∷ 1 ∷ 4 ∷ []) (7 ∷ 15 ∷ 3 ∷ 7 ∷ 0 ∷ 3 ∷ []) []
@@ -173,9 +200,12 @@ placedA = placed (take 12 fileA) (settings 3 1 8 4 2 1 1)
 abbrev placedTable : ℕ → ℕ → ℕ → List ℕ
 placedTable = placed (take 12 fileA) (settings 1 1 8 2 1 0 0)
 
--- counts, words, 32-bit numbers
+-- counts, words, 32-bit numbers; counts, words, weight sums
 abbrev room : ℕ → ℕ → ℕ → Room
-room a b c = record { counts = a; words = b; numbers = c }
+room a b c = record { counts = a; words = b; numbers = c; summary = 0 }
+
+abbrev roomWith : ℕ → ℕ → ℕ → Room
+roomWith a b c = record { counts = a; words = b; numbers = 0; summary = c }
 
 -- ---- the table
 
@@ -196,7 +226,7 @@ cases =
     ∷ weigh fileA 1 ⇒ weighs (pos 21 ∷ pos 21 ∷ pos 9 ∷ [])
     ∷ output fileA ⇒ prints
     (51 ∷ 32 ∷ 49 ∷ 10 ∷ 49 ∷ 32 ∷ 51 ∷ 32 ∷ 51 ∷ 10 ∷ 106 ∷ 111 ∷ 105 ∷ 110 ∷ 116 ∷ 32 ∷ 51 ∷ 10 ∷ 99 ∷ 111 ∷ 108 ∷ 117 ∷ 109 ∷ 110 ∷ 115 ∷ 32 ∷
-    51 ∷ 10 ∷ 99 ∷ 104 ∷ 97 ∷ 105 ∷ 110 ∷ 32 ∷ 51 ∷ 10 ∷ [])
+    51 ∷ 10 ∷ 99 ∷ 104 ∷ 97 ∷ 105 ∷ 110 ∷ 32 ∷ 51 ∷ 10 ∷ 99 ∷ 111 ∷ 97 ∷ 114 ∷ 115 ∷ 101 ∷ 32 ∷ 55 ∷ 10 ∷ [])
     ∷ accept fileB ⇒ says accepted
     ∷ weigh fileB 2 ⇒ weighs (pos 550 ∷ pos 550 ∷ pos 2110 ∷ pos 550 ∷ negsuc 814 ∷ [])
     ∷ sumOf fileB 2 ⇒ weighs (pos 2945 ∷ [])
@@ -271,6 +301,13 @@ cases =
     ∷ call (walkOutcome fileA 2 2 0 4 (room 0 0 64) 5) ⇒ says accepted
     ∷ call (walkOutcome fileA 3 2 0 4 (room 0 0 37) 4) ⇒ says (refused 11 [])
     ∷ call (walkOutcome fileA 3 2 0 4 (room 0 0 37) 5) ⇒ says accepted
+    ∷ call (walkOutcome fileA 4 2 0 4 (roomWith 32 8 1) 5) ⇒ says accepted
+    ∷ call (walkOutcome fileA 5 2 0 4 (roomWith 32 8 1) 5) ⇒ says (refused 8 [])
+    ∷ call (walkOutcome fileSheet 3 2 0 4 (room 0 0 37) 5) ⇒ says (refused 8 [])
+    ∷ call (walkOutcome fileSheet 4 2 0 4 (roomWith 80 40 3) 5) ⇒ says accepted
+    ∷ call (walkOutcome fileSheet 4 2 0 4 (roomWith 80 40 2) 5) ⇒ says (refused 11 [])
+    ∷ call (filterOutcome fileSheet 4 (roomWith 80 40 2) 4) ⇒ says (refused 11 [])
+    ∷ call (filterOutcome fileSheet 5 (roomWith 80 40 3) 4) ⇒ says (refused 8 [])
     ∷ call (filterOutcome fileA 1 (room 32 7 0) 3) ⇒ says (refused 11 [])
     ∷ call (filterOutcome fileA 1 (room 32 8 0) 3) ⇒ says accepted
     ∷ call (balanceOutcome fileA 2 0 8) ⇒ says (refused 9 [])
@@ -289,6 +326,15 @@ cases =
     (0 ∷ 0 ∷ 0 ∷ 0 ∷ 0 ∷ 1 ∷ 0 ∷ 0 ∷ 0 ∷ 1 ∷ 0 ∷ 0 ∷ 0 ∷ 0 ∷ 0 ∷ 0 ∷ 0 ∷ 0 ∷ 0 ∷ 1 ∷ 0 ∷ 0 ∷ 0 ∷ 0 ∷ 0 ∷ 0 ∷ 0 ∷ 0 ∷ 0 ∷ 0 ∷ 0 ∷ 0 ∷ 0 ∷ 0 ∷ 0 ∷ 0 ∷
     0 ∷ 0 ∷ 0 ∷ 0 ∷ 0 ∷ 0 ∷ 0 ∷ 2 ∷ 0 ∷ 0 ∷ 0 ∷ 0 ∷ 0 ∷ 1 ∷ 0 ∷ 1 ∷ 0 ∷ 1 ∷ 0 ∷ 0 ∷ 0 ∷ 0 ∷ 0 ∷ 2 ∷ 0 ∷ 0 ∷ 0 ∷ 0 ∷ [])
     (record { level = 1; count = 1; guides = 0 } ∷ record { level = 3; count = 1; guides = 2 } ∷ record { level = 5; count = 1; guides = 0 } ∷ [])
+    ∷ filter fileSheet ⇒ gives (39 ∷ 39 ∷ 20 ∷ 20 ∷ []) 58
+    ∷ coarseFilter fileSheet ⇒ sums (39 ∷ 39 ∷ 20 ∷ 20 ∷ []) 28 (pos 0 ∷ pos 1 ∷ pos 0 ∷ [])
+    ∷ coarseFilter fileA ⇒ sums (1 ∷ 3 ∷ 3 ∷ []) 7 (pos 16 ∷ [])
+    ∷ coarseFilter fileB ⇒ sums (2 ∷ 2 ∷ 3 ∷ 3 ∷ 4 ∷ []) 14 (pos 1041 ∷ [])
+    ∷ coarse fileA 0 0 (0 ∷ 2 ∷ 0 ∷ 1 ∷ []) ⇒ sums (1 ∷ 3 ∷ 65534 ∷ 3 ∷ 3 ∷ []) 10 (pos 51 ∷ [])
+    ∷ coarse fileBlocks 0 0 (0 ∷ 0 ∷ 0 ∷ []) ⇒ sums (2 ∷ 2 ∷ 2 ∷ 39 ∷ []) 15 (pos 0 ∷ pos 1 ∷ pos 2 ∷ [])
+    ∷ coarse fileBlocks 3 0 (1 ∷ 9 ∷ 1 ∷ 2 ∷ []) ⇒ sums (39 ∷ 2 ∷ 65533 ∷ 2 ∷ 65534 ∷ []) 13 (pos 3 ∷ pos 0 ∷ pos 3 ∷ [])
+    ∷ coarse fileApart 0 0 (0 ∷ 0 ∷ []) ⇒ sums (34 ∷ 34 ∷ 37 ∷ []) 45 (negsuc 814 ∷ pos 550 ∷ pos 3210 ∷ [])
+    ∷ coarse fileBetween 0 0 (0 ∷ 0 ∷ []) ⇒ sums (20 ∷ 35 ∷ 31 ∷ []) 21 (pos 0 ∷ pos 1 ∷ pos 0 ∷ [])
     ∷ []
 
 benches : map given cases ≡ map due cases

@@ -1,22 +1,23 @@
 -- What a call that no check refuses has in hand: an accepted file, its pixel, a way that serves, room enough.
 -- Assumes nothing.
-use mathlib.Core.Path.{_≡_, refl}
+use mathlib.Core.Path.{_≡_, refl, sym}
 use mathlib.Core.Bool.{Bool, true, false, not, _&&_, _||_, true≢false}
 use mathlib.Core.Logic.{_⊎_, inl, inr}
 use mathlib.Core.List.{List}
 use Prim.Native.Nat.{ℕ, _+_, _≤_, _<_}
+use native.Mathlib.Omega.{arith}
 use lib.Dec.{ltb, eqb}
 use borrow.Author.Tests.{ltb-true, ltb-false, eqb-true, not-false}
 use Rattle.spec.specs.declared.Settings.{Settings}
 use Rattle.spec.specs.declared.Room.{Room}
-use Rattle.spec.specs.declared.Way.{Way}
-use Rattle.spec.specs.declared.Way.the-variants.{Joint, Columns, Chain}
+use Rattle.spec.specs.declared.Way.the-variants.{Joint, Columns, Chain, Coarse}
 use Rattle.spec.specs.Base.{if_then_else_}
 use Rattle.spec.specs.Refusal.{accepted, _▷_, refuse}
 use Rattle.spec.specs.Frame.{Frame, pixels, settingsOf, frameOf}
 use Rattle.spec.specs.Checks.{outside, verdict}
 use Rattle.spec.specs.Calls.{
   wayOf,
+  BothKinds,
   badWay,
   roomOf,
   badPixel,
@@ -39,14 +40,23 @@ one-of true b e = inl refl
 one-of false true e = inr refl
 one-of false false e = absurd (true≢false e)
 
--- a way that serves is joint, or the kind is 2
-pub way-serves : (k : Settings) (n : ℕ) → badWay k n ≡ false → (wayOf n ≡ Joint) ⊎ (k .kind ≡ 2)
+-- a way that serves is one of these, or the kind is 2
+pub way-serves : (k : Settings) (n : ℕ) → badWay k n ≡ false → BothKinds (wayOf n) ⊎ (k .kind ≡ 2)
 unfolding badWay wayOf
-way-serves k n e = go (one-of (eqb n 1) (eqb (k .kind) 2) (neither (outside 1 3 n) (not (eqb n 1) && not (eqb (k .kind) 2)) e .1))
+way-serves k n e =
+    go (one-of (eqb n 1 || eqb n 4) (eqb (k .kind) 2) (neither (outside 1 4 n) (not (eqb n 1 || eqb n 4) && not (eqb (k .kind) 2)) e .1))
   where
-    go : (eqb n 1 ≡ true) ⊎ (eqb (k .kind) 2 ≡ true)
-        → ((if eqb n 1 then Joint else if eqb n 2 then Columns else Chain) ≡ Joint) ⊎ (k .kind ≡ 2)
-    go (inl d) = inl (rw d refl)
+    by : (a b c d : Bool) → eqb n 2 ≡ b → eqb n 3 ≡ c → eqb n 4 ≡ d → (a || d) ≡ true
+        → BothKinds (if a then Joint else if b then Columns else if c then Chain else Coarse)
+    by true b c d e₂ e₃ e₄ h = tt
+    by false true c true e₂ e₃ e₄ h = absurd (omega (arith, eqb-true n 2 e₂, eqb-true n 4 e₄))
+    by false false true true e₂ e₃ e₄ h = absurd (omega (arith, eqb-true n 3 e₃, eqb-true n 4 e₄))
+    by false false false true e₂ e₃ e₄ h = tt
+    by false b c false e₂ e₃ e₄ h = absurd (true≢false (sym h))
+
+    go : ((eqb n 1 || eqb n 4) ≡ true) ⊎ (eqb (k .kind) 2 ≡ true)
+        → BothKinds (if eqb n 1 then Joint else if eqb n 2 then Columns else if eqb n 3 then Chain else Coarse) ⊎ (k .kind ≡ 2)
+    go (inl d) = inl (by (eqb n 1) (eqb n 2) (eqb n 3) (eqb n 4) refl refl refl d)
     go (inr d) = inr (eqb-true _ _ d)
 
 -- ---- check 9
@@ -63,6 +73,7 @@ pub record RoomFits (need have : Room) : Type 0 where
   pub counts : need .counts ≤ have .counts
   pub words : need .words ≤ have .words
   pub numbers : need .numbers ≤ have .numbers
+  pub summary : need .summary ≤ have .summary
 
 pub fits-of : (need have : Room) → lacks need have ≡ false → RoomFits need have
 unfolding lacks
@@ -70,9 +81,11 @@ fits-of need have e =
     let c = ltb (have .counts) (need .counts) in
     let w = ltb (have .words) (need .words) in
     let n = ltb (have .numbers) (need .numbers) in
-    let q = neither (c || w) n e in
+    let m = ltb (have .summary) (need .summary) in
+    let o = neither (c || w || n) m e in
+    let q = neither (c || w) n (o .0) in
     let r = neither c w (q .0) in
-    record { counts = ltb-false _ _ (r .0); words = ltb-false _ _ (r .1); numbers = ltb-false _ _ (q .1) }
+    record { counts = ltb-false _ _ (r .0); words = ltb-false _ _ (r .1); numbers = ltb-false _ _ (q .1); summary = ltb-false _ _ (o .1) }
 
 -- ---- a walk of n moves
 pub record WalkAccepted (b : List ℕ) (way s t n : ℕ) (have : Room) (out : ℕ) : Type 0 where

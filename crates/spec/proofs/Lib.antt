@@ -16,6 +16,7 @@ pub mod Minimum
 pub mod Present
 pub mod Bounds
 pub mod Walks
+pub mod Blocks
 pub mod Climb
 pub mod Moves
 pub mod Serpentine

@@ -12,6 +12,8 @@ use lib.Dec.{ltb, eqb}
 use lib.ListN.{length, getD, take}
 use borrow.Author.Tests.{eqb-true, eqb-false, eq-eqb, ne-eqb, lt-ltb, ltb-true, ltb-false}
 use Rattle.spec.specs.declared.Settings.{Settings}
+use Rattle.spec.specs.declared.Way.{Way}
+use Rattle.spec.specs.declared.Way.the-variants.{Joint}
 use Rattle.spec.specs.declared.Move.{Move}
 use Rattle.spec.specs.declared.Move.the-variants.{To, Nowhere}
 use Rattle.spec.specs.Base.{if_then_else_}
@@ -184,8 +186,9 @@ pub record At (p : Frame) (x : State) (s t : ℕ) : Type 0 where
   pub row : x .row ≡ t
   pub answer : x .answer ≡ answer p s t
 
-pub at-arrive : (p : Frame) (s t c n : ℕ) → At p (arrive p s t c n) s t
-at-arrive p s t c n = record { column = arrive-column p s t c n; row = arrive-row p s t c n; answer = arrive-answer p s t c n }
+pub at-arrive : (way : Way) (p : Frame) (s t c n : ℕ) → At p (arrive way p s t c n) s t
+at-arrive way p s t c n =
+    record { column = arrive-column way p s t c n; row = arrive-row way p s t c n; answer = arrive-answer way p s t c n }
 
 pub at-turn : (p : Frame) (x : State) (i : ℕ) → 0 < p .set .width → i + 1 < pixels (p .set) →
     At p x (columnAfter (p .set .width) i) (i / p .set .width)
@@ -194,38 +197,39 @@ at-turn p x i pos h a =
     let w = p .set .width in
     let m : move (p .set) (x .column) (x .row) (turn w i) ≡ To (columnAfter w (i + 1)) ((i + 1) / w) =
     rw (a .column, a .row) (turn-moves (p .set) pos i h) in
-    subst (λ (y : State). At p y (columnAfter w (i + 1)) ((i + 1) / w)) (sym (step-to p x (turn w i) _ _ m)) (at-arrive p _ _ (x .cut) (x .shifts))
+    subst (λ (y : State). At p y (columnAfter w (i + 1)) ((i + 1) / w)) (sym (step-to p x (turn w i) _ _ m)) 
+    (at-arrive (x .way) p _ _ (x .cut) (x .shifts))
 
 -- it begins at the first pixel
-pub serpentine-begins : {p : Frame} → FrameLimits p → At p (start p 0 0) (columnAfter (p .set .width) 0) (0 / p .set .width)
-serpentine-begins {p} g =
+pub serpentine-begins : (way : Way) {p : Frame} → FrameLimits p → At p (start way p 0 0) (columnAfter (p .set .width) 0) (0 / p .set .width)
+serpentine-begins way {p} g =
     let w = p .set .width in
     let e : 0 / w ≡ 0 = div-eq-of-lt (g .sound .width-low) in
     let f : 0 % w ≡ 0 = mod-eq-of-lt (g .sound .width-low) in
-    rw (e, f, column-even w (g .sound .width-low) 0 0 refl) (at-arrive p 0 0 0 0)
+    rw (e, f, column-even w (g .sound .width-low) 0 0 refl) (at-arrive way p 0 0 0 0)
 
-pub serpentine-at : {p : Frame} → FrameLimits p → (i : ℕ) → i < pixels (p .set)
-    → At p (walkEnd p 0 0 (take i (serpentine (p .set)))) (columnAfter (p .set .width) i) (i / p .set .width)
+pub serpentine-at : (way : Way) {p : Frame} → FrameLimits p → (i : ℕ) → i < pixels (p .set)
+    → At p (walkEnd way p 0 0 (take i (serpentine (p .set)))) (columnAfter (p .set .width) i) (i / p .set .width)
 unfolding walkEnd after
-serpentine-at g zero h = serpentine-begins g
-serpentine-at {p} g (suc i) h =
+serpentine-at way g zero h = serpentine-begins way g
+serpentine-at way {p} g (suc i) h =
     let w = p .set .width in
     let k = p .set in
     let l : i < length (serpentine k) = omega (arith, serpentine-length k) in
-    let x = after p (start p 0 0) (take i (serpentine k)) in
-    let e : after p (start p 0 0) (take (suc i) (serpentine k)) ≡ step p x (turn w i) =
-    after-next p (start p 0 0) (serpentine k) i l ∙ ap (step p x) (serpentine-byte k i (omega arith)) in
+    let x = after p (start way p 0 0) (take i (serpentine k)) in
+    let e : after p (start way p 0 0) (take (suc i) (serpentine k)) ≡ step p x (turn w i) =
+    after-next p (start way p 0 0) (serpentine k) i l ∙ ap (step p x) (serpentine-byte k i (omega arith)) in
     let j : i + 1 ≡ suc i = omega arith in
     subst (λ (y : State). At p y (columnAfter w (suc i)) (suc i / w)) (sym e)
     (subst (λ (n : ℕ). At p (step p x (turn w i)) (columnAfter w n) (n / w)) j
-    (at-turn p x i (g .sound .width-low) (omega arith) (serpentine-at g i (omega arith))))
+    (at-turn p x i (g .sound .width-low) (omega arith) (serpentine-at way g i (omega arith))))
 
 -- its answers: every one of its moves is made
 pub serpentine-answers : {p : Frame} → FrameLimits p → (i : ℕ) → i < pixels (p .set)
     → getD (walkAnswers p 0 0 (serpentine (p .set))) i 0 ≡ answer p (columnAfter (p .set .width) i) (i / p .set .width)
 unfolding walkAnswers walkEnd
 serpentine-answers {p} g i h =
-    getD-answers p (start p 0 0) (serpentine (p .set)) i (omega (arith, serpentine-length (p .set))) ∙ serpentine-at g i h .answer
+    getD-answers p (start Joint p 0 0) (serpentine (p .set)) i (omega (arith, serpentine-length (p .set))) ∙ serpentine-at Joint g i h .answer
 
 -- ---- the plane
 pub filtered-at : (p : Frame) (q : ℕ) → q < pixels (p .set) → getD (filtered p) q 0 ≡ answer p (q % p .set .width) (q / p .set .width)

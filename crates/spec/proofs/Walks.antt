@@ -1,22 +1,41 @@
 -- The walk: where each byte leads, what each place of the answers holds, that the walk stays inside the picture, its marks, its cut and its shifts.
 -- Assumes nothing.
-use mathlib.Core.Path.{_≡_, refl, sym, ap, _∙_, subst}
+use mathlib.Core.Path.{_≡_, refl, sym, ap, ap₂, _∙_, subst}
 use mathlib.Core.Bool.{Bool, true, false}
 use mathlib.Core.Logic.{_⊎_, inl, inr, _↔_}
 use mathlib.Core.List.{List, [], _∷_}
-use Prim.Native.Nat.{ℕ, zero, suc, _+_, _-_, _*_, _≤_, _<_}
+use Prim.Native.Nat.{ℕ, zero, suc, _+_, _-_, _*_, _/_, _%_, _≤_, _<_}
 use native.Mathlib.Nat.{le-refl, add-zero, zero-add}
 use native.Mathlib.Omega.{arith}
 use lib.Dec.{ltb, eqb}
 use lib.ListN.{length, getD, take}
 use lib.Seq.{take-suc, take-length}
 use borrow.Author.Tests.{ltb-true, eqb-true, eqb-false}
-use Rattle.spec.specs.Base.{if_then_else_, distance, fold, sum}
+use Rattle.spec.specs.Base.{if_then_else_, fold, sum}
 use Rattle.spec.specs.declared.Settings.{Settings}
+use Rattle.spec.specs.declared.Way.{Way}
+use Rattle.spec.specs.declared.Way.the-variants.{Joint, Columns, Chain, Coarse}
 use Rattle.spec.specs.Frame.{Frame, level}
 use Rattle.spec.specs.Median.{weightless, median, answer}
 use Rattle.spec.specs.Weight.{monotone}
-use Rattle.spec.specs.Walk.{State, arrive, toIf, move, follow, step, after, answers, walkEnd, walkAnswers, adds, added, addedAt}
+use Rattle.spec.specs.Walk.{
+  State,
+  byBlocks,
+  shiftsTo,
+  adds,
+  arrive,
+  toIf,
+  move,
+  follow,
+  step,
+  after,
+  answers,
+  start,
+  walkEnd,
+  walkAnswers,
+  added,
+  addedAt,
+}
 use Rattle.spec.specs.declared.Move.{Move}
 use Rattle.spec.specs.declared.Move.the-variants.{To, Nowhere}
 use Rattle.spec.proofs.Steps.{after-one, length-answers, getD-answers}
@@ -53,53 +72,58 @@ move-fine k s t b hs ht = go (eqb b 0) refl (eqb b 1) refl (eqb b 2) refl (eqb b
         let n3 : b ≡ 3 → ⊥ = eqb-false b 3 e₃ in
         inr (refl, omega arith)
 
--- ---- arriving: what the cut and the shift count become
-pub arrive-weightless : (p : Frame) (s t c n : ℕ) → weightless p s t ≡ true
-    → arrive p s t c n ≡ record { column = s; row = t; cut = c; shifts = n; answer = level p s t }
+-- ---- arriving: the pixel is the window's; what cut, shift count and answer become
+pub arrive-way : (way : Way) (p : Frame) (s t c n : ℕ) → arrive way p s t c n .way ≡ way
 unfolding arrive
-arrive-weightless p s t c n e = rw e refl
+arrive-way way p s t c n = refl
 
-pub arrive-full : (p : Frame) (s t c n : ℕ) → weightless p s t ≡ false
+pub arrive-column : (way : Way) (p : Frame) (s t c n : ℕ) → arrive way p s t c n .column ≡ s
+unfolding arrive
+arrive-column way p s t c n = refl
+
+pub arrive-row : (way : Way) (p : Frame) (s t c n : ℕ) → arrive way p s t c n .row ≡ t
+unfolding arrive
+arrive-row way p s t c n = refl
+
+pub arrive-cut : (way : Way) (p : Frame) (s t c n : ℕ) → arrive way p s t c n .cut ≡ (if weightless p s t then c else median p s t)
+unfolding arrive
+arrive-cut way p s t c n = refl
+
+pub arrive-shifts : (way : Way) (p : Frame) (s t c n : ℕ) → arrive way p s t c n .shifts ≡ n + adds way p s t c
+unfolding arrive
+arrive-shifts way p s t c n = refl
+
+pub arrive-answer : (way : Way) (p : Frame) (s t c n : ℕ) → arrive way p s t c n .answer ≡ answer p s t
+unfolding arrive
+arrive-answer way p s t c n = refl
+
+-- by whether the window weighs anything
+pub arrive-weightless : (way : Way) (p : Frame) (s t c n : ℕ) → weightless p s t ≡ true
+    → arrive way p s t c n ≡ record { way = way; column = s; row = t; cut = c; shifts = n; answer = level p s t }
+unfolding arrive adds
+arrive-weightless way p s t c n e = rw (e, answer-weightless p s t e, add-zero n) refl
+
+pub arrive-full : (way : Way) (p : Frame) (s t c n : ℕ) → weightless p s t ≡ false
     →
-    arrive p s t c n ≡ record {
+    arrive way p s t c n ≡ record {
+      way = way;
       column = s;
       row = t;
       cut = median p s t;
       shifts =
-          n + (if monotone p s t then distance (median p s t) c else median p s t);
+          n + (if monotone p s t then shiftsTo (byBlocks way) (median p s t) c else median p s t);
       answer = median p s t;
     }
-unfolding arrive
-arrive-full p s t c n e = rw e refl
-
-pub arrive-column : (p : Frame) (s t c n : ℕ) → arrive p s t c n .column ≡ s
-arrive-column p s t c n = go (weightless p s t) refl
-  where
-    go : (b : Bool) → weightless p s t ≡ b → arrive p s t c n .column ≡ s
-    go true e = ap (λ (x : State). x .column) (arrive-weightless p s t c n e)
-    go false e = ap (λ (x : State). x .column) (arrive-full p s t c n e)
-
-pub arrive-row : (p : Frame) (s t c n : ℕ) → arrive p s t c n .row ≡ t
-arrive-row p s t c n = go (weightless p s t) refl
-  where
-    go : (b : Bool) → weightless p s t ≡ b → arrive p s t c n .row ≡ t
-    go true e = ap (λ (x : State). x .row) (arrive-weightless p s t c n e)
-    go false e = ap (λ (x : State). x .row) (arrive-full p s t c n e)
-
-pub arrive-answer : (p : Frame) (s t c n : ℕ) → arrive p s t c n .answer ≡ answer p s t
-arrive-answer p s t c n = go (weightless p s t) refl
-  where
-    go : (b : Bool) → weightless p s t ≡ b → arrive p s t c n .answer ≡ answer p s t
-    go true e = ap (λ (x : State). x .answer) (arrive-weightless p s t c n e) ∙ sym (answer-weightless p s t e)
-    go false e = ap (λ (x : State). x .answer) (arrive-full p s t c n e) ∙ sym (answer-median p s t e)
+unfolding arrive adds
+arrive-full way p s t c n e = rw (e, answer-median p s t e) refl
 
 -- ---- one byte
-pub step-to : (p : Frame) (x : State) (b s t : ℕ) → move (p .set) (x .column) (x .row) b ≡ To s t → step p x b ≡ arrive p s t (x .cut) (x .shifts)
+pub step-to : (p : Frame) (x : State) (b s t : ℕ) → move (p .set) (x .column) (x .row) b ≡ To s t → step p x b ≡ arrive (x .way) p s t (x .cut) (x .shifts)
 unfolding step follow
 step-to p x b s t e = rw e refl
 
 pub step-nowhere : (p : Frame) (x : State) (b m : ℕ) → move (p .set) (x .column) (x .row) b ≡ Nowhere m
-    → step p x b ≡ record { column = x .column; row = x .row; cut = x .cut; shifts = x .shifts; answer = m }
+    → step p x b ≡ record { way = x .way; column = x .column; row = x .row; cut = x .cut; shifts = x .shifts; answer = m }
 unfolding step follow
 step-nowhere p x b m e = rw e refl
 
@@ -111,32 +135,40 @@ pub record StateBounded (p : Frame) (x : State) (n : ℕ) : Type 0 where
   pub cut-low : x .cut < p .set .levels
   pub shifts-low : x .shifts ≤ n * 1023
 
-shift-low : (b : Bool) (m c l : ℕ) → m < l → c < l → l ≤ 1024 → (if b then distance m c else m) ≤ 1023
-shift-low true m c l h k z = omega arith
-shift-low false m c l h k z = omega arith
+shift-low : (blocks b : Bool) (m c l : ℕ) → m < l → c < l → l ≤ 1024 → (if b then shiftsTo blocks m c else m) ≤ 1023
+shift-low false true m c l h k z = omega arith
+shift-low true true m c l h k z = omega arith
+shift-low blocks false m c l h k z = omega arith
 
-pub bounded-arrive : {p : Frame} {s t : ℕ} → Pixel p s t → (c n k : ℕ) → c < p .set .levels → n ≤ k * 1023 → StateBounded p (arrive p s t c n) (suc k)
-bounded-arrive {p} {s} {t} w c n k hc hn =
+adds-low : {p : Frame} {s t : ℕ} → Pixel p s t → (way : Way) (c : ℕ) → c < p .set .levels → adds way p s t c ≤ 1023
+unfolding adds
+adds-low {p} {s} {t} w way c h = go (weightless p s t)
+  where
+    go : (b : Bool) → (if b then 0 else if monotone p s t then shiftsTo (byBlocks way) (median p s t) c else median p s t) ≤ 1023
+    go true = omega arith
+    go false = shift-low (byBlocks way) (monotone p s t) (median p s t) c (p .set .levels) (median-low w) h (w .good .sound .levels-high)
+
+cut-low : {p : Frame} {s t : ℕ} → Pixel p s t → (c : ℕ) → c < p .set .levels → (if weightless p s t then c else median p s t) < p .set .levels
+cut-low {p} {s} {t} w c h = go (weightless p s t)
+  where
+    go : (b : Bool) → (if b then c else median p s t) < p .set .levels
+    go true = h
+    go false = median-low w
+
+pub bounded-arrive : {p : Frame} {s t : ℕ} → Pixel p s t → (way : Way) (c n k : ℕ) → c < p .set .levels → n ≤ k * 1023 →
+    StateBounded p (arrive way p s t c n) (suc k)
+unfolding arrive
+bounded-arrive w way c n k hc hn =
     record {
       good = w .good;
-      in-column = rw arrive-column (w .in-column);
-      in-row = rw arrive-row (w .in-row);
-      cut-low = cut-is (weightless p s t) refl;
-      shifts-low = shifts-are (weightless p s t) refl;
+      in-column = w .in-column;
+      in-row = w .in-row;
+      cut-low = cut-low w c hc;
+      shifts-low = let q = adds-low w way c hc in omega (arith, q);
     }
-  where
-    cut-is : (b : Bool) → weightless p s t ≡ b → arrive p s t c n .cut < p .set .levels
-    cut-is true e = rw (arrive-weightless p s t c n e) hc
-    cut-is false e = rw (arrive-full p s t c n e) (median-low w)
 
-    shifts-are : (b : Bool) → weightless p s t ≡ b → arrive p s t c n .shifts ≤ suc k * 1023
-    shifts-are true e = rw (arrive-weightless p s t c n e) (omega arith)
-    shifts-are false e =
-        rw (arrive-full p s t c n e)
-        (let q = shift-low (monotone p s t) (median p s t) c (p .set .levels) (median-low w) hc (w .good .sound .levels-high) in omega (arith, q))
-
-pub bounded-start : {p : Frame} {s t : ℕ} → Pixel p s t → StateBounded p (arrive p s t 0 0) 1
-bounded-start w = bounded-arrive w 0 0 0 (omega (arith, w .good .sound .levels-low)) (omega arith)
+pub bounded-start : {p : Frame} {s t : ℕ} → Pixel p s t → (way : Way) → StateBounded p (start way p s t) 1
+bounded-start w way = bounded-arrive w way 0 0 0 (omega (arith, w .good .sound .levels-low)) (omega arith)
 
 pub bounded-step : {p : Frame} {x : State} {n : ℕ} → StateBounded p x n → (b : ℕ) → StateBounded p (step p x b) (suc n)
 bounded-step {p} {x} {n} h b = go (move (p .set) (x .column) (x .row) b) refl (move-fine (p .set) (x .column) (x .row) b (h .in-column) (h .in-row))
@@ -144,7 +176,7 @@ bounded-step {p} {x} {n} h b = go (move (p .set) (x .column) (x .row) b) refl (m
     go : (m : Move) → move (p .set) (x .column) (x .row) b ≡ m → Fine (p .set) b m → StateBounded p (step p x b) (suc n)
     go (To s t) e f =
         subst (λ (y : State). StateBounded p y (suc n)) (sym (step-to p x b s t e))
-        (bounded-arrive (record { good = h .good; in-column = f .0; in-row = f .1 }) (x .cut) (x .shifts) n (h .cut-low) (h .shifts-low))
+        (bounded-arrive (record { good = h .good; in-column = f .0; in-row = f .1 }) (x .way) (x .cut) (x .shifts) n (h .cut-low) (h .shifts-low))
     go (Nowhere m) e f =
         subst (λ (y : State). StateBounded p y (suc n)) (sym (step-nowhere p x b m e))
         (record { good = h .good; in-column = h .in-column; in-row = h .in-row; cut-low = h .cut-low; shifts-low = omega (arith, h .shifts-low) })
@@ -156,7 +188,7 @@ bounded-after {p} {x} {n} h (b ∷ bs) = let e : n + suc (length bs) ≡ suc n +
 
 -- ---- what a byte's answer says
 pub step-level : (p : Frame) (x : State) (b s t : ℕ) → move (p .set) (x .column) (x .row) b ≡ To s t → step p x b .answer ≡ answer p s t
-step-level p x b s t e = rw (step-to p x b s t e) (arrive-answer p s t (x .cut) (x .shifts))
+step-level p x b s t e = rw (step-to p x b s t e) (arrive-answer (x .way) p s t (x .cut) (x .shifts))
 
 pub step-mark : (p : Frame) (x : State) (b m : ℕ) → move (p .set) (x .column) (x .row) b ≡ Nowhere m → step p x b .answer ≡ m
 step-mark p x b m e = rw (step-nowhere p x b m e) refl
@@ -231,47 +263,64 @@ pub answers-next : (p : Frame) (x : State) (bs : List ℕ) (j : ℕ) → j < len
     → getD (answers p x bs) (suc j) 0 ≡ step p (after p x (take j bs)) (getD bs j 0) .answer
 answers-next p x bs j h = getD-answers p x bs (suc j) h ∙ ap (λ (y : State). y .answer) (after-next p x bs j h)
 
+-- ---- the answers are the same by every way: where a byte leads and what it answers asks neither for the cut point nor for the shift count
+pub record Alike (x y : State) : Type 0 where
+  pub column : x .column ≡ y .column
+  pub row : x .row ≡ y .row
+  pub answer : x .answer ≡ y .answer
+
+pub alike-arrive : (way way′ : Way) (p : Frame) (s t c c′ n n′ : ℕ) → Alike (arrive way p s t c n) (arrive way′ p s t c′ n′)
+unfolding arrive
+alike-arrive way way′ p s t c c′ n n′ = record { column = refl; row = refl; answer = refl }
+
+alike-step : (p : Frame) (x y : State) → Alike x y → (b : ℕ) → Alike (step p x b) (step p y b)
+alike-step p x y h b = go (move (p .set) (x .column) (x .row) b) refl
+  where
+    other : (m : Move) → move (p .set) (x .column) (x .row) b ≡ m → move (p .set) (y .column) (y .row) b ≡ m
+    other m e = rw (h .column, h .row) at e
+
+    go : (m : Move) → move (p .set) (x .column) (x .row) b ≡ m → Alike (step p x b) (step p y b)
+    go (To s t) e =
+        rw (step-to p x b s t e, step-to p y b s t (other (To s t) e))
+        (alike-arrive (x .way) (y .way) p s t (x .cut) (y .cut) (x .shifts) (y .shifts))
+    go (Nowhere m) e =
+        rw (step-nowhere p x b m e, step-nowhere p y b m (other (Nowhere m) e)) (record { column = h .column; row = h .row; answer = refl })
+
+alike-answers : (p : Frame) (x y : State) → Alike x y → (bs : List ℕ) → answers p x bs ≡ answers p y bs
+unfolding answers
+alike-answers p x y h [] = ap (λ (n : ℕ). n ∷ []) (h .answer)
+alike-answers p x y h (b ∷ bs) =
+    ap₂ (λ (n : ℕ) (l : List ℕ). n ∷ l) (h .answer) (alike-answers p (step p x b) (step p y b) (alike-step p x y h b) bs)
+
+pub walk-answers : (way : Way) (p : Frame) (s t : ℕ) (bs : List ℕ) → answers p (start way p s t) bs ≡ walkAnswers p s t bs
+unfolding walkAnswers
+walk-answers way p s t bs = alike-answers p (start way p s t) (start Joint p s t) (alike-arrive way Joint p s t 0 0 0 0) bs
+
 pub walk-first : (p : Frame) (s t : ℕ) (bs : List ℕ) → getD (walkAnswers p s t bs) 0 0 ≡ answer p s t
 unfolding walkAnswers
-walk-first p s t bs = answers-first p (arrive p s t 0 0) bs ∙ arrive-answer p s t 0 0
+walk-first p s t bs = answers-first p (start Joint p s t) bs ∙ arrive-answer Joint p s t 0 0
 
-pub walk-next : (p : Frame) (s t : ℕ) (bs : List ℕ) (j : ℕ) → j < length bs
-    → getD (walkAnswers p s t bs) (suc j) 0 ≡ step p (walkEnd p s t (take j bs)) (getD bs j 0) .answer
-unfolding walkAnswers walkEnd
-walk-next p s t bs j h = answers-next p (arrive p s t 0 0) bs j h
-
-pub walk-bounded : {p : Frame} {s t : ℕ} → Pixel p s t → (bs : List ℕ) → StateBounded p (walkEnd p s t bs) (1 + length bs)
+pub walk-next : (way : Way) (p : Frame) (s t : ℕ) (bs : List ℕ) (j : ℕ) → j < length bs
+    → getD (walkAnswers p s t bs) (suc j) 0 ≡ step p (walkEnd way p s t (take j bs)) (getD bs j 0) .answer
 unfolding walkEnd
-walk-bounded w bs = bounded-after (bounded-start w) bs
+walk-next way p s t bs j h =
+    ap (λ (l : List ℕ). getD l (suc j) 0) (sym (walk-answers way p s t bs)) ∙ answers-next p (start way p s t) bs j h
+
+pub walk-bounded : {p : Frame} {s t : ℕ} → Pixel p s t → (way : Way) (bs : List ℕ) → StateBounded p (walkEnd way p s t bs) (1 + length bs)
+unfolding walkEnd
+walk-bounded w way bs = bounded-after (bounded-start w way) bs
 
 pub walk-length : (p : Frame) (s t : ℕ) (bs : List ℕ) → length (walkAnswers p s t bs) ≡ suc (length bs)
 unfolding walkAnswers
-walk-length p s t bs = length-answers p (arrive p s t 0 0) bs
+walk-length p s t bs = length-answers p (start Joint p s t) bs
 
 -- ---- the shift count is the sum of what the windows add
-pub arrive-shifts : (p : Frame) (s t c n : ℕ) → arrive p s t c n .shifts ≡ n + adds p s t c
-unfolding adds
-arrive-shifts p s t c n = go (weightless p s t) refl
-  where
-    go : (b : Bool) → weightless p s t ≡ b →
-        arrive p s t c n .shifts ≡ n + (if weightless p s t then 0 else (if monotone p s t then distance (median p s t) c else median p s t))
-    go true e = let z : n ≡ n + 0 = omega arith in ap (λ (x : State). x .shifts) (arrive-weightless p s t c n e) ∙ rw e z
-    go false e = ap (λ (x : State). x .shifts) (arrive-full p s t c n e) ∙ rw e refl
-
--- for readers: the cut point after a window
-pub arrive-cut : (p : Frame) (s t c n : ℕ) → arrive p s t c n .cut ≡ (if weightless p s t then c else median p s t)
-arrive-cut p s t c n = go (weightless p s t) refl
-  where
-    go : (b : Bool) → weightless p s t ≡ b → arrive p s t c n .cut ≡ (if weightless p s t then c else median p s t)
-    go true e = ap (λ (x : State). x .cut) (arrive-weightless p s t c n e) ∙ rw e refl
-    go false e = ap (λ (x : State). x .cut) (arrive-full p s t c n e) ∙ rw e refl
-
 pub step-shifts : (p : Frame) (x : State) (b : ℕ) → step p x b .shifts ≡ x .shifts + added p x (move (p .set) (x .column) (x .row) b)
 unfolding added
 step-shifts p x b = go (move (p .set) (x .column) (x .row) b) refl
   where
     go : (m : Move) → move (p .set) (x .column) (x .row) b ≡ m → step p x b .shifts ≡ x .shifts + added p x m
-    go (To s t) e = ap (λ (y : State). y .shifts) (step-to p x b s t e) ∙ arrive-shifts p s t (x .cut) (x .shifts)
+    go (To s t) e = ap (λ (y : State). y .shifts) (step-to p x b s t e) ∙ arrive-shifts (x .way) p s t (x .cut) (x .shifts)
     go (Nowhere m) e = ap (λ (y : State). y .shifts) (step-nowhere p x b m e) ∙ sym (add-zero (x .shifts))
 
 next : (p : Frame) (x : State) (bs : List ℕ) (n : ℕ) → suc n ≤ length bs →
@@ -290,10 +339,52 @@ after-shifts p x bs (suc n) h =
     omega arith
 
 -- the walk's shift count: the start window's, and each byte's
-pub walk-shifts : (p : Frame) (s t : ℕ) (bs : List ℕ)
-    → walkEnd p s t bs .shifts ≡ adds p s t 0 + sum (addedAt p (arrive p s t 0 0) bs) 0 (length bs)
+pub walk-shifts : (way : Way) (p : Frame) (s t : ℕ) (bs : List ℕ)
+    → walkEnd way p s t bs .shifts ≡ adds way p s t 0 + sum (addedAt p (start way p s t) bs) 0 (length bs)
 unfolding walkEnd
-walk-shifts p s t bs =
-    ap (λ (l : List ℕ). after p (arrive p s t 0 0) l .shifts) (sym (take-length bs))
-    ∙ after-shifts p (arrive p s t 0 0) bs (length bs) (le-refl (length bs))
-    ∙ ap (λ (n : ℕ). n + sum (addedAt p (arrive p s t 0 0) bs) 0 (length bs)) (arrive-shifts p s t 0 0 ∙ zero-add (adds p s t 0))
+walk-shifts way p s t bs =
+    ap (λ (l : List ℕ). after p (start way p s t) l .shifts) (sym (take-length bs))
+    ∙ after-shifts p (start way p s t) bs (length bs) (le-refl (length bs))
+    ∙ ap (λ (n : ℕ). n + sum (addedAt p (start way p s t) bs) 0 (length bs)) (arrive-shifts way p s t 0 0 ∙ zero-add (adds way p s t 0))
+
+-- ---- ways that count by one rule have the same cut point and the same shift count everywhere
+pub record SameCount (x y : State) : Type 0 where
+  pub rule : byBlocks (x .way) ≡ byBlocks (y .way)
+  pub column : x .column ≡ y .column
+  pub row : x .row ≡ y .row
+  pub cut : x .cut ≡ y .cut
+  pub shifts : x .shifts ≡ y .shifts
+
+same-arrive : (way way′ : Way) → byBlocks way ≡ byBlocks way′ → (p : Frame) (s t c n : ℕ) → SameCount (arrive way p s t c n) (arrive way′ p s t c n)
+unfolding arrive adds
+same-arrive way way′ e p s t c n = record {
+  rule = e;
+  column = refl;
+  row = refl;
+  cut = refl;
+  shifts = ap (λ (b : Bool). n + (if weightless p s t then 0 else if monotone p s t then shiftsTo b (median p s t) c else median p s t)) e;
+}
+
+same-step : (p : Frame) (x y : State) → SameCount x y → (b : ℕ) → SameCount (step p x b) (step p y b)
+same-step p x y h b = go (move (p .set) (x .column) (x .row) b) refl
+  where
+    other : (m : Move) → move (p .set) (x .column) (x .row) b ≡ m → move (p .set) (y .column) (y .row) b ≡ m
+    other m e = rw (h .column, h .row) at e
+
+    go : (m : Move) → move (p .set) (x .column) (x .row) b ≡ m → SameCount (step p x b) (step p y b)
+    go (To s t) e =
+        rw (step-to p x b s t e, step-to p y b s t (other (To s t) e), h .cut, h .shifts)
+        (same-arrive (x .way) (y .way) (h .rule) p s t (y .cut) (y .shifts))
+    go (Nowhere m) e =
+        rw (step-nowhere p x b m e, step-nowhere p y b m (other (Nowhere m) e))
+        (record { rule = h .rule; column = h .column; row = h .row; cut = h .cut; shifts = h .shifts })
+
+same-after : (p : Frame) (x y : State) → SameCount x y → (bs : List ℕ) → SameCount (after p x bs) (after p y bs)
+unfolding after
+same-after p x y h [] = h
+same-after p x y h (b ∷ bs) = same-after p (step p x b) (step p y b) (same-step p x y h b) bs
+
+pub walk-same : (way way′ : Way) → byBlocks way ≡ byBlocks way′ → (p : Frame) (s t : ℕ) (bs : List ℕ) →
+    walkEnd way p s t bs .shifts ≡ walkEnd way′ p s t bs .shifts
+unfolding walkEnd
+walk-same way way′ e p s t bs = same-after p (start way p s t) (start way′ p s t) (same-arrive way way′ e p s t 0 0) bs .shifts

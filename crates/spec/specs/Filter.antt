@@ -4,6 +4,7 @@ use Prim.Native.Nat.{ℕ, _+_, _-_, _/_, _%_}
 use mathlib.Core.List.{List}
 use lib.Dec.{eqb}
 use Rattle.spec.specs.declared.Settings.{Settings}
+use Rattle.spec.specs.declared.Way.{Way}
 use Rattle.spec.specs.Base.{if_then_else_, tabulate}
 use Rattle.spec.specs.Frame.{Frame, pixels}
 use Rattle.spec.specs.Median.{answer}
@@ -20,5 +21,5 @@ serpentine settings = tabulate (pixels settings - 1) (turn (settings .width))
 unfoldable pub filtered : Frame → List ℕ
 filtered p = tabulate (pixels (p .set)) (λ q. answer p (q % p .set .width) (q / p .set .width))
 
-unfoldable pub filterEnd : Frame → State
-filterEnd p = walkEnd p 0 0 (serpentine (p .set))
+unfoldable pub filterEnd : Way → Frame → State
+filterEnd way p = walkEnd way p 0 0 (serpentine (p .set))

@@ -11,6 +11,7 @@ pub mod Filter
 pub mod Joint
 pub mod Columns
 pub mod Chain
+pub mod Coarse
 pub mod Calls
 pub mod Writer
 pub mod Program

@@ -6,6 +6,7 @@ use mathlib.Core.List.{List, [], _∷_, _++_}
 use lib.Dec.{ltb, eqb}
 use lib.ListN.{length}
 use Rattle.spec.specs.declared.Settings.{Settings}
+use Rattle.spec.specs.declared.Way.the-variants.{Joint, Coarse}
 use Rattle.spec.specs.Base.{if_then_else_}
 use Rattle.spec.specs.Refusal.{Outcome, accepted, refused, _▷_, refuse}
 use Rattle.spec.specs.Frame.{Frame, settingsOf, frameOf}
@@ -35,7 +36,7 @@ unfoldable pub rows : Frame → ℕ → List ℕ
 rows p zero = []
 rows p (suc t) = rows p t ++ line (spaced (p .set .width - 1) (λ s. answer p s t))
 
--- the words joint, columns, chain and refused, each with a space after it
+-- the words joint, columns, chain, coarse and refused, each with a space after it
 abbrev pub jointWord : List ℕ
 jointWord = 106 ∷ 111 ∷ 105 ∷ 110 ∷ 116 ∷ 32 ∷ []
 
@@ -45,14 +46,18 @@ columnsWord = 99 ∷ 111 ∷ 108 ∷ 117 ∷ 109 ∷ 110 ∷ 115 ∷ 32 ∷ []
 abbrev pub chainWord : List ℕ
 chainWord = 99 ∷ 104 ∷ 97 ∷ 105 ∷ 110 ∷ 32 ∷ []
 
+abbrev pub coarseWord : List ℕ
+coarseWord = 99 ∷ 111 ∷ 97 ∷ 114 ∷ 115 ∷ 101 ∷ 32 ∷ []
+
 abbrev pub refusedWord : List ℕ
 refusedWord = 114 ∷ 101 ∷ 102 ∷ 117 ∷ 115 ∷ 101 ∷ 100 ∷ 32 ∷ []
 
--- each serving way with its shifts, which are the same
+-- each serving way with its shifts, which are the same for ways 1 to 3; way 4 last
 unfoldable pub ways : Frame → List ℕ
 ways p =
-    let n = decimal (filterEnd p .shifts) in
+    let n = decimal (filterEnd Joint p .shifts) in
     line (jointWord ++ n) ++ (if eqb (p .set .kind) 2 then line (columnsWord ++ n) ++ line (chainWord ++ n) else [])
+    ++ line (coarseWord ++ decimal (filterEnd Coarse p .shifts))
 
 -- check 12: too many bytes first, and after opening too large a picture
 unfoldable pub tooLarge : Settings → Bool

@@ -1,38 +1,68 @@
 -- The walk: its moves, its answers, its cut point and its shift count.
 -- Assumes nothing.
-use Prim.Native.Nat.{ℕ, _+_, _-_}
+use Prim.Native.Nat.{ℕ, _+_, _-_, _/_, _%_}
 use mathlib.Core.Bool.{Bool, true, false}
 use mathlib.Core.List.{List, [], _∷_}
 use lib.Dec.{ltb, eqb}
 use lib.ListN.{getD, take}
 use Rattle.spec.specs.declared.Settings.{Settings}
 use Rattle.spec.specs.declared.Answer.{Answer}
+use Rattle.spec.specs.declared.Way.{Way}
+use Rattle.spec.specs.declared.Way.the-variants.{Joint, Columns, Chain, Coarse}
 use Rattle.spec.specs.declared.Move.{Move}
 use Rattle.spec.specs.declared.Move.the-variants.{To, Nowhere}
 use Rattle.spec.specs.Base.{if_then_else_, distance}
-use Rattle.spec.specs.Frame.{Frame, level}
+use Rattle.spec.specs.Frame.{Frame}
 use Rattle.spec.specs.Weight.{monotone}
-use Rattle.spec.specs.Median.{weightless, median}
+use Rattle.spec.specs.Median.{weightless, median, answer}
 
 -- the number that an answer is lent as, for each case of the code's enum
 abbrev pub answerNumber : Answer → ℕ
 answerNumber (Answer.Level level) = level .0
 answerNumber (Answer.Mark mark) = mark
 
--- the walk after some bytes: its pixel, its cut point, its shift count, and its last answer
+-- the walk after some bytes: the way that counts its shifts, its pixel, its cut point, its shift count, and its last answer
 pub record State : Type 0 where
+  pub way : Way
   pub column : ℕ
   pub row : ℕ
   pub cut : ℕ
   pub shifts : ℕ
   pub answer : ℕ
 
--- at a new pixel, with cut point c and shift count n before it: what the window there answers and adds
-unfoldable pub arrive : Frame → ℕ → ℕ → ℕ → ℕ → State
-arrive p s t c n =
-    let m = median p s t in
-    if weightless p s t then record { column = s; row = t; cut = c; shifts = n; answer = level p s t }
-    else record { column = s; row = t; cut = m; shifts = n + (if monotone p s t then distance m c else m); answer = m }
+-- ---- documents 01 and 02: what a window adds to the shift count, demand 3's rule of each way
+
+-- ways 1 to 3 count levels from the cut point, way 4 blocks of 16 levels and then levels
+abbrev pub byBlocks : Way → Bool
+byBlocks Joint = false
+byBlocks Columns = false
+byBlocks Chain = false
+byBlocks Coarse = true
+
+-- to the answer m of a window that is steady, with cut point c before it: by blocks, those below m's own and then the levels below m inside that one
+abbrev pub shiftsTo : Bool → ℕ → ℕ → ℕ
+shiftsTo blocks m c = if blocks then m / 16 + m % 16 else distance m c
+
+-- the window at (s, t), with cut point c before it
+unfoldable pub adds : Way → Frame → ℕ → ℕ → ℕ → ℕ
+adds way p s t c =
+    if weightless p s t then 0
+    else if monotone p s t then shiftsTo (byBlocks way) (median p s t) c
+    else median p s t
+
+-- ---- the walk
+
+-- at a new pixel, with cut point c and shift count n before it: what the window there answers and adds; one without weight keeps the cut point
+unfoldable pub arrive : Way → Frame → ℕ → ℕ → ℕ → ℕ → State
+arrive way p s t c n =
+    record {
+      way = way;
+      column = s;
+      row = t;
+      cut = if weightless p s t then c else median p s t;
+      shifts = n + adds way p s t c;
+      answer = answer p s t;
+    }
 
 -- where a byte leads
 abbrev pub toIf : Bool → ℕ → ℕ → Move
@@ -48,8 +78,8 @@ move settings s t b =
     else Nowhere 65533
 
 unfoldable pub follow : Frame → State → Move → State
-follow p x (To s t) = arrive p s t (x .cut) (x .shifts)
-follow p x (Nowhere mark) = record { column = x .column; row = x .row; cut = x .cut; shifts = x .shifts; answer = mark }
+follow p x (To s t) = arrive (x .way) p s t (x .cut) (x .shifts)
+follow p x (Nowhere mark) = record { way = x .way; column = x .column; row = x .row; cut = x .cut; shifts = x .shifts; answer = mark }
 
 unfoldable pub step : Frame → State → ℕ → State
 step p x b = follow p x (move (p .set) (x .column) (x .row) b)
@@ -63,25 +93,22 @@ unfoldable pub answers : Frame → State → List ℕ → List ℕ
 answers p x [] = x .answer ∷ []
 answers p x (b ∷ bs) = x .answer ∷ answers p (step p x b) bs
 
--- a walk from a pixel: its first state, its last one, and its answers
-abbrev pub start : Frame → ℕ → ℕ → State
-start p s t = arrive p s t 0 0
+-- a walk from a pixel by a way: its first state and its last one
+abbrev pub start : Way → Frame → ℕ → ℕ → State
+start way p s t = arrive way p s t 0 0
 
-unfoldable pub walkEnd : Frame → ℕ → ℕ → List ℕ → State
-walkEnd p s t bs = after p (start p s t) bs
+unfoldable pub walkEnd : Way → Frame → ℕ → ℕ → List ℕ → State
+walkEnd way p s t bs = after p (start way p s t) bs
 
+-- its answers: the same by every way (`walk-answers` of proofs/Walks), so that the first stands for all
 unfoldable pub walkAnswers : Frame → ℕ → ℕ → List ℕ → List ℕ
-walkAnswers p s t bs = answers p (start p s t) bs
+walkAnswers p s t bs = answers p (start Joint p s t) bs
 
--- ---- document 01: what the windows add, demand 3's level distances
-
--- the window at (s, t), with cut point c before it
-unfoldable pub adds : Frame → ℕ → ℕ → ℕ → ℕ
-adds p s t c = if weightless p s t then 0 else (if monotone p s t then distance (median p s t) c else median p s t)
+-- ---- what each byte adds
 
 -- a byte in a state, by where it leads
 unfoldable pub added : Frame → State → Move → ℕ
-added p x (To s t) = adds p s t (x .cut)
+added p x (To s t) = adds (x .way) p s t (x .cut)
 added p x (Nowhere mark) = 0
 
 -- byte j of a list, from a state

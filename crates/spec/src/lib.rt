@@ -2,7 +2,7 @@
 ghost use mathlib.Core.Path.{_≡_};
 ghost use Rattle.spec.specs.Frame.{newSettings};
 ghost use Rattle.spec.specs.Refusal.{number, offsetOf, numbered, fires};
-ghost use Rattle.spec.specs.Walk.{answerNumber};
+ghost use Rattle.spec.specs.Walk.{answerNumber, byBlocks, shiftsTo};
 
 // A level index counts temperature steps.
 pub struct Level(pub u16);
@@ -88,18 +88,20 @@ pub enum Verdict {
     Refused(Refusal),
 }
 
-// The ways of counting: document 01's 1, 2 and 3.
+// The ways of counting: document 01's 1, 2 and 3, and document 02's 4.
 pub enum Way {
     Joint,
     Columns,
     Chain,
+    Coarse,
 }
 
-// How many numbers of each store: 16-bit counts, 64-bit occupancy words, 32-bit numbers.
+// How many numbers of each store: 16-bit counts, 64-bit occupancy words, 32-bit numbers, and the signed 64-bit weight sums of the summary.
 pub struct Room {
     pub counts: usize,
     pub words: usize,
     pub numbers: usize,
+    pub summary: usize,
 }
 
 // Where a byte of a walk's list leads: to a column and a row, or nowhere, with the mark that answers it.
@@ -112,6 +114,33 @@ pub enum Move {
 pub enum Answer {
     Level(Level),
     Mark(u16),
+}
+
+// Whether a way's shifts are blocks and levels; else they are levels from the cut point.
+pub fn by_blocks(way: Way) -> bool
+    ensures { λ r. ⌜ r ≡ byBlocks way ⌝ }
+{
+    match way {
+        Way::Joint => false,
+        Way::Columns => false,
+        Way::Chain => false,
+        Way::Coarse => true,
+    }
+}
+
+// The shifts to a level, with the cut point before it.
+pub fn shifts_to(blocks: bool, level: Level, cut: Level) -> u64
+    ensures { λ r. ⌜ r ≡ shiftsTo blocks (level .0) (cut .0) ⌝ }
+{
+    let m = level.0 as u64;
+    let c = cut.0 as u64;
+    if blocks {
+        return m / 16 + m % 16;
+    }
+    if m < c {
+        return c - m;
+    }
+    m - c
 }
 
 // The number that an answer is lent as.

@@ -7,17 +7,18 @@ use mathlib.Core.Bool.{Bool, true, false, true≢false}
 use mathlib.Core.List.{List}
 use native.Mathlib.Omega.{arith}
 use Rattle.spec.specs.declared.Plan.{Plan}
+use Rattle.spec.specs.declared.Way.{Way}
 use Rattle.spec.specs.Base.{if_then_else_, distance}
-use Rattle.spec.specs.Frame.{guide, frameOf}
+use Rattle.spec.specs.Frame.{frameOf}
 use Rattle.spec.specs.Checks.{Planned}
+use Rattle.spec.specs.Walk.{byBlocks}
 use Rattle.spec.proofs.Plans.{facts}
 use Rattle.window_weights.specs.declared.coefficients.Coefficients.{Coefficients}
 use Rattle.window_weights.specs.Coefficients.{WeighsAt, CoefficientsSmall, endsNotNegative}
 use Rattle.level_search.specs.declared.Tally.{Tally}
 use Rattle.level_search.specs.declared.search.Found.{Found}
-use Rattle.levels.specs.Tally.{belowSum}
 use Rattle.level_search.specs.Search.{FoundAt}
-use Rattle.levels.specs.Answer.{Profiled, Answerable, Answered}
+use Rattle.levels.specs.Answer.{Profiled, Answerable, FromCut, Answered}
 use Rattle.levels.proofs.AnswerLaws.{answerable, answered-at}
 
 from-zero : (m : Bool) (n : ℕ) → n ≡ (if m then distance n 0 else n)
@@ -29,24 +30,25 @@ levels-some pl = let f = facts pl in subst (λ (n : ℕ). 0 < n) (sym (f .levels
 
 module _ {b : List ℕ} {z : Plan} (pl : Planned b z) (two : z .kind ≡ 2) {s t : ℕ} (hs : s < z .width) (ht : t < z .height) {k : Coefficients}
     (w : WeighsAt (frameOf b) s t k × CoefficientsSmall k) {counts sums : List ℕ} (v : Profiled (frameOf b) s t counts sums) where
-  pub start-answerable : (a : Tally) → Answerable k (z .guides) false 0 0 a counts sums
-  start-answerable a =
-      let below : Tally = record { count = belowSum (frameOf b) s t (λ x y. 1) 1; sum = belowSum (frameOf b) s t (guide (frameOf b)) 1 } in
-      let h =
-      answerable pl two hs ht w v {m = endsNotNegative k (z .guides)} refl {c = 0} {n = 0} {a = below} (levels-some pl) (omega arith)
-      (λ _. record { count = refl; sum = refl }) in
+  pub start-answerable : Answerable k (z .guides) false 0 counts sums
+  start-answerable =
+      let h = answerable pl two hs ht w v {m = endsNotNegative k (z .guides)} refl {n = 0} (omega arith) in
       record {
         search = h .search;
         heaviest = h .heaviest;
         guides-some = h .guides-some;
         guides-high = h .guides-high;
-        cut = h .cut;
         shifts = h .shifts;
-        tally = λ e. absurd (true≢false (sym e));
         rising = λ e. absurd (true≢false (sym e));
       }
 
-  pub start-answered : {f : Found} → FoundAt k counts sums f → f .shifts ≡ 0 + f .level .0 → Answered (frameOf b) s t 0 0 f
-  start-answered {f} e sh =
-      answered-at pl two hs ht w v {m = endsNotNegative k (z .guides)} refl e
-      (sh ∙ ap (λ (n : ℕ). 0 + n) (from-zero (endsNotNegative k (z .guides)) (f .level .0)))
+  -- no tally is asked for
+  pub start-from : (a : Tally) → FromCut false 0 a counts sums
+  start-from a = record { cut = omega (arith, v .count-long, facts pl .levels, levels-some pl); tally = λ e. absurd (true≢false (sym e)) }
+
+  -- by a way that counts levels from the cut point
+  pub start-answered : (way : Way) → byBlocks way ≡ false → {f : Found} → FoundAt k counts sums f → f .shifts ≡ 0 + f .level .0
+      → Answered way (frameOf b) s t 0 0 f
+  start-answered way eb {f} e sh =
+      answered-at pl two hs ht w v {m = endsNotNegative k (z .guides)} refl way e
+      (rw eb (sh ∙ ap (λ (n : ℕ). 0 + n) (from-zero (endsNotNegative k (z .guides)) (f .level .0))))

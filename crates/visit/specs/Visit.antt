@@ -4,13 +4,15 @@ use Prim.Native.Nat.{ℕ, _≤_, _<_}
 use Rattle.spec.specs.declared.Answer.{Answer}
 use Rattle.spec.specs.declared.Level.{Level}
 use Rattle.spec.specs.declared.Plan.{Plan}
+use Rattle.spec.specs.declared.Way.{Way}
 use Rattle.spec.specs.Walk.{State, answerNumber}
 use Rattle.visit.specs.declared.Running.{Running}
 use Rattle.visit.specs.declared.Visit.{Visit}
 
--- the state of the definitions that a visit stands for
-abbrev pub stateOf : Visit → State
-stateOf v = record { column = v .column; row = v .row; cut = v .cut .0; shifts = v .shifts; answer = answerNumber (v .answer) }
+-- the state of the definitions that a visit by a way stands for
+abbrev pub stateOf : Way → Visit → State
+stateOf way v =
+    record { way = way; column = v .column; row = v .row; cut = v .cut .0; shifts = v .shifts; answer = answerNumber (v .answer) }
 
 -- the visit of a window that weighs something: its level is the answer and the new cut point
 abbrev pub answered : ℕ → ℕ → Level → ℕ → Running → Visit

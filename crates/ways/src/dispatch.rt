@@ -32,7 +32,7 @@ pub fn enter(
     requires { ⌜ (column < plan .width) × (row < plan .height) ⌝ }
     requires { ⌜ StoresFit way (settingsIn plan) (stores (now counts) (now words) (now numbers)) ⌝ }
     requires { ⌜ (now «balance_box» ≡ zeros) × (Blank (plan .levels) (now histogram)) ⌝ }
-    ensures { λ r. ⌜ Visited way (now (file .entry)) (arrive (frameOf (now (file .entry))) column row 0 0)
+    ensures { λ r. ⌜ Visited way (now (file .entry)) (arrive way (frameOf (now (file .entry))) column row 0 0)
         (stores (now (counts .entry)) (now (words .entry)) (now (numbers .entry)))
         (stores (now (counts .exit)) (now (words .exit)) (now (numbers .exit)))
         (now (histogram .exit)) (now («balance_box» .exit)) r ⌝ }
@@ -41,6 +41,7 @@ pub fn enter(
         Way::Joint => joint_visit::enter(
             file,
             plan,
+            way,
             weights,
             column,
             row,
@@ -51,6 +52,18 @@ pub fn enter(
         ),
         Way::Columns => columns_visit::enter(file, plan, column, row, numbers),
         Way::Chain => chain_visit::enter(file, plan, column, row, numbers),
+        Way::Coarse => joint_visit::enter(
+            file,
+            plan,
+            way,
+            weights,
+            column,
+            row,
+            balance_box,
+            counts,
+            words,
+            histogram,
+        ),
     }
 }
 
@@ -74,7 +87,7 @@ pub fn slide(
     requires { ⌜ Adjacent plan (from .column) (from .row) column row ⌝ }
     requires { ⌜ StoresFit way (settingsIn plan) (stores (now counts) (now words) (now numbers)) ⌝ }
     requires { ⌜ AtWindow way (now file) (stores (now counts) (now words) (now numbers)) (now histogram) (now «balance_box») from ⌝ }
-    ensures { λ r. ⌜ Visited way (now (file .entry)) (arrive (frameOf (now (file .entry))) column row (from .cut .0) (from .shifts))
+    ensures { λ r. ⌜ Visited way (now (file .entry)) (arrive way (frameOf (now (file .entry))) column row (from .cut .0) (from .shifts))
         (stores (now (counts .entry)) (now (words .entry)) (now (numbers .entry)))
         (stores (now (counts .exit)) (now (words .exit)) (now (numbers .exit)))
         (now (histogram .exit)) (now («balance_box» .exit)) r ⌝ }
@@ -83,6 +96,7 @@ pub fn slide(
         Way::Joint => joint_visit::slide(
             file,
             plan,
+            way,
             weights,
             from,
             column,
@@ -94,5 +108,18 @@ pub fn slide(
         ),
         Way::Columns => columns_visit::slide(file, plan, from, column, row, numbers),
         Way::Chain => chain_visit::slide(file, plan, from, column, row, numbers),
+        Way::Coarse => joint_visit::slide(
+            file,
+            plan,
+            way,
+            weights,
+            from,
+            column,
+            row,
+            balance_box,
+            counts,
+            words,
+            histogram,
+        ),
     }
 }

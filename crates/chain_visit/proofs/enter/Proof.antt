@@ -4,6 +4,7 @@ use mathlib.Core.Path.{_≡_}
 use native.Mathlib.Omega.{arith}
 use borrow.Author.Needs.{needs}
 use Rattle.spec.specs.Frame.{frameOf}
+use Rattle.spec.specs.declared.Way.the-variants.{Chain}
 use Rattle.spec.specs.Walk.{arrive}
 use Rattle.visit.specs.Visit.{stateOf}
 use Rattle.chain_visit.proofs.VisitLaws.{chain-visited}
@@ -28,7 +29,7 @@ same-length c = search needs
 
 -- it begins at cut point 0 with no shift, said by itself so that another beginning is refused as such
 begins : (c : tie.After-answer-at) → let at = c .before .before .before .before .before .before .before .before .before in
-    stateOf (c .answer-at .result) ≡ arrive (frameOf (at .args .file .now)) (at .args .column) (at .args .row) 0 0
+    stateOf Chain (c .answer-at .result) ≡ arrive Chain (frameOf (at .args .file .now)) (at .args .column) (at .args .row) 0 0
 begins c = c .answer-at .ensures .0
 
 returns : tie.Need-returns

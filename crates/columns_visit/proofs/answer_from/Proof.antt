@@ -1,8 +1,9 @@
 -- `columns_visit::answer_from` meets its contract. Assumes nothing.
 use native.Mathlib.Omega.{arith}
-use Prim.Native.Nat.{_+_, _*_, _≤_}
+use Prim.Native.Nat.{ℕ, _+_, _*_, _≤_}
+use mathlib.Core.List.{List}
 use borrow.Author.Needs.{needs}
-use Rattle.levels.specs.Answer.{Answerable}
+use Rattle.levels.specs.Answer.{Answerable, FromCut}
 use Rattle.columns_visit.proofs.VisitLaws.{places-small, places-in, part-is, lent-blocks}
 use Rattle.columns_visit.proofs.answer_from.Statement.{statement}
 use Rattle.columns_visit.proofs.answer_from.Tie as tie
@@ -53,7 +54,9 @@ part-answer-end-2 c =
 answer-requires : tie.Need-answer-requires
 answer-requires c κs =
     let x = c .before .before .before .before .args in
-    lent-blocks (x .plan) (x .blocks .now) (Answerable (x .coefficients) (x .plan .guides) (x .monotone) (x .cut .0) (x .shifts) (x .below))
+    lent-blocks (x .plan) (x .blocks .now) 
+    (λ (counts sums : List ℕ). Answerable (x .coefficients) (x .plan .guides) (x .monotone) (x .shifts) counts sums
+    × FromCut (x .monotone) (x .cut .0) (x .below) counts sums)
     (c .before .before .before .before .pre .1)
 
 returns : tie.Need-returns

@@ -1,9 +1,10 @@
 -- `columns_visit::enter` meets its contract. Assumes nothing.
-use mathlib.Core.Path.{_≡_}
+use mathlib.Core.Path.{_≡_, refl}
 use borrow.Author.Needs.{needs}
+use Rattle.spec.specs.declared.Way.the-variants.{Columns}
 use Rattle.spec.specs.Frame.{frameOf}
 use Rattle.levels.specs.Answer.{Profiled}
-use Rattle.visit.proofs.StartLaws.{start-answerable, start-answered}
+use Rattle.visit.proofs.StartLaws.{start-answerable, start-from, start-answered}
 use Rattle.columns_visit.specs.Visit.{windowCounts, windowGuides}
 use Rattle.columns_visit.proofs.VisitLaws.{made-self, room-long, store-places, window-cells, visited}
 use Rattle.columns_visit.proofs.enter.Statement.{statement}
@@ -39,7 +40,10 @@ answer-from-requires c κs =
     let st = begin m in
     let h = made-self (frameOf (st .args .file .now)) (st .args .column) (st .args .row) _ _ (m .start .ensures) in (
       store-places (st .pre .0 .0) (st .args .column) (st .args .row) _ h,
-      start-answerable (st .pre .0 .0) (st .pre .0 .1) (st .pre .1 .0 .0) (st .pre .1 .0 .1) (k .of-window .ensures) (cells m) _,
+      (
+        start-answerable (st .pre .0 .0) (st .pre .0 .1) (st .pre .1 .0 .0) (st .pre .1 .0 .1) (k .of-window .ensures) (cells m),
+        start-from (st .pre .0 .0) (st .pre .0 .1) (st .pre .1 .0 .0) (st .pre .1 .0 .1) (k .of-window .ensures) (cells m) _,
+      ),
     )
 
 answered-requires : tie.Need-answered-requires
@@ -57,7 +61,8 @@ returns c =
     let st = begin m in
     let e = f .answer-from .ensures in
     visited (frameOf (st .args .file .now)) (st .args .column) (st .args .row) 0 0 _ _ _ _ _ (c .answered .ensures) (a .start2 .ensures)
-    (start-answered (st .pre .0 .0) (st .pre .0 .1) (st .pre .1 .0 .0) (st .pre .1 .0 .1) (k .of-window .ensures) (cells m) (e .0) (e .1))
+    (start-answered (st .pre .0 .0) (st .pre .0 .1) (st .pre .1 .0 .0) (st .pre .1 .0 .1) (k .of-window .ensures) (cells m) Columns refl
+    (e .0) (e .1))
     (m .start .ensures)
 
 pub enter-spec : {M : Type 1} → statement M

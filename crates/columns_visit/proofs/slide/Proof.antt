@@ -8,7 +8,8 @@ use Rattle.window.proofs.FormLaws.{both-in}
 use Rattle.window.proofs.LineLaws.{lines-in}
 use Rattle.window.proofs.PixelLaws.{guides-range, plan-limits}
 use Rattle.levels.specs.Answer.{Profiled}
-use Rattle.levels.proofs.AnswerLaws.{answerable, answered-at}
+use Rattle.spec.specs.declared.Way.the-variants.{Columns}
+use Rattle.levels.proofs.AnswerLaws.{answerable, from-cut, answered-at}
 use Rattle.columns_visit.specs.Visit.{windowCounts, windowGuides}
 use Rattle.columns_visit.proofs.GuideSumLaws.{movable, moved-at}
 use Rattle.columns_visit.proofs.VisitLaws.{as-made, made-self, store-places, window-cells, visited}
@@ -90,8 +91,10 @@ answer-from-requires c κs =
     let v = at .pre .1 .0 .0 in (
       store-places pl (at .args .column) (at .args .row) _
           (made-self (frameOf (at .args .file .now)) (at .args .column) (at .args .row) _ _ (n .slide .ensures)),
-      answerable pl (at .pre .0 .1) (i .2) (i .3) (k .of-window .ensures) (cells n) (m .monotone .ensures) (v .cut) (omega (arith, v .shifts))
-          (w .carried .ensures),
+      (
+        answerable pl (at .pre .0 .1) (i .2) (i .3) (k .of-window .ensures) (cells n) (m .monotone .ensures) (omega (arith, v .shifts)),
+        from-cut pl (at .pre .0 .1) (i .2) (i .3) (k .of-window .ensures) (cells n) (m .monotone .ensures) (v .cut) (w .carried .ensures),
+      ),
     )
 
 answered-requires : tie.Need-answered-requires
@@ -111,7 +114,8 @@ returns c =
     let i = both-in (at .pre .1 .0 .1) in
     let e = f .answer-from .ensures in
     visited (frameOf (at .args .file .now)) (at .args .column) (at .args .row) _ _ _ _ _ _ _ (c .answered .ensures) (summed (summing n))
-    (answered-at (at .pre .0 .0) (at .pre .0 .1) (i .2) (i .3) (k .of-window .ensures) (cells n) (m .monotone .ensures) (e .0) (e .1))
+    (answered-at (at .pre .0 .0) (at .pre .0 .1) (i .2) (i .3) (k .of-window .ensures) (cells n) (m .monotone .ensures) Columns
+    (e .0) (e .1))
     (n .slide .ensures)
 
 pub slide-spec : {M : Type 1} → statement M

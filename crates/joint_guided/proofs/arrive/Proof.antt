@@ -5,9 +5,10 @@ use native.Mathlib.Omega.{arith}
 use lib.ListN.{length}
 use Rattle.window.proofs.PixelLaws.{guides-range, levels-high}
 use borrow.Author.Needs.{needs}
+use Rattle.spec.specs.declared.Way.the-variants.{Joint}
 use Rattle.spec.specs.Frame.{frameOf}
 use Rattle.levels.specs.Answer.{Answered}
-use Rattle.levels.proofs.AnswerLaws.{answerable, answered-at}
+use Rattle.levels.proofs.AnswerLaws.{answerable, from-cut, answered-at}
 use Rattle.joint_search.proofs.WindowLaws.{searchable, box-of, box-at}
 use Rattle.visit.proofs.Laws.{state-is}
 use Rattle.joint_guided.proofs.GuidedLaws.{numbers-long, profiled-parts, answer-low}
@@ -22,14 +23,14 @@ start w = w .before .before .before .before .before .before .before .before .bef
 
 -- the window's answer
 says : (r : tie.After-answer) → let at = start (r .before .before .before) in
-    Answered (frameOf (at .args .file .now)) (at .args .s) (at .args .t) (at .args .cut .0) (at .args .shifts) (r .answer .result)
+    Answered Joint (frameOf (at .args .file .now)) (at .args .s) (at .args .t) (at .args .cut .0) (at .args .shifts) (r .answer .result)
 says r =
     let w = r .before .before .before in
     let m = w .before .before in
     let at = start w in
     let k = at .pre .0 .0 in
     answered-at (k .planned) (at .pre .0 .1) (k .column) (k .row) (m .before .of-window .ensures)
-    (profiled-parts (k .planned) (at .pre .0 .2) refl refl) (m .monotone .ensures) (r .answer .ensures .0)
+    (profiled-parts (k .planned) (at .pre .0 .2) refl refl) (m .monotone .ensures) Joint (r .answer .ensures .0)
     (r .answer .ensures .1)
 
 add-last : tie.Need-add-last
@@ -85,9 +86,11 @@ answer-requires c κs =
     let at = start w in
     let k = at .pre .0 .0 in
     let g = at .pre .1 .1 in
-    answerable (k .planned) (at .pre .0 .1) (k .column) (k .row) (m .before .of-window .ensures)
-    (profiled-parts (k .planned) (at .pre .0 .2) refl refl) (m .monotone .ensures) (g .0) (g .1)
-    (λ e. at .pre .1 .0 .1 .carried _ (w .carried-where .ensures e))
+    let cells = profiled-parts (k .planned) (at .pre .0 .2) refl refl in (
+      answerable (k .planned) (at .pre .0 .1) (k .column) (k .row) (m .before .of-window .ensures) cells (m .monotone .ensures) (g .1),
+      from-cut (k .planned) (at .pre .0 .1) (k .column) (k .row) (m .before .of-window .ensures) cells (m .monotone .ensures) (g .0)
+          (λ e. at .pre .1 .0 .1 .carried _ (w .carried-where .ensures e)),
+    )
 
 move-to-requires : tie.Need-move-to-requires
 move-to-requires c κs =
@@ -113,7 +116,7 @@ returns c =
     rw (c .answered .ensures)
     (record {
       state =
-          state-is (frameOf (at .args .file .now)) (at .args .s) (at .args .t) (at .args .cut .0) (at .args .shifts) (f .level) (f .shifts)
+          state-is Joint (frameOf (at .args .file .now)) (at .args .s) (at .args .t) (at .args .cut .0) (at .args .shifts) (f .level) (f .shifts)
           (f .level) (record { sums = at .args .a; below = f .tally; free = record { head = 0; count = 0 } }) (h .cut) (h .shifts) (h .answer);
       box = box-at k (m .move-to .ensures) (omega arith) (answer-low (k .planned) (k .column) (k .row) (at .pre .0 .1) h);
       guided = record { sums = at .pre .1 .0 .0; below = h .below; histogram = at .pre .0 .2 };

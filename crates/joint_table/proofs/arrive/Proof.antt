@@ -81,7 +81,7 @@ returns : tie.Need-returns
 returns c =
     let d = c .before .before .before in
     let at = start (read d) in
-    arrives-of (at .pre .0 .0) (built d (omega arith)) (at .pre .0 .2) (at .pre .1 .0) (c .arrive .ensures .0) (c .arrive .ensures .1)
+    arrives-of (at .pre .0 .0) (built d (omega arith)) (at .pre .0 .2) (at .args .way) (at .pre .1 .0) (c .arrive .ensures .0) (c .arrive .ensures .1)
 
 -- the file's own
 own-row-requires : tie.Need-own-row-requires
@@ -117,7 +117,7 @@ returns-2 : tie.Need-returns-2
 returns-2 c =
     let o = c .before .before .before in
     let at = start (o .before .before .before .before) in
-    arrives-of (at .pre .0 .0) (own o) (at .pre .0 .2) (at .pre .1 .0) (c .arrive2 .ensures .0) (c .arrive2 .ensures .1)
+    arrives-of (at .pre .0 .0) (own o) (at .pre .0 .2) (at .args .way) (at .pre .1 .0) (c .arrive2 .ensures .0) (c .arrive2 .ensures .1)
 
 pub arrive-spec : {M : Type 1} → statement M
 arrive-spec =

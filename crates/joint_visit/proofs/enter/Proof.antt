@@ -1,9 +1,10 @@
 -- `joint_visit::enter` meets its contract: the stores are built, then the window answers by its kind. Assumes nothing.
-use native.Mathlib.Omega.{arith}
 use borrow.Author.Needs.{needs}
+use mathlib.Core.Path.{sym, _∙_}
+use native.Mathlib.Omega.{arith}
 use Rattle.visit.proofs.StartLaws.{levels-some}
-use Rattle.spec.proofs.Plans.{kind-of, kind-table}
-use Rattle.joint_visit.proofs.VisitLaws.{counted-of, carried-none, joint-visited}
+use Rattle.spec.proofs.Plans.{kind-table}
+use Rattle.joint_visit.proofs.VisitLaws.{counted-of, table-visited, guided-visited, blocks-visited}
 use Rattle.joint_visit.proofs.enter.Statement.{statement}
 use Rattle.joint_visit.proofs.enter.Tie as tie
 
@@ -17,13 +18,15 @@ built e = e .before .before .before .before .before
 build-requires : tie.Need-build-requires
 build-requires c κs = c .before .before .before .before .before .before .before .before .pre .0 .0
 
-enter-requires : tie.Need-enter-requires
-enter-requires c κs =
-    let i = c .before .before .before .before in
-    let k = built (i .before) in
-    let at = begin k in
+by-blocks-requires : tie.Need-by-blocks-requires
+by-blocks-requires c κs = search needs
+
+enter-by-blocks-requires : tie.Need-enter-by-blocks-requires
+enter-by-blocks-requires c κs =
+    let i = c .before .before .before in
+    let at = begin (built (i .before)) in
     let f = at .pre .0 .0 in
-    ((counted-of (f .planned) (f .column) (f .row) (k .build .ensures), i .if1 .taken, at .pre .0 .1), k .build .ensures .box)
+    ((f .planned, i .if1 .taken, f .column, f .row), at .pre .0 .1)
 
 same-length : tie.Need-same-length
 same-length c = search needs
@@ -37,20 +40,20 @@ same-length-3 c = search needs
 returns : tie.Need-returns
 returns c =
     let r = c .before .before in
-    let k = (built (r .before .before .before .before .before .before)) .build .ensures in
-    let v = r .enter .ensures in
-    joint-visited _ _ _ _ _ _ _ _ _ _ _ _ (v .state) (record { counts = k .counts; words = k .words; box = v .box })
-    (record { guided = λ _. r .enter .ensures .guided })
-
-visit-requires : tie.Need-visit-requires
-visit-requires c κs =
-    let i = c .before .before .before in
+    let w = r .before .before in
+    let i = w .before .before in
     let k = built (i .before) in
     let at = begin k in
-    let f = at .pre .0 .0 in (
-      (counted-of (f .planned) (f .column) (f .row) (k .build .ensures), at .pre .1, kind-table (f .planned) (i .if1 .left)),
-      (levels-some (f .planned), omega arith, k .build .ensures .box),
-    )
+    blocks-visited (at .pre .0 .0 .planned) (at .args .way) 0 0 (at .pre .1 .1) (sym (w .before .by-blocks .ensures) ∙ w .if2 .taken) (i .if1 .taken)
+    (k .build .ensures) (r .enter-by-blocks .ensures)
+
+enter-requires : tie.Need-enter-requires
+enter-requires c κs =
+    let i = c .before .before .before .before .before .before in
+    let k = built (i .before) in
+    let at = begin k in
+    let f = at .pre .0 .0 in
+    ((counted-of (f .planned) (f .column) (f .row) (k .build .ensures), i .if1 .taken, at .pre .0 .1), k .build .ensures .box)
 
 same-length-4 : tie.Need-same-length-4
 same-length-4 c = search needs
@@ -58,27 +61,59 @@ same-length-4 c = search needs
 same-length-5 : tie.Need-same-length-5
 same-length-5 c = search needs
 
+same-length-6 : tie.Need-same-length-6
+same-length-6 c = search needs
+
 returns-2 : tie.Need-returns-2
 returns-2 c =
+    let r = c .before .before in
+    let w = r .before .before .before .before .before in
+    let k = built (w .before .before .before) in
+    let at = begin k in
+    guided-visited (at .pre .0 .0 .planned) (at .args .way) 0 0 (at .pre .1 .1) (sym (w .before .by-blocks .ensures) ∙ w .if2 .left)
+    (k .build .ensures) (r .enter .ensures)
+
+visit-requires : tie.Need-visit-requires
+visit-requires c κs =
+    let i = c .before .before .before in
+    let k = built (i .before) in
+    let at = begin k in
+    let f = at .pre .0 .0 in (
+      (counted-of (f .planned) (f .column) (f .row) (k .build .ensures), at .pre .1 .0, kind-table (f .planned) (i .if1 .left)),
+      (levels-some (f .planned), omega arith, k .build .ensures .box),
+    )
+
+same-length-7 : tie.Need-same-length-7
+same-length-7 c = search needs
+
+same-length-8 : tie.Need-same-length-8
+same-length-8 c = search needs
+
+returns-3 : tie.Need-returns-3
+returns-3 c =
     let i = c .before .before .before .before in
-    let b = built (i .before) in
-    let f = (begin b) .pre .0 .0 .planned in
-    let k = b .build .ensures in
-    let v = c .visit .ensures in
-    joint-visited _ _ _ _ _ _ _ _ _ _ _ _ (v .0) (record { counts = k .counts; words = k .words; box = v .1 })
-    (carried-none f (kind-table f (i .if1 .left)))
+    let k = built (i .before) in
+    let at = begin k in
+    let f = at .pre .0 .0 .planned in
+    table-visited f (at .args .way) 0 0 (kind-table f (i .if1 .left)) (k .build .ensures) (c .visit .ensures)
 
 pub enter-spec : {M : Type 1} → statement M
 enter-spec =
     tie.close
     (tie.spec
     build-requires
-    enter-requires
+    by-blocks-requires
+    enter-by-blocks-requires
     same-length
     same-length-2
     same-length-3
     returns
-    visit-requires
+    enter-requires
     same-length-4
     same-length-5
-    returns-2)
+    same-length-6
+    returns-2
+    visit-requires
+    same-length-7
+    same-length-8
+    returns-3)

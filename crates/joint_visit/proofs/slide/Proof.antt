@@ -1,24 +1,41 @@
--- `slide` meets its contract: the lines are read, the stores moved, then the window answers by its kind. Assumes nothing.
+-- `slide` meets its contract: the lines are read, the stores moved, then the window answers by its kind and way. Assumes nothing.
 use borrow.Author.Needs.{needs}
+use mathlib.Core.Path.{_≡_, sym, ap, subst, _∙_}
+use mathlib.Core.Bool.{Bool}
 use native.Mathlib.Omega.{arith}
-use Prim.Native.Nat.{_-_}
+use Prim.Native.Nat.{ℕ, _-_}
 use lib.ListN.{take, drop}
 use Rattle.spec.specs.Frame.{frameOf}
+use Rattle.spec.specs.Joint.{balanceBox}
+use Rattle.spec.specs.Walk.{byBlocks}
 use Rattle.window.proofs.PixelLaws.{plan-limits}
 use Rattle.window.proofs.FormLaws.{both-in}
 use Rattle.pixels.specs.Pixels.{LinePixels}
 use Rattle.pixels.proofs.Laws.{line-part, step-in}
 use Rattle.pixels.proofs.SumLaws.{below-most, movable, sums-moved}
-use Rattle.joint.specs.Window.{JointAt}
+use Rattle.joint.specs.Window.{JointAt, Held}
 use Rattle.joint.proofs.PixelLaws as joint
 use Rattle.histogram.proofs.PixelLaws as histogram
 use Rattle.levels.proofs.ListTallyLaws.{carries-step}
 use Rattle.spec.proofs.Plans.{kind-of, kind-table}
-use Rattle.joint_visit.proofs.VisitLaws.{counted-of, carried-none, joint-visited}
+use Rattle.window.specs.Sums.{SumsAt}
+use Rattle.histogram.specs.Histogram.{Histogram}
+use Rattle.joint_search.specs.Window.{Counted}
+use Rattle.joint_guided.specs.Guided.{GuidedAt}
+use Rattle.joint_visit.specs.Visit.{boxCut}
+use Rattle.joint_visit.proofs.VisitLaws.{
+  counted-of,
+  box-cut-joint,
+  box-cut-table,
+  box-cut-guided,
+  table-visited,
+  guided-visited,
+  blocks-visited,
+}
 use Rattle.joint_visit.proofs.slide.Statement.{statement}
 use Rattle.joint_visit.proofs.slide.Tie as tie
 
--- the places passed: the step, the two lists, the stores moved; and the start
+-- the places passed: the step, the two lists, the level of the box, the stores moved, and in kind 2 the sums and the histogram; and the start
 abbrev begin : tie.After-step-to → tie.Start
 begin d = d .before .before .before .before .before .before
 
@@ -28,8 +45,26 @@ step r = r .before .before
 abbrev first : tie.After-read2 → tie.After-read
 first r = r .before .before .before
 
+abbrev opened : tie.After-read2 → tie.Start
+opened r = begin (step (first r))
+
+abbrev lists : tie.After-box-cut → tie.After-read2
+lists k = k .before .before .before .before
+
+abbrev kept : tie.After-exchange → tie.After-box-cut
+kept x = x .before .before .before .before .before .before .before .before
+
 abbrev both : tie.After-exchange → tie.After-read2
-both x = x .before .before .before .before .before .before .before .before .before .before
+both x = lists (kept x)
+
+abbrev kind : tie.After-moved → tie.Then1
+kind m = m .before .before .before .before .before .before .before .before
+
+abbrev stored : tie.Then1 → tie.After-exchange
+stored i = i .before .before .before .before .before .before
+
+abbrev summed : tie.After-exchange2 → tie.After-moved
+summed h = h .before .before .before .before .before .before
 
 -- the lists are the step's lines
 enters : (r : tie.After-read2) → let d = step (first r) in LinePixels (begin d .args .file .now) (begin d .args .plan) (d .step-to .result .entering)
@@ -40,16 +75,42 @@ leaves : (r : tie.After-read2) → let d = step (first r) in LinePixels (begin d
     (take (r .read2 .result - 0) (drop 0 (r .read2 .last .1 .1 .1 .0)))
 leaves r = line-part (r .read2 .result) (r .read2 .last .1 .1 .1 .0) (r .read2 .ensures .1)
 
+-- the level that the box is kept at
+level : (k : tie.After-box-cut) → let at = opened (lists k) in
+    k .box-cut .result .0 ≡ boxCut (byBlocks (at .args .way)) (at .args .plan .kind) (at .args .from .cut .0)
+level k =
+    let at = opened (lists k) in
+    k .box-cut .ensures ∙ ap (λ (b : Bool). boxCut b (at .args .plan .kind) (at .args .from .cut .0)) (k .before .before .by-blocks .ensures)
+
+held : (k : tie.After-box-cut) → let at = opened (lists k) in
+    Held (at .args .file .now) (at .args .plan) (at .args .from .column) (at .args .from .row) (k .box-cut .result .0) (at .args .counts .now)
+    (at .args .words .now) (at .args .balance-box .now)
+held k =
+    let at = opened (lists k) in
+    subst (λ (c : ℕ). Held (at .args .file .now) (at .args .plan) (at .args .from .column) (at .args .from .row) c (at .args .counts .now)
+    (at .args .words .now) (at .args .balance-box .now)) (sym (level k)) (at .pre .0 .0)
+
 -- the stores and the box are the neighbour's
-moved : (x : tie.After-exchange) → let at = begin (step (first (both x))) in
-    JointAt (frameOf (at .args .file .now)) (at .args .column) (at .args .row) (at .args .from .cut .0) (at .args .counts .now) (at .args .words .now)
-    (x .exchange .last .1 .1 .1 .1 .1 .0) (x .exchange .last .1 .1 .1 .1 .1 .1 .0) (x .exchange .last .1 .1 .1 .1 .0)
+moved : (x : tie.After-exchange) → let at = opened (both x) in
+    JointAt (frameOf (at .args .file .now)) (at .args .column) (at .args .row) (kept x .box-cut .result .0) (at .args .counts .now)
+    (at .args .words .now) (x .exchange .last .1 .1 .1 .1 .1 .0) (x .exchange .last .1 .1 .1 .1 .1 .1 .0) (x .exchange .last .1 .1 .1 .1 .0)
 moved x =
     let r = both x in
     let d = step (first r) in
-    let at = begin d in
-    joint.exchanged-joint (at .pre .0 .0) (at .pre .0 .1) (d .step-to .ensures) (enters r) (leaves r) (x .exchange .ensures .0)
+    joint.exchanged-joint (held (kept x)) (begin d .pre .0 .1) (d .step-to .ensures) (enters r) (leaves r) (x .exchange .ensures .0)
     (x .exchange .ensures .1)
+
+-- what kind 2 carried to here
+was : (i : tie.Then1) → let at = opened (both (stored i)) in
+    GuidedAt (frameOf (at .args .file .now)) (at .args .from .column) (at .args .from .row) (at .args .from .cut .0) (at .args .from .running .sums)
+    (at .args .from .running .below) (at .args .histogram .now)
+was i = let at = opened (both (stored i)) in at .pre .0 .2 .guided (kind-of (at .pre .0 .0 .planned) (i .if1 .taken))
+
+-- the counts are those of a window of the file
+counted : (x : tie.After-exchange) → let at = opened (both x) in
+    Counted (at .args .file .now) (at .args .plan) (at .args .column) (at .args .row) (x .exchange .last .1 .1 .1 .1 .1 .0)
+    (x .exchange .last .1 .1 .1 .1 .1 .1 .0)
+counted x = let at = opened (both x) in let q = both-in (at .pre .0 .1) in counted-of (at .pre .0 .0 .planned) (q .2) (q .3) (moved x)
 
 step-to-requires : tie.Need-step-to-requires
 step-to-requires c κs = let at = c .before .before .before .before .before in (plan-limits (at .pre .0 .0 .planned), at .pre .0 .1)
@@ -72,6 +133,12 @@ read-requires-2 c κs =
     let at = begin d in
     (at .pre .0 .0 .planned, step-in (at .pre .0 .0 .planned) (at .pre .0 .1) (d .step-to .ensures) .leaving, omega arith)
 
+by-blocks-requires : tie.Need-by-blocks-requires
+by-blocks-requires c κs = search needs
+
+box-cut-requires : tie.Need-box-cut-requires
+box-cut-requires c κs = search needs
+
 sub-exchange : tie.Need-sub-exchange
 sub-exchange c = search needs
 
@@ -92,10 +159,10 @@ part-exchange-end-2 c = search needs
 
 exchange-requires : tie.Need-exchange-requires
 exchange-requires c κs =
-    let r = c .before .before .before .before .before .before .before .before .before in
+    let k = c .before .before .before .before .before .before .before in
+    let r = lists k in
     let d = step (first r) in
-    let at = begin d in
-    joint.exchange-asks (at .pre .0 .0) (at .pre .0 .1) (d .step-to .ensures) (enters r) (leaves r)
+    joint.exchange-asks (held k) (begin d .pre .0 .1) (d .step-to .ensures) (enters r) (leaves r)
 
 sub-moved : tie.Need-sub-moved
 sub-moved c = search needs
@@ -104,7 +171,9 @@ part-moved-start : tie.Need-part-moved-start
 part-moved-start c = search needs
 
 part-moved-end : tie.Need-part-moved-end
-part-moved-end c = search needs
+part-moved-end c =
+    let r = first (both (stored (c .before .before .before .before))) in
+    omega (arith, r .read .ensures .0, r .read .kept .1 .1 .1 .0)
 
 sub-moved-2 : tie.Need-sub-moved-2
 sub-moved-2 c = search needs
@@ -113,18 +182,18 @@ part-moved-start-2 : tie.Need-part-moved-start-2
 part-moved-start-2 c = search needs
 
 part-moved-end-2 : tie.Need-part-moved-end-2
-part-moved-end-2 c = search needs
+part-moved-end-2 c =
+    let r = both (stored (c .before .before .before .before .before .before)) in
+    omega (arith, r .read2 .ensures .0, r .read2 .kept .1 .1 .1 .0)
 
 moved-requires : tie.Need-moved-requires
 moved-requires c κs =
-    let r = both (c .before .before .before .before .before .before .before .before .before .before .before .before .before) in
+    let i = c .before .before .before .before .before .before .before in
+    let r = both (stored i) in
     let d = step (first r) in
-    let at = begin d in
-    let pl = at .pre .0 .0 .planned in
-    let was = at .pre .0 .2 .guided (kind-of pl (c .before .before .before .before .before .before .before .if1 .taken)) in (
+    let pl = begin d .pre .0 .0 .planned in (
       (below-most pl (enters r .below), below-most pl (leaves r .below)),
-      movable pl (at .pre .0 .1) (d .step-to .ensures) (enters r) (leaves r)
-          (was .sums),
+      movable pl (begin d .pre .0 .1) (d .step-to .ensures) (enters r) (leaves r) (was i .sums),
     )
 
 sub-exchange-3 : tie.Need-sub-exchange-3
@@ -134,9 +203,7 @@ part-exchange-start-3 : tie.Need-part-exchange-start-3
 part-exchange-start-3 c = search needs
 
 part-exchange-end-3 : tie.Need-part-exchange-end-3
-part-exchange-end-3 c = let r =
-    first (both (c .before .before .before .before .before .before .before .before .before .before .before .before .before .before .before)) in omega
-    (arith, r .read .ensures .0, r .read .kept .1 .1 .1 .0)
+part-exchange-end-3 c = let r = first (both (stored (kind (c .before)))) in omega (arith, r .read .ensures .0, r .read .kept .1 .1 .1 .0)
 
 sub-exchange-4 : tie.Need-sub-exchange-4
 sub-exchange-4 c = search needs
@@ -145,24 +212,77 @@ part-exchange-start-4 : tie.Need-part-exchange-start-4
 part-exchange-start-4 c = search needs
 
 part-exchange-end-4 : tie.Need-part-exchange-end-4
-part-exchange-end-4 c = let r =
-    both (c .before .before .before .before .before .before .before .before .before .before .before .before .before .before .before .before .before)
-    in omega (arith, r .read2 .ensures .0, r .read2 .kept .1 .1 .1 .0)
+part-exchange-end-4 c =
+    let r = both (stored (kind (c .before .before .before))) in
+    omega (arith, r .read2 .ensures .0, r .read2 .kept .1 .1 .1 .0)
 
 exchange-requires-2 : tie.Need-exchange-requires-2
 exchange-requires-2 c κs =
-    let x =
-    c .before .before .before .before .before .before .before .before .before .before .before .before .before .before .before .before .before
-    .before .before in
-    let r = both x in
+    let i = kind (c .before .before .before .before .before) in
+    let r = both (stored i) in
     let d = step (first r) in
-    let at = begin d in
-    let pl = at .pre .0 .0 .planned in
-    let was =
-    at .pre .0 .2 .guided
-    (kind-of pl (c .before .before .before .before .before .before .before .before .before .before .before .before .before .if1 .taken)) in
-    histogram.exchange-asks pl (at .pre .0 .1) (d .step-to .ensures) (enters r) (leaves r) (was .histogram)
+    histogram.exchange-asks (begin d .pre .0 .0 .planned) (begin d .pre .0 .1) (d .step-to .ensures) (enters r) (leaves r) (was i .histogram)
 
+-- kind 2: the sums and the histogram are the neighbour's
+sums-are : (m : tie.After-moved) → let at = opened (both (stored (kind m))) in
+    SumsAt (frameOf (at .args .file .now)) (at .args .column) (at .args .row) (m .moved .result)
+sums-are m =
+    let i = kind m in
+    let r = both (stored i) in
+    let d = step (first r) in
+    sums-moved (begin d .pre .0 .0 .planned) (begin d .pre .0 .1) (d .step-to .ensures) (enters r) (leaves r) (was i .sums) (m .moved .ensures)
+
+histogram-is : (h : tie.After-exchange2) → let at = opened (both (stored (kind (summed h)))) in
+    Histogram (frameOf (at .args .file .now)) (at .args .column) (at .args .row) (h .exchange2 .last .1 .1 .1 .0)
+histogram-is h =
+    let i = kind (summed h) in
+    let r = both (stored i) in
+    let d = step (first r) in
+    histogram.exchanged-histogram (begin d .pre .0 .0 .planned) (begin d .pre .0 .1) (d .step-to .ensures) (enters r) (leaves r) (was i .histogram)
+    (h .exchange2 .kept .1 .1 .1 .0) (h .exchange2 .ensures)
+
+-- way 4
+arrive-by-blocks-requires : tie.Need-arrive-by-blocks-requires
+arrive-by-blocks-requires c κs =
+    let h = c .before .before .before .before in
+    let i = kind (summed h) in
+    let at = opened (both (stored i)) in
+    let q = both-in (at .pre .0 .1) in (
+      (at .pre .0 .0 .planned, i .if1 .taken, q .2, q .3),
+      (sums-are (summed h), histogram-is h, omega (arith, at .pre .1 .1 .shifts)),
+    )
+
+-- the histogram's exchange, and from it the stores'
+abbrev exchanged : tie.After-exchange2 → tie.After-exchange
+exchanged h = stored (kind (summed h))
+
+same-length : tie.Need-same-length
+same-length c = exchanged (c .before .before .before .before .before) .exchange .kept .1 .1 .1 .1 .1 .0
+
+same-length-2 : tie.Need-same-length-2
+same-length-2 c = exchanged (c .before .before .before .before .before) .exchange .kept .1 .1 .1 .1 .1 .1 .0
+
+same-length-3 : tie.Need-same-length-3
+same-length-3 c = search needs
+
+returns : tie.Need-returns
+returns c =
+    let w = c .before .before in
+    let i = kind (summed (w .before .before .before)) in
+    let x = stored i in
+    let at = opened (both x) in
+    let blocks = sym (kept x .before .before .by-blocks .ensures) ∙ w .if2 .taken in
+    let zero = level (kept x) ∙ ap (λ (b : Bool). boxCut b (at .args .plan .kind) (at .args .from .cut .0)) blocks
+    ∙ box-cut-guided (at .args .plan .kind) (at .args .from .cut .0) (i .if1 .taken) in
+    blocks-visited (at .pre .0 .0 .planned) (at .args .way) (at .args .from .cut .0) (at .args .from .shifts) (at .pre .1 .2) blocks (i .if1 .taken)
+    (record {
+      counts = moved x .counts;
+      words = moved x .words;
+      box = moved x .box ∙ ap (balanceBox (frameOf (at .args .file .now)) (at .args .column) (at .args .row)) zero;
+    })
+    (c .arrive-by-blocks .ensures)
+
+-- way 1
 sub-arrive : tie.Need-sub-arrive
 sub-arrive c = search needs
 
@@ -170,11 +290,9 @@ part-arrive-start : tie.Need-part-arrive-start
 part-arrive-start c = search needs
 
 part-arrive-end : tie.Need-part-arrive-end
-part-arrive-end c = let r =
-    first
-    (both
-    (c .before .before .before .before .before .before .before .before .before .before .before .before .before .before .before .before .before
-    .before .before .before .before .before .before)) in omega (arith, r .read .ensures .0, r .read .kept .1 .1 .1 .0)
+part-arrive-end c =
+    let r = first (both (exchanged (c .before .before .before .before))) in
+    omega (arith, r .read .ensures .0, r .read .kept .1 .1 .1 .0)
 
 sub-arrive-2 : tie.Need-sub-arrive-2
 sub-arrive-2 c = search needs
@@ -183,83 +301,78 @@ part-arrive-start-2 : tie.Need-part-arrive-start-2
 part-arrive-start-2 c = search needs
 
 part-arrive-end-2 : tie.Need-part-arrive-end-2
-part-arrive-end-2 c = let r =
-    both
-    (c .before .before .before .before .before .before .before .before .before .before .before .before .before .before .before .before .before
-    .before .before .before .before .before .before .before .before) in omega (arith, r .read2 .ensures .0, r .read2 .kept .1 .1 .1 .0)
+part-arrive-end-2 c =
+    let r = both (exchanged (c .before .before .before .before .before .before)) in
+    omega (arith, r .read2 .ensures .0, r .read2 .kept .1 .1 .1 .0)
 
 arrive-requires : tie.Need-arrive-requires
 arrive-requires c κs =
-    let h = c .before .before .before .before .before .before .before .before .before .before in
-    let m = h .before .before .before .before .before .before in
-    let i = m .before .before .before .before .before .before .before .before in
-    let x = m .before .before .before .before .before .before .before .before .before .before .before .before .before .before in
+    let w = c .before .before .before .before .before .before .before .before in
+    let h = w .before .before .before in
+    let i = kind (summed h) in
+    let x = stored i in
     let r = both x in
     let d = step (first r) in
     let at = begin d in
     let pl = at .pre .0 .0 .planned in
-    let adj = at .pre .0 .1 in
-    let ed = d .step-to .ensures in
-    let q = both-in adj in
-    let was = at .pre .0 .2 .guided (kind-of pl (i .if1 .taken)) in (
+    let here = level (kept x) ∙ ap (λ (b : Bool). boxCut b (at .args .plan .kind) (at .args .from .cut .0))
+    (sym (kept x .before .before .by-blocks .ensures) ∙ w .if2 .left) in (
+      (counted x, i .if1 .taken, histogram-is h),
       (
-        counted-of pl (q .2) (q .3) (moved x),
-        i .if1 .taken,
-        histogram.exchanged-histogram pl adj ed (enters r) (leaves r) (was .histogram) (h .exchange2 .kept .1 .1 .1 .0) (h .exchange2 .ensures),
+        (sums-are (summed h), carries-step pl (at .pre .0 .1) (d .step-to .ensures) (enters r) (leaves r) (was i .below)),
+        (
+          at .pre .1 .1 .cut,
+          omega (arith, at .pre .1 .1 .shifts),
+          moved x .box ∙ ap (balanceBox (frameOf (at .args .file .now)) (at .args .column) (at .args .row)) (here ∙ box-cut-joint _ _),
+        ),
       ),
-      (
-        (sums-moved pl adj ed (enters r) (leaves r) (was .sums) (m .moved .ensures), carries-step pl adj ed (enters r) (leaves r) (was .below)),
-        (at .pre .1 .1 .cut, omega (arith, at .pre .1 .1 .shifts), moved x .box),
-      ),
-    )
-
-same-length : tie.Need-same-length
-same-length c =
-    c .before .before .before .before .before .before .before .before .before .before .before .before .before .before .before .before .before .before
-    .before .before .before .before .before .before .before .before .before .before .before .before .before .exchange .kept .1 .1 .1 .1 .1 .0
-
-same-length-2 : tie.Need-same-length-2
-same-length-2 c =
-    c .before .before .before .before .before .before .before .before .before .before .before .before .before .before .before .before .before .before
-    .before .before .before .before .before .before .before .before .before .before .before .before .before .exchange .kept .1 .1 .1 .1 .1 .1 .0
-
-same-length-3 : tie.Need-same-length-3
-same-length-3 c = search needs
-
-returns : tie.Need-returns
-returns c =
-    let k =
-    moved
-    (c .before .before .before .before .before .before .before .before .before .before .before .before .before .before .before .before .before
-    .before .before .before .before .before .before .before .before .before .before .before .before .before .before) in
-    let v = c .arrive .ensures in
-    joint-visited _ _ _ _ _ _ _ _ _ _ _ _ (v .state) (record { counts = k .counts; words = k .words; box = v .box })
-    (record { guided = λ _. c .arrive .ensures .guided })
-
-visit-requires : tie.Need-visit-requires
-visit-requires c κs =
-    let x = c .before .before .before .before .before .before .before .before .before in
-    let at = begin (step (first (both x))) in
-    let pl = at .pre .0 .0 .planned in
-    let q = both-in (at .pre .0 .1) in (
-      (counted-of pl (q .2) (q .3) (moved x), at .pre .1 .0, kind-table pl (c .before .before .before .if1 .left)),
-      (at .pre .1 .1 .cut, omega (arith, at .pre .1 .1 .shifts), moved x .box),
     )
 
 same-length-4 : tie.Need-same-length-4
-same-length-4 c = search needs
+same-length-4 c = exchanged (c .before .before .before .before .before .before .before .before .before .before .before .before) .exchange .kept .1 .1 .1 .1 .1 .0
 
 same-length-5 : tie.Need-same-length-5
-same-length-5 c = search needs
+same-length-5 c = exchanged (c .before .before .before .before .before .before .before .before .before .before .before .before) .exchange .kept .1 .1 .1 .1 .1 .1 .0
+
+same-length-6 : tie.Need-same-length-6
+same-length-6 c = search needs
 
 returns-2 : tie.Need-returns-2
 returns-2 c =
+    let w = c .before .before .before .before .before .before .before .before .before in
+    let x = exchanged (w .before .before .before) in
+    let at = opened (both x) in
+    guided-visited (at .pre .0 .0 .planned) (at .args .way) (at .args .from .cut .0) (at .args .from .shifts) (at .pre .1 .2)
+    (sym (kept x .before .before .by-blocks .ensures) ∙ w .if2 .left) (moved x) (c .arrive .ensures)
+
+-- kind 1
+visit-requires : tie.Need-visit-requires
+visit-requires c κs =
+    let x = c .before .before .before .before .before .before .before .before .before in
+    let at = opened (both x) in
+    let one = kind-table (at .pre .0 .0 .planned) (c .before .before .before .if1 .left) in (
+      (counted x, at .pre .1 .0, one),
+      (
+        at .pre .1 .1 .cut,
+        omega (arith, at .pre .1 .1 .shifts),
+        moved x .box ∙ ap (balanceBox (frameOf (at .args .file .now)) (at .args .column) (at .args .row))
+            (level (kept x) ∙ box-cut-table (byBlocks (at .args .way)) (at .args .plan .kind) (at .args .from .cut .0) one),
+      ),
+    )
+
+same-length-7 : tie.Need-same-length-7
+same-length-7 c = search needs
+
+same-length-8 : tie.Need-same-length-8
+same-length-8 c = search needs
+
+returns-3 : tie.Need-returns-3
+returns-3 c =
     let x = c .before .before .before .before .before .before .before .before .before .before in
-    let pl = begin (step (first (both x))) .pre .0 .0 .planned in
-    let k = moved x in
-    let v = c .visit .ensures in
-    joint-visited _ _ _ _ _ _ _ _ _ _ _ _ (v .0) (record { counts = k .counts; words = k .words; box = v .1 })
-    (carried-none pl (kind-table pl (c .before .before .before .before .if1 .left)))
+    let at = opened (both x) in
+    let pl = at .pre .0 .0 .planned in
+    table-visited pl (at .args .way) (at .args .from .cut .0) (at .args .from .shifts) (kind-table pl (c .before .before .before .before .if1 .left))
+    (moved x) (c .visit .ensures)
 
 pub slide-spec : {M : Type 1} → statement M
 slide-spec =
@@ -270,6 +383,8 @@ slide-spec =
     read-requires
     slice-aggregate-read-2
     read-requires-2
+    by-blocks-requires
+    box-cut-requires
     sub-exchange
     part-exchange-start
     part-exchange-end
@@ -291,6 +406,11 @@ slide-spec =
     part-exchange-start-4
     part-exchange-end-4
     exchange-requires-2
+    arrive-by-blocks-requires
+    same-length
+    same-length-2
+    same-length-3
+    returns
     sub-arrive
     part-arrive-start
     part-arrive-end
@@ -298,11 +418,11 @@ slide-spec =
     part-arrive-start-2
     part-arrive-end-2
     arrive-requires
-    same-length
-    same-length-2
-    same-length-3
-    returns
-    visit-requires
     same-length-4
     same-length-5
-    returns-2)
+    same-length-6
+    returns-2
+    visit-requires
+    same-length-7
+    same-length-8
+    returns-3)

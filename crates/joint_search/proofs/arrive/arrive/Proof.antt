@@ -1,17 +1,19 @@
 -- `arrive` meets its contract: no weight, or from the cut point. Assumes nothing.
-use mathlib.Core.Path.{_≡_, sym, ap, _∙_}
-use mathlib.Core.Bool.{false}
+use borrow.Author.Needs.{needs}
+use mathlib.Core.Path.{_≡_, sym, ap, _∙_, subst}
+use mathlib.Core.Bool.{Bool, false}
 use mathlib.Core.Logic.{⊎-elim}
 use native.Mathlib.Omega.{arith}
-use Prim.Native.Nat.{ℕ, _<_}
+use Prim.Native.Nat.{ℕ, _+_, _≤_, _<_}
 use lib.IntN.{pos}
 use lib.Signed.{_≤ℤ_}
 use mir.Syntax.{w32}
 use mir.Val.{ofZ}
+use Rattle.spec.specs.Walk.{byBlocks, shiftsTo}
 use Rattle.joint_search.specs.Search.{levelWeightIn, balanceIn, weightlessIn}
-use Rattle.joint_search.proofs.LevelsLaws.{weightless-off}
+use Rattle.joint_search.proofs.LevelsLaws.{weightless-off, median-most}
 use Rattle.joint_search.proofs.SearchLaws.{box-bounds, box-balance, balance-back, level-low}
-use Rattle.joint_search.proofs.ArriveLaws.{arrival-hollow, arrival-answered}
+use Rattle.joint_search.proofs.ArriveLaws.{shifts-most, arrival-hollow, arrival-answered}
 use Rattle.joint_search.proofs.arrive.arrive.Statement.{statement}
 use Rattle.joint_search.proofs.arrive.arrive.Tie as tie
 
@@ -52,24 +54,55 @@ returns : tie.Need-returns
 returns c =
     let i = c .before in
     let at = start (i .before .before) in
-    (arrival-hollow _ _ _ _ _ (sym (c .if2 .taken) ∙ i .none-weighs .ensures) (omega arith) (omega arith), at .pre .1 .2)
+    (arrival-hollow _ _ _ _ _ _ (sym (c .if2 .taken) ∙ i .none-weighs .ensures) (omega arith) (omega arith), at .pre .1 .2)
+
+by-blocks-requires : tie.Need-by-blocks-requires
+by-blocks-requires c κs = search needs
 
 from-cut-requires : tie.Need-from-cut-requires
 from-cut-requires c κs =
-    let r = c .before .before in
+    let r = c .before .before .before in
     let at = start r in
-    let p = at .pre .0 in (
-      p,
-      (
-        (at .pre .1 .0, balance-back (p .0) (p .1) (at .args .cut .0) (r .box-dot .result) (at .pre .1 .0) (here r), at .pre .1 .1),
-        at .pre .1 .2,
-      ),
+    let p = at .pre .0 in
+    (p, (at .pre .1 .0, balance-back (p .0) (p .1) (at .args .cut .0) (r .box-dot .result) (at .pre .1 .0) (here r), at .pre .1 .2))
+
+shifts-to-requires : tie.Need-shifts-to-requires
+shifts-to-requires c κs = search needs
+
+-- a level is at most 1,024 away, and so are its blocks and levels
+add-total : tie.Need-add-total
+add-total c =
+    let at = start (c .before .before .before .before .before) in
+    let level : c .before .from-cut .result .0 ≤ at .args .sizes .levels = subst (λ (m : ℕ). m ≤ at .args .sizes .levels)
+    (sym (c .before .from-cut .ensures .0)) (median-most _ _) in
+    omega (
+      arith,
+      c .shifts-to .ensures,
+      shifts-most (c .before .before .before .by-blocks .result) (c .before .from-cut .result .0) (at .args .cut .0),
+      level,
+      at .pre .0 .0 .levels,
+      at .pre .1 .0,
+      at .pre .1 .1,
     )
 
 returns-2 : tie.Need-returns-2
 returns-2 c =
     let f = c .before .from-cut .ensures in
-    (arrival-answered _ _ _ _ _ (weighs (c .before .before .before)) (f .0) (f .1), f .2)
+    let at = start (c .before .before .before .before .before) in
+    let level = c .before .from-cut .result .0 in
+    let counted : c .shifts-to .result ≡ shiftsTo (byBlocks (at .args .way)) level (at .args .cut .0) =
+    c .shifts-to .ensures ∙ ap (λ (b : Bool). shiftsTo b level (at .args .cut .0)) (c .before .before .before .by-blocks .ensures) in
+    (arrival-answered _ _ _ _ _ _ (weighs (c .before .before .before .before)) (f .0) (ap (λ (n : ℕ). at .args .shifts + n) counted), f .1)
 
 pub arrive-spec : {M : Type 1} → statement M
-arrive-spec = tie.close (tie.spec box-dot-requires none-weighs-requires returns from-cut-requires returns-2)
+arrive-spec =
+    tie.close
+    (tie.spec
+    box-dot-requires
+    none-weighs-requires
+    returns
+    by-blocks-requires
+    from-cut-requires
+    shifts-to-requires
+    add-total
+    returns-2)
