@@ -2,7 +2,7 @@
 -- as they were.
 -- Assumes nothing.
 use Prim.Native.Nat.{ℕ, _*_, _/_, _%_, _≤_, _<_}
-use mathlib.Core.Path.{_≡_, refl, sym, ap, subst, _∙_}
+use mathlib.Core.Path.{_≡_, refl, sym, ap, ap₂, subst, _∙_}
 use mathlib.Core.Logic.{_⊎_, inl, inr}
 use mathlib.Core.List.{List, _++_}
 use native.Mathlib.Omega.{arith}
@@ -13,25 +13,27 @@ use Rattle.spec.specs.declared.Settings.{Settings}
 use Rattle.spec.specs.declared.Plan.{Plan}
 use Rattle.spec.specs.declared.Room.{Room}
 use Rattle.spec.specs.declared.Way.{Way}
-use Rattle.spec.specs.declared.Way.the-variants.{Joint, Columns, Chain}
-use Rattle.spec.specs.Frame.{frameOf, settingsIn}
+use Rattle.spec.specs.declared.Way.the-variants.{Columns, Chain}
+use Rattle.spec.specs.Frame.{Frame, frameOf, settingsIn}
 use Rattle.spec.specs.Checks.{Planned}
 use Rattle.spec.specs.Window.{count}
-use Rattle.spec.specs.Joint.{jointCounts, wordsPerLevel, occupancyWord, occupancyWords}
+use Rattle.spec.specs.Joint.{jointCounts, wordsPerLevel, occupancyWord, occupancyWords, balanceBox}
 use Rattle.spec.specs.Columns.{columnStore}
-use Rattle.spec.specs.Walk.{State}
-use Rattle.spec.specs.Calls.{roomOf, countsOf, wordsOf, NumbersOf, boxOf, zeros}
+use Rattle.spec.specs.Walk.{State, byBlocks, arrive}
+use Rattle.spec.specs.Calls.{BothKinds, roomOf, countsOf, wordsOf, NumbersOf, zeros}
 use Rattle.spec.proofs.First.{length-tabulate}
 use Rattle.spec.proofs.Plans.{facts}
 use Rattle.joint.specs.Window.{Fresh, Held}
 use Rattle.joint_visit.specs.Visit as joint
+use Rattle.joint_visit.proofs.VisitLaws.{box-cut-joint}
 use Rattle.columns.proofs.ContentLaws.{length-columns}
 use Rattle.chain.specs.Moves.{Listed}
+use Rattle.visit.specs.declared.Running.{Running}
 use Rattle.visit.specs.declared.Visit.{Visit}
 use Rattle.visit.specs.Visit.{Within}
 use Rattle.columns_visit.specs.Visit.{ColumnsAt, ColumnsVisited}
 use Rattle.chain_visit.specs.Visit.{ChainAt, ChainVisited}
-use Rattle.ways.specs.Visit.{Stores, stores, KeptBeyond, StoresFit, WayCarries, Serves, AtWindow, Visited}
+use Rattle.ways.specs.Visit.{Stores, stores, KeptBeyond, StoresFit, ownBox, WayCarries, Serves, AtWindow, Visited}
 
 -- the plan's settings are the file's
 pub settings-same : {b : List ℕ} {z : Plan} → Planned b z → settingsIn z ≡ frameOf b .set
@@ -70,31 +72,79 @@ module _ (n : ℕ) (front xs ys : List ℕ) (long : length front ≡ n) (e : ys 
 pub joined : (n : ℕ) (front xs : List ℕ) → take n xs ≡ front → xs ≡ front ++ drop n xs
 joined n front xs e = sym (take-append-drop n xs) ∙ ap (λ (l : List ℕ). l ++ drop n xs) e
 
--- ---- a way that is not joint serves kind 2
+-- ---- a way that does not serve both kinds serves kind 2
 module _ (way : Way) (z : Plan) (s : Serves way z) where
-  guided : (way ≡ Joint → z .kind ≡ 2) → z .kind ≡ 2
+  guided : (BothKinds way → ⊥) → z .kind ≡ 2
   guided n = by s
     where
-      by : (way ≡ Joint) ⊎ (z .kind ≡ 2) → z .kind ≡ 2
-      by (inl q) = n q
+      by : BothKinds way ⊎ (z .kind ≡ 2) → z .kind ≡ 2
+      by (inl q) = absurd (n q)
       by (inr q) = q
 
   pub guided-columns : way ≡ Columns → z .kind ≡ 2
-  guided-columns e = guided (λ q. let n : Columns ≡ Joint = sym e ∙ q in cc)
+  guided-columns e = guided (λ q. subst BothKinds e q)
 
   pub guided-chain : way ≡ Chain → z .kind ≡ 2
-  guided-chain e = guided (λ q. let n : Chain ≡ Joint = sym e ∙ q in cc)
+  guided-chain e = guided (λ q. subst BothKinds e q)
+
+-- ---- ways 1 and 4 have the same stores, the box at a level of its own, and carry the same
+record JointStores (way : Way) : Type 0 where
+  counts-room : (k : Settings) → roomOf way k .counts ≡ k .levels * k .guides
+  words-room : (k : Settings) → roomOf way k .words ≡ k .levels * wordsPerLevel k
+  counts : (p : Frame) (s t : ℕ) → countsOf way p s t ≡ jointCounts p s t
+  words : (p : Frame) (s t : ℕ) → wordsOf way p s t ≡ occupancyWords p s t
+  numbers : (p : Frame) (s t : ℕ) (m : List ℕ) → NumbersOf way p s t m
+  box : (p : Frame) (s t c : ℕ) → ownBox way p s t c ≡ balanceBox p s t (joint.boxCut (byBlocks way) (p .set .kind) c)
+  carried : (b : List ℕ) (s t c : ℕ) (m hs : List ℕ) (r : Running) → WayCarries way b s t c m hs r →
+      joint.GuidedCarried (frameOf b) s t c (r .sums) (r .below) hs
+  carries : (b : List ℕ) (s t c : ℕ) (m hs : List ℕ) (r : Running) → joint.GuidedCarried (frameOf b) s t c (r .sums) (r .below) hs →
+      WayCarries way b s t c m hs r
+
+joint-stores : (way : Way) → joint.JointWay way → JointStores way
+unfolding roomOf countsOf wordsOf NumbersOf ownBox WayCarries
+joint-stores way (inl e) =
+    rw e
+    (record {
+      counts-room = λ k. refl;
+      words-room = λ k. refl;
+      counts = λ p s t. refl;
+      words = λ p s t. refl;
+      numbers = λ p s t m. tt;
+      box = λ p s t c. ap (balanceBox p s t) (sym (box-cut-joint (p .set .kind) c));
+      carried = λ b s t c m hs r g. g;
+      carries = λ b s t c m hs r g. g;
+    })
+joint-stores way (inr e) =
+    rw e
+    (record {
+      counts-room = λ k. refl;
+      words-room = λ k. refl;
+      counts = λ p s t. refl;
+      words = λ p s t. refl;
+      numbers = λ p s t m. tt;
+      box = λ p s t c. refl;
+      carried = λ b s t c m hs r g. g;
+      carries = λ b s t c m hs r g. g;
+    })
 
 -- ---- what is asked, and what is left
 module _ (way : Way) {b : List ℕ} {z : Plan} (k : Planned b z) (cs ws ns : List ℕ) (f : StoresFit way (settingsIn z) (stores cs ws ns)) where
-  joint-room : way ≡ Joint → (roomOf Joint (frameOf b .set) .counts ≤ length cs) × (roomOf Joint (frameOf b .set) .words ≤ length ws)
-  joint-room e =
-      let g : StoresFit Joint (settingsIn z) (stores cs ws ns) = rw e at f in
-      (room-of k Joint (λ q. q .counts) (length cs) (g .counts), room-of k Joint (λ q. q .words) (length ws) (g .words))
+  counts-fit : roomOf way (frameOf b .set) .counts ≤ length cs
+  counts-fit = room-of k way (λ q. q .counts) (length cs) (f .counts)
 
-  pub fit-joint : (s t : ℕ) → way ≡ Joint → (s < z .width) × (t < z .height) → Fresh b z s t cs ws
-  unfolding roomOf
-  fit-joint s t e q = record { planned = k; column = q .0; row = q .1; cells = joint-room e .0; words = joint-room e .1 }
+  words-fit : roomOf way (frameOf b .set) .words ≤ length ws
+  words-fit = room-of k way (λ q. q .words) (length ws) (f .words)
+
+  pub fit-joint : (s t : ℕ) → joint.JointWay way → (s < z .width) × (t < z .height) → Fresh b z s t cs ws
+  fit-joint s t w q =
+      let j = joint-stores way w in
+      record {
+        planned = k;
+        column = q .0;
+        row = q .1;
+        cells = subst (λ (n : ℕ). n ≤ length cs) (j .counts-room (frameOf b .set)) counts-fit;
+        words = subst (λ (n : ℕ). n ≤ length ws) (j .words-room (frameOf b .set)) words-fit;
+      }
 
   pub fit-columns : way ≡ Columns → roomOf Columns (frameOf b .set) .numbers ≤ length ns
   fit-columns e = let g : StoresFit Columns (settingsIn z) (stores cs ws ns) =
@@ -104,58 +154,73 @@ module _ (way : Way) {b : List ℕ} {z : Plan} (k : Planned b z) (cs ws ns : Lis
   fit-chain e = let g : StoresFit Chain (settingsIn z) (stores cs ws ns) = rw e at f in room-of k Chain (λ q. q .numbers) (length ns) (g .numbers)
 
   module _ (hs : List ℕ) (d : List ℤ) (v : Visit) where
-    pub joint-at : way ≡ Joint → AtWindow way b (stores cs ws ns) hs d v → Within z v
+    pub joint-at : joint.JointWay way → AtWindow way b (stores cs ws ns) hs d v → Within z v
         →
-        Held b z (v .column) (v .row) (v .cut .0) cs ws d × joint.GuidedCarried (frameOf b) (v .column) (v .row) (v .cut .0) (v .running .sums)
-        (v .running .below) hs
-    unfolding roomOf countsOf wordsOf boxOf WayCarries
-    joint-at e h w =
-        let g : AtWindow Joint b (stores cs ws ns) hs d v = rw e at h in (
+        Held b z (v .column) (v .row) (joint.boxCut (byBlocks way) (z .kind) (v .cut .0)) cs ws d × joint.GuidedCarried (frameOf b) (v .column) (v .row)
+        (v .cut .0) (v .running .sums) (v .running .below) hs
+    joint-at w g q =
+        let j = joint-stores way w in
+        let p = frameOf b in
+        let s = v .column in
+        let t = v .row in (
           record {
             planned = k;
-            column = w .column;
-            row = w .row;
+            column = q .column;
+            row = q .row;
             joint = record {
-              counts = joined (roomOf Joint (frameOf b .set) .counts) (jointCounts (frameOf b) (v .column) (v .row)) cs (g .holds .counts);
-              words = joined (roomOf Joint (frameOf b .set) .words) (occupancyWords (frameOf b) (v .column) (v .row)) ws (g .holds .words);
-              box = g .holds .balance-box;
+              counts =
+                  joined (p .set .levels * p .set .guides) (jointCounts p s t) cs
+                  (ap (λ (n : ℕ). take n cs) (sym (j .counts-room (p .set))) ∙ g .holds .counts ∙ j .counts p s t);
+              words =
+                  joined (p .set .levels * wordsPerLevel (p .set)) (occupancyWords p s t) ws
+                  (ap (λ (n : ℕ). take n ws) (sym (j .words-room (p .set))) ∙ g .holds .words ∙ j .words p s t);
+              box =
+                  g .balance-box ∙ j .box p s t (v .cut .0) ∙ ap (λ (n : ℕ). balanceBox p s t (joint.boxCut (byBlocks way) n (v .cut .0)))
+                  (sym (facts k .kind));
             };
           },
-          g .carried,
+          j .carried b s t (v .cut .0) ns hs (v .running) (g .carried),
         )
 
-    pub joint-visited : (x : State) (cs′ ws′ : List ℕ) → way ≡ Joint → joint.JointVisited (frameOf b) x v cs ws cs′ ws′ d hs
+    pub joint-visited : (x : State) (cs′ ws′ : List ℕ) → joint.JointWay way → joint.JointVisited way (frameOf b) x v cs ws cs′ ws′ d hs
         → Visited way b x (stores cs ws ns) (stores cs′ ws′ ns) hs d v
-    unfolding roomOf countsOf wordsOf NumbersOf boxOf WayCarries jointCounts occupancyWords
-    joint-visited x cs′ ws′ e h =
+    unfolding jointCounts occupancyWords
+    joint-visited x cs′ ws′ w h =
+        let j = joint-stores way w in
         let p = frameOf b in
         let s = v .column in
         let t = v .row in
-        let cells = length-tabulate (p .set .levels * p .set .guides) (λ q. count p s t (q / p .set .guides) (q % p .set .guides)) in
-        let words =
-        length-tabulate (p .set .levels * wordsPerLevel (p .set))
-        (λ q. occupancyWord p s t (q / wordsPerLevel (p .set)) (q % wordsPerLevel (p .set))) in
-        rw e
-        (record {
+        let cells : length (countsOf way p s t) ≡ roomOf way (p .set) .counts =
+        ap length (j .counts p s t)
+        ∙ length-tabulate (p .set .levels * p .set .guides) (λ q. count p s t (q / p .set .guides) (q % p .set .guides)) ∙ sym (j .counts-room (p .set)) in
+        let words : length (wordsOf way p s t) ≡ roomOf way (p .set) .words =
+        ap length (j .words p s t)
+        ∙ length-tabulate (p .set .levels * wordsPerLevel (p .set))
+        (λ q. occupancyWord p s t (q / wordsPerLevel (p .set)) (q % wordsPerLevel (p .set))) ∙ sym (j .words-room (p .set)) in
+        let counts-are : cs′ ≡ countsOf way p s t ++ drop (roomOf way (p .set) .counts) cs =
+        h .joint .counts ∙ ap₂ (λ (l : List ℕ) (n : ℕ). l ++ drop n cs) (sym (j .counts p s t)) (sym (j .counts-room (p .set))) in
+        let words-are : ws′ ≡ wordsOf way p s t ++ drop (roomOf way (p .set) .words) ws =
+        h .joint .words ∙ ap₂ (λ (l : List ℕ) (n : ℕ). l ++ drop n ws) (sym (j .words p s t)) (sym (j .words-room (p .set))) in
+        record {
           state = h .state;
           here = record {
             holds = record {
-              counts = front-of (p .set .levels * p .set .guides) (jointCounts p s t) cs cs′ cells (h .joint .counts);
-              words = front-of (p .set .levels * wordsPerLevel (p .set)) (occupancyWords p s t) ws ws′ words (h .joint .words);
-              numbers = tt;
-              balance-box = h .joint .box;
+              counts = front-of (roomOf way (p .set) .counts) (countsOf way p s t) cs cs′ cells counts-are;
+              words = front-of (roomOf way (p .set) .words) (wordsOf way p s t) ws ws′ words words-are;
+              numbers = j .numbers p s t ns;
             };
-            carried = h .carried;
+            balance-box = h .joint .box ∙ sym (j .box p s t (v .cut .0));
+            carried = j .carries b s t (v .cut .0) ns hs (v .running) (h .carried);
           };
           kept = record {
-            counts = beyond-of (p .set .levels * p .set .guides) (jointCounts p s t) cs cs′ cells (h .joint .counts) (joint-room e .0);
-            words = beyond-of (p .set .levels * wordsPerLevel (p .set)) (occupancyWords p s t) ws ws′ words (h .joint .words) (joint-room e .1);
-            numbers = beyond-same 0 ns;
+            counts = beyond-of (roomOf way (p .set) .counts) (countsOf way p s t) cs cs′ cells counts-are counts-fit;
+            words = beyond-of (roomOf way (p .set) .words) (wordsOf way p s t) ws ws′ words words-are words-fit;
+            numbers = beyond-same _ ns;
           };
-        })
+        }
 
     pub columns-at : way ≡ Columns → AtWindow way b (stores cs ws ns) hs d v → ColumnsAt (frameOf b) v ns × (d ≡ zeros)
-    unfolding NumbersOf boxOf WayCarries
+    unfolding NumbersOf ownBox WayCarries
     columns-at e h =
         let g : AtWindow Columns b (stores cs ws ns) hs d v = rw e at h in (
           record {
@@ -164,13 +229,13 @@ module _ (way : Way) {b : List ℕ} {z : Plan} (k : Planned b z) (cs ws ns : Lis
             below = g .carried .1;
             store = joined (roomOf Columns (frameOf b .set) .numbers) (columnStore (frameOf b) (v .column) (v .row)) ns (g .holds .numbers);
           },
-          g .holds .balance-box,
+          g .balance-box,
         )
 
-    pub columns-visited : (x : State) (ns′ : List ℕ) → way ≡ Columns → ColumnsVisited (frameOf b) x ns v ns′ → d ≡ zeros
-        → Visited way b x (stores cs ws ns) (stores cs ws ns′) hs d v
-    unfolding roomOf countsOf wordsOf NumbersOf boxOf WayCarries
-    columns-visited x ns′ e h q =
+    pub columns-visited : (s t c n : ℕ) (ns′ : List ℕ) → way ≡ Columns → ColumnsVisited (frameOf b) (arrive Columns (frameOf b) s t c n) ns v ns′
+        → d ≡ zeros → Visited way b (arrive way (frameOf b) s t c n) (stores cs ws ns) (stores cs ws ns′) hs d v
+    unfolding roomOf countsOf wordsOf NumbersOf ownBox WayCarries
+    columns-visited s t c n ns′ e h q =
         let p = frameOf b in
         let front : length (columnStore p (v .column) (v .row)) ≡ roomOf Columns (p .set) .numbers = length-columns p (v .column) (v .row) in
         rw e
@@ -181,8 +246,8 @@ module _ (way : Way) {b : List ℕ} {z : Plan} (k : Planned b z) (cs ws ns : Lis
               counts = refl;
               words = refl;
               numbers = front-of (roomOf Columns (p .set) .numbers) (columnStore p (v .column) (v .row)) ns ns′ front (h .store);
-              balance-box = q;
             };
+            balance-box = q;
             carried = (h .sums, h .below);
           };
           kept = record {
@@ -193,7 +258,7 @@ module _ (way : Way) {b : List ℕ} {z : Plan} (k : Planned b z) (cs ws ns : Lis
         })
 
     pub chain-at : way ≡ Chain → AtWindow way b (stores cs ws ns) hs d v → ChainAt b z v ns × (d ≡ zeros)
-    unfolding boxOf WayCarries
+    unfolding ownBox WayCarries
     chain-at e h =
         let g : AtWindow Chain b (stores cs ws ns) hs d v = rw e at h in (
           record {
@@ -201,18 +266,19 @@ module _ (way : Way) {b : List ℕ} {z : Plan} (k : Planned b z) (cs ws ns : Lis
             listed =
                 subst (λ (q : Plan). Listed b q (v .column) (v .row) (v .running .free) ns) (sym (k .plan)) (g .carried .1);
           },
-          g .holds .balance-box,
+          g .balance-box,
         )
 
-    pub chain-visited : (x : State) (ns′ : List ℕ) → way ≡ Chain → ChainVisited b z x ns v ns′ → d ≡ zeros →
-        Visited way b x (stores cs ws ns) (stores cs ws ns′) hs d v
-    unfolding roomOf countsOf wordsOf NumbersOf boxOf WayCarries
-    chain-visited x ns′ e h q =
+    pub chain-visited : (s t c n : ℕ) (ns′ : List ℕ) → way ≡ Chain → ChainVisited b z (arrive Chain (frameOf b) s t c n) ns v ns′ → d ≡ zeros →
+        Visited way b (arrive way (frameOf b) s t c n) (stores cs ws ns) (stores cs ws ns′) hs d v
+    unfolding roomOf countsOf wordsOf NumbersOf ownBox WayCarries
+    chain-visited s t c n ns′ e h q =
         rw e
         (record {
           state = h .state;
           here = record {
-            holds = record { counts = refl; words = refl; numbers = h .stored .store; balance-box = q };
+            holds = record { counts = refl; words = refl; numbers = h .stored .store };
+            balance-box = q;
             carried = (h .sums, subst (λ (q : Plan). Listed b q (v .column) (v .row) (v .running .free) ns′) (k .plan) (h .stored .listed));
           };
           kept =
