@@ -10,9 +10,13 @@ namespace bench {
 
 // What is timed: a way and a kind, and in kind 1 the built-in weights or a table of the file's own. The
 // library and the yardstick both have all of them.
-enum Contest { JOINT_TABLE, JOINT_OWN, JOINT_GUIDED, COLUMNS, CHAIN, CONTESTS };
-inline constexpr const char *NAMES[CONTESTS] = {"joint, kind 1", "joint, own table", "joint, kind 2", "columns", "chain"};
-inline Kind kind_of(Contest contest) { return contest == JOINT_TABLE || contest == JOINT_OWN ? TABLE : GUIDED; }
+enum Contest { JOINT_TABLE, JOINT_OWN, JOINT_GUIDED, COLUMNS, CHAIN, COARSE_TABLE, COARSE_GUIDED, CONTESTS };
+inline constexpr const char *NAMES[CONTESTS] = {"joint, kind 1", "joint, own table", "joint, kind 2", "columns",
+                                                "chain",         "coarse, kind 1",   "coarse, kind 2"};
+inline Kind kind_of(int contest) {
+    return contest == JOINT_TABLE || contest == JOINT_OWN || contest == COARSE_TABLE ? TABLE : GUIDED;
+}
+inline bool is_coarse(int contest) { return contest == COARSE_TABLE || contest == COARSE_GUIDED; }
 inline constexpr double NOT_TIMED = 0;
 // Every contestant has so many turns, and its best counts.
 inline constexpr int ROUNDS = 6;
@@ -38,7 +42,11 @@ inline Walk by_yardstick(Contest contest, const Frame &frame, const std::vector<
     auto with = [&](auto way) { return walk(way, frame, 0, 0, moves); };
     if (contest == COLUMNS) return with(Columns(frame));
     if (contest == CHAIN) return with(Chain(frame));
-    return with(Joint(frame));
+    if (!is_coarse(contest)) return with(Joint(frame));
+    Coarse coarse(frame);
+    Walk made = walk<by_blocks>(coarse, frame, 0, 0, moves);
+    coarse.summarise();
+    return made;
 }
 
 // The library's calls with their buffers, which a caller makes once and uses for many frames.
@@ -53,8 +61,10 @@ class Library {
 
     Library(Contest contest, const Frame &frame, size_t longest_walk = 0)
         : file(file_of(frame)), way(way_of(contest)), output(std::max(frame.pixels(), ICEMEDIAN_ANSWERS_LENGTH(longest_walk))) {
-        if (way == ICEMEDIAN_JOINT) counts.resize(ICEMEDIAN_COUNTS_LENGTH(frame.levels, frame.guides));
-        if (way == ICEMEDIAN_JOINT) words.resize(ICEMEDIAN_WORDS_LENGTH(frame.levels, frame.guides));
+        bool joint = way == ICEMEDIAN_JOINT || way == ICEMEDIAN_COARSE;
+        if (joint) counts.resize(ICEMEDIAN_COUNTS_LENGTH(frame.levels, frame.guides));
+        if (joint) words.resize(ICEMEDIAN_WORDS_LENGTH(frame.levels, frame.guides));
+        if (way == ICEMEDIAN_COARSE) summary.resize(ICEMEDIAN_SUMMARY_LENGTH(frame.levels));
         if (way == ICEMEDIAN_COLUMNS) numbers.resize(ICEMEDIAN_COLUMNS_LENGTH(frame.width, frame.levels));
         if (way == ICEMEDIAN_CHAIN) numbers.resize(ICEMEDIAN_CHAIN_LENGTH(frame.radius));
     }
@@ -62,7 +72,8 @@ class Library {
 #ifdef WITH_LIBRARY
         uint64_t offset;
         accept(icemedian_filter(file.data(), file.size(), way, counts.data(), counts.size(), words.data(), words.size(),
-                                numbers.data(), numbers.size(), output.data(), output.size(), &shifts, &offset));
+                                numbers.data(), numbers.size(), summary.data(), summary.size(), output.data(),
+                                output.size(), &shifts, &offset));
 #endif
     }
     // From the first pixel.
@@ -72,8 +83,8 @@ class Library {
         uint16_t cut;
         int16_t box[ICEMEDIAN_BOX_LENGTH];
         accept(icemedian_walk(file.data(), file.size(), way, 0, 0, moves.data(), moves.size(), counts.data(), counts.size(),
-                              words.data(), words.size(), numbers.data(), numbers.size(), output.data(), output.size(), &shifts,
-                              &cut, box, &offset));
+                              words.data(), words.size(), numbers.data(), numbers.size(), summary.data(), summary.size(),
+                              output.data(), output.size(), &shifts, &cut, box, &offset));
 #endif
     }
     void check() {
@@ -94,6 +105,11 @@ class Library {
     void compare(const Walk &yardstick, const char *name) const {
         if (shifts != yardstick.shifts) std::printf("shift counts differ: %s\n", name), std::exit(1);
     }
+    // The bytes of the stores that the way needs.
+    size_t store_bytes() const {
+        return counts.size() * sizeof counts[0] + words.size() * sizeof words[0] + numbers.size() * sizeof numbers[0] +
+               summary.size() * sizeof summary[0];
+    }
 
   private:
     std::vector<uint8_t> file;
@@ -101,8 +117,10 @@ class Library {
     std::vector<uint16_t> counts, output;
     std::vector<uint64_t> words;
     std::vector<uint32_t> numbers;
+    std::vector<int64_t> summary;
 
     static uint32_t way_of(Contest contest) {
+        if (is_coarse(contest)) return ICEMEDIAN_COARSE;
         return contest == COLUMNS ? ICEMEDIAN_COLUMNS : contest == CHAIN ? ICEMEDIAN_CHAIN : ICEMEDIAN_JOINT;
     }
     static void accept(uint32_t status) {

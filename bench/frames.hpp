@@ -1,4 +1,5 @@
-// Frames for the benchmark: an ice sheet and plain noise, and their files as document 01 has them.
+// Frames for the benchmark: an ice sheet, plain noise and resurfaced strips, and their files as document 01 has
+// them.
 #pragma once
 #include <algorithm>
 #include <cmath>
@@ -53,6 +54,12 @@ struct Frame : Settings {
 
     size_t pixels() const { return size_t(width) * height; }
     size_t at(int column, int row) const { return size_t(row) * width + column; }
+    // A pixel from parts of the level range and of the guide range; what is outside is at their ends.
+    void set(int column, int row, double warmth, double brightness) {
+        auto step = [](double part, int count) { return uint32_t(std::clamp(part * count, 0.0, count - 1.0)); };
+        values.set(at(column, row), step(warmth, levels));
+        guide.set(at(column, row), step(brightness, guides));
+    }
 };
 
 // A small generator of pseudo-random numbers (xorshift), the same on every machine.
@@ -115,9 +122,7 @@ inline Frame ice(const Settings &settings, uint64_t seed = 1) {
             warmth += 0.012 * random.gauss();
             brightness += 0.015 * random.gauss();
             if (random.below(400) == 0) warmth += 0.4 * (random.unit() - 0.5);
-            auto step = [](double part, int count) { return uint32_t(std::clamp(part * count, 0.0, count - 1.0)); };
-            frame.values.set(frame.at(x, y), step(warmth, frame.levels));
-            frame.guide.set(frame.at(x, y), step(brightness, frame.guides));
+            frame.set(x, y, warmth, brightness);
         }
     return frame;
 }
@@ -129,6 +134,35 @@ inline Frame noise(const Settings &settings, uint64_t seed = 1) {
     for (size_t i = 0; i < frame.pixels(); i++) frame.values.set(i, random.below(frame.levels));
     for (size_t i = 0; i < frame.pixels(); i++) frame.guide.set(i, random.below(frame.guides));
     return frame;
+}
+
+// Strips of so many columns: every second one is freshly resurfaced, warmer by half of the level range and
+// shinier, so that the cut travels far from one to the next.
+inline Frame strips(const Settings &settings, int columns, uint64_t seed = 1) {
+    Frame frame(settings);
+    Random random{seed * 7919 + 12345};
+    for (int y = 0; y < frame.height; y++)
+        for (int x = 0; x < frame.width; x++) {
+            double u = double(x) / frame.width, v = double(y) / frame.height;
+            bool fresh = x / columns % 2;
+            double warmth = 0.25 + 0.03 * std::sin(3 * u) + 0.03 * std::cos(4 * v) + (fresh ? 0.5 : 0);
+            double brightness = 0.35 + 0.05 * std::cos(2 * u - v) + (fresh ? 0.35 : 0);
+            warmth += 0.012 * random.gauss();
+            brightness += 0.015 * random.gauss();
+            frame.set(x, y, warmth, brightness);
+        }
+    return frame;
+}
+
+// What the frames show.
+enum Picture { ICE, NOISE, BROAD, NARROW, PICTURES };
+inline constexpr const char *PICTURE_NAMES[PICTURES] = {"ice", "noise", "broad strips", "narrow strips"};
+inline constexpr int BROAD_COLUMNS = 24, NARROW_COLUMNS = 2;
+
+inline Frame drawn(Picture picture, const Settings &settings) {
+    if (picture == ICE) return ice(settings);
+    if (picture == NOISE) return noise(settings);
+    return strips(settings, picture == BROAD ? BROAD_COLUMNS : NARROW_COLUMNS);
 }
 
 // The frame's file: planes, table if it is not built in, trailer.

@@ -26,7 +26,7 @@ struct Goal {
     }
 };
 
-inline std::string place(bool noisy) { return noisy ? " on noise" : " on ice"; }
+inline std::string place(Picture picture) { return std::string(" on ") + PICTURE_NAMES[picture]; }
 
 // The frame on which the joint way is slowest beside OpenCV.
 inline Goal slowest(const Rows &rows) {
@@ -38,25 +38,33 @@ inline Goal slowest(const Rows &rows) {
     Goal goal{"OpenCV's time / library's, joint, kind 1, every frame", Goal::AT_LEAST, 1.0, NOT_TIMED};
     if (!least) return goal;
     goal.seen = least->over_opencv();
-    goal.what += " (least: " + std::string(least->picture()) + " " + std::to_string(least->k.width) + "x" +
+    goal.what += " (least: " + std::string(least->name()) + " " + std::to_string(least->k.width) + "x" +
                  std::to_string(least->k.height) + ", r " + std::to_string(least->k.radius) + ")";
     return goal;
 }
 
 inline std::vector<Goal> goals_of(const Rows &rows) {
     std::vector<Goal> goals;
-    for (bool noisy : {false, true})
-        goals.push_back({"OpenCV's time / library's, joint, kind 1," + place(noisy), Goal::AT_LEAST, noisy ? 1.5 : 1.8,
-                         mean(on(noisy, rows), opencv(), library(JOINT_TABLE))});
+    for (Picture picture : {ICE, NOISE})
+        goals.push_back({"OpenCV's time / library's, joint, kind 1," + place(picture), Goal::AT_LEAST,
+                         picture == NOISE ? 1.5 : 1.8, mean(on(picture, rows), opencv(), library(JOINT_TABLE))});
     goals.push_back(slowest(rows));
     for (int c = 0; c < CONTESTS; c++)
-        for (bool noisy : {false, true})
-            goals.push_back({std::string("library's time / C++'s, ") + NAMES[c] + "," + place(noisy), Goal::AT_MOST, 1.15,
-                             mean(on(noisy, rows), library(c), yardstick(c))});
-    const double growth[CONTESTS] = {3, 3, 3, 1.4, 5};
+        for (Picture picture : {ICE, NOISE, BROAD, NARROW})
+            if (picture == ICE || picture == NOISE || is_coarse(c))
+                goals.push_back({std::string("library's time / C++'s, ") + NAMES[c] + "," + place(picture), Goal::AT_MOST,
+                                 1.15, mean(on(picture, rows), library(c), yardstick(c))});
+    for (const Beside &kind : BESIDE)
+        goals.push_back({"library's time, joint / coarse, " + std::string(kind.name) + "," + place(ICE), Goal::AT_LEAST, 0.9,
+                         mean(on(ICE, rows), library(kind.joint), library(kind.coarse))});
+    for (const Beside &kind : BESIDE)
+        goals.push_back({"library's time, joint / coarse, " + std::string(kind.name) + "," + place(NARROW) + ", L 1024",
+                         Goal::AT_LEAST, 1.5,
+                         mean(with_levels(1024, on(NARROW, rows)), library(kind.joint), library(kind.coarse))});
+    const double growth[CONTESTS] = {3, 3, 3, 1.4, 5, 3, 3};
     for (int c = 0; c < CONTESTS; c++)
-        goals.push_back({std::string("library's time at r 15 / at r 3, ") + NAMES[c] + "," + place(false), Goal::AT_MOST,
-                         growth[c], growth_in_radius(on(false, rows), library(c))});
+        goals.push_back({std::string("library's time at r 15 / at r 3, ") + NAMES[c] + "," + place(ICE), Goal::AT_MOST,
+                         growth[c], growth_in_radius(on(ICE, rows), library(c))});
     return goals;
 }
 

@@ -10,25 +10,30 @@
 
 using namespace bench;
 
-static Frame frame_of(bool noisy, const Settings &k) { return noisy ? noise(k) : ice(k); }
+// Strips are for the two ways of both kinds beside each other, with the built-in weights and without OpenCV.
+static bool is_strips(Picture picture) { return picture == BROAD || picture == NARROW; }
+static bool is_timed(Picture picture, int contest) {
+    return !is_strips(picture) || contest == JOINT_TABLE || contest == JOINT_GUIDED || is_coarse(contest);
+}
 
 // Times every contestant on one frame, in turns.
-static Row measure(bool noisy, Settings k) {
+static Row measure(Picture picture, Settings k) {
     k.kind = TABLE;
-    Frame table = frame_of(noisy, k), own = table;
+    Frame table = drawn(picture, k), own = table;
     own.own_table();
     k.kind = GUIDED;
-    Frame guided = frame_of(noisy, k);
-    auto frame_for = [&](int c) -> const Frame & { return c == JOINT_TABLE ? table : c == JOINT_OWN ? own : guided; };
+    Frame guided = drawn(picture, k);
+    auto frame_for = [&](int c) -> const Frame & { return c == JOINT_OWN ? own : kind_of(c) == TABLE ? table : guided; };
     std::vector<uint8_t> moves = serpentine(k);
     OpenCv opencv(table);
     std::vector<Library> libraries;
     for (int c = 0; c < CONTESTS; c++) libraries.emplace_back(Contest(c), frame_for(c));
 
-    Row row{noisy, k, NOT_TIMED, {}, {}};
+    Row row{picture, k, NOT_TIMED, {}, {}};
     for (int round = 0; round < ROUNDS; round++) {
-        if (k.levels == 256) keep_best(row.opencv, table.pixels(), [&] { opencv.filter(); });
+        if (k.levels == 256 && !is_strips(picture)) keep_best(row.opencv, table.pixels(), [&] { opencv.filter(); });
         for (int c = 0; c < CONTESTS; c++) {
+            if (!is_timed(picture, c)) continue;
             Walk walk;
             keep_best(row.yardstick[c], table.pixels(), [&] { walk = by_yardstick(Contest(c), frame_for(c), moves); });
             if (!Library::LINKED) continue;
@@ -41,7 +46,7 @@ static Row measure(bool noisy, Settings k) {
 }
 
 static void print_row(const Row &row) {
-    std::printf("| %s | %dx%d | %d | %d | %s |", row.picture(), row.k.width, row.k.height, row.k.radius, row.k.levels,
+    std::printf("| %s | %dx%d | %d | %d | %s |", row.name(), row.k.width, row.k.height, row.k.radius, row.k.levels,
                 number("%.0f", row.opencv).c_str());
     for (int c = 0; c < CONTESTS; c++)
         std::printf(" %s | %s |", number("%.0f", row.library[c]).c_str(), number("%.0f", row.yardstick[c]).c_str());
@@ -52,9 +57,11 @@ static void print_row(const Row &row) {
 static void print_head() {
     std::printf("\n## Nanoseconds a pixel (library, then C++)\n\n"
                 "OpenCV %s; best of %d turns, 256 guides, smoothing 64 in kind 2. Kind 1 with the built-in weights, and with a "
-                "finer table of the file's own: 65,535 * 16 / (16 + d), rounded down, for guides that differ by d.\n\n"
+                "finer table of the file's own: 65,535 * 16 / (16 + d), rounded down, for guides that differ by d. Strips are "
+                "%d (broad) and %d (narrow) columns wide, every second one freshly resurfaced: warmer by half of the level "
+                "range, and shinier. There only joint and coarse take turns.\n\n"
                 "| frame | size | r | L | OpenCV |",
-                CV_VERSION, ROUNDS);
+                CV_VERSION, ROUNDS, BROAD_COLUMNS, NARROW_COLUMNS);
     for (const char *name : NAMES) std::printf(" %s | C++ |", name);
     std::printf(" OpenCV / library |\n|---|---|---|---|---|");
     for (int c = 0; c < CONTESTS; c++) std::printf("---|---|");
@@ -62,10 +69,13 @@ static void print_head() {
 }
 
 static void print_ratios(const Rows &rows) {
-    std::printf("\n## Geometric means\n\n| | ice | noise |\n|---|---|---|\n");
+    std::printf("\n## Geometric means\n\n| |");
+    for (const char *name : PICTURE_NAMES) std::printf(" %s |", name);
+    std::printf("\n|---|---|---|---|---|\n");
     auto line = [&](const char *what, int contest, const Pick &above, const Pick &below) {
         std::printf("| %s, %s |", what, NAMES[contest]);
-        for (bool noisy : {false, true}) std::printf(" %s |", number("%.2f", mean(on(noisy, rows), above, below)).c_str());
+        for (Picture picture : {ICE, NOISE, BROAD, NARROW})
+            std::printf(" %s |", number("%.2f", mean(on(picture, rows), above, below)).c_str());
         std::printf("\n");
     };
     for (int c = 0; c < CONTESTS; c++) {
@@ -75,11 +85,31 @@ static void print_ratios(const Rows &rows) {
     }
 }
 
+// How much faster way 4 is than way 1, in the library: a line for each picture and level count.
+static void print_beside(const Rows &rows) {
+    std::printf("\n## Coarse beside joint: the library's time by joint / by coarse, geometric means\n\n"
+                "Above 1 coarse is faster: it passes over whole blocks of 16 levels where joint goes level by level.\n\n"
+                "| frame | L |");
+    for (const Beside &kind : BESIDE)
+        for (int radius : {3, 7, 15}) std::printf(" %s, r %d |", kind.name, radius);
+    std::printf("\n|---|---|---|---|---|---|---|---|\n");
+    for (Picture picture : {ICE, NOISE, BROAD, NARROW})
+        for (int levels : {256, 1024}) {
+            std::printf("| %s | %d |", PICTURE_NAMES[picture], levels);
+            for (const Beside &kind : BESIDE)
+                for (int radius : {3, 7, 15}) {
+                    Rows alike = with_radius(radius, with_levels(levels, on(picture, rows)));
+                    std::printf(" %s |", number("%.2f", mean(alike, library(kind.joint), library(kind.coarse))).c_str());
+                }
+            std::printf("\n");
+        }
+}
+
 static void print_growth(const Rows &rows) {
     std::printf("\n## Growth: geometric means of time ratios, ice / noise\n\n"
                 "| | library, r 15 / r 3 | C++ | library, L 1024 / L 256 | C++ |\n|---|---|---|---|---|\n");
     auto both = [&](double (*growth)(const Rows &, const Pick &), const Pick &time) {
-        return number("%.2f", growth(on(false, rows), time)) + " / " + number("%.2f", growth(on(true, rows), time));
+        return number("%.2f", growth(on(ICE, rows), time)) + " / " + number("%.2f", growth(on(NOISE, rows), time));
     };
     for (int c = 0; c < CONTESTS; c++)
         std::printf("| %s | %s | %s | %s | %s |\n", NAMES[c], both(growth_in_radius, library(c)).c_str(),
@@ -101,7 +131,7 @@ static void print_full_frames(const Rows &rows) {
     auto rate = [](double time) { return number("%.1f", frames_a_second(time)); };
     for (const Row &row : rows) {
         if (row.k.width != 1024) continue;
-        std::printf("| %s | %d | %d | %s |", row.picture(), row.k.radius, row.k.levels, rate(row.opencv).c_str());
+        std::printf("| %s | %d | %d | %s |", row.name(), row.k.radius, row.k.levels, rate(row.opencv).c_str());
         for (int c = 0; c < CONTESTS; c++)
             std::printf(" %s | %s |", rate(row.library[c]).c_str(), rate(row.yardstick[c]).c_str());
         std::printf("\n");
@@ -112,29 +142,30 @@ static void print_full_frames(const Rows &rows) {
 static void print_headline(const Rows &rows) {
     double rate = NOT_TIMED;
     for (const Row &row : rows)
-        if (!row.noisy && row.k.width == 1024 && row.k.radius == 7 && row.k.levels == 256)
+        if (row.picture == ICE && row.k.width == 1024 && row.k.radius == 7 && row.k.levels == 256)
             rate = frames_a_second(row.library[JOINT_TABLE]);
-    auto times = [&](bool noisy, const Pick &above, const Pick &below) {
-        return number("%.2f", mean(on(noisy, rows), above, below)) + " times";
+    auto times = [&](Picture picture, const Pick &above, const Pick &below) {
+        return number("%.2f", mean(on(picture, rows), above, below)) + " times";
     };
     auto way = library(JOINT_TABLE), same_way = yardstick(JOINT_TABLE);
     std::printf("\n## Headline\n\nOn 1024x256 ice at r 7 with 256 levels, joint in kind 1 filters %s frames a second. "
                 "Over this run it is %s as fast as OpenCV on ice and %s on noise, and takes %s as long as C++ of the same way "
                 "on ice and %s on noise.\n\n",
-                number("%.1f", rate).c_str(), times(false, opencv(), way).c_str(), times(true, opencv(), way).c_str(),
-                times(false, way, same_way).c_str(), times(true, way, same_way).c_str());
+                number("%.1f", rate).c_str(), times(ICE, opencv(), way).c_str(), times(NOISE, opencv(), way).c_str(),
+                times(ICE, way, same_way).c_str(), times(NOISE, way, same_way).c_str());
     std::printf("Its limits: drawn frames of the sizes and radii above; kind 1 with the built-in weights; beside OpenCV "
                 "256 levels only, since OpenCV's filter takes planes of 8 bits; one thread of this one processor.\n");
 }
 
 static Rows measure_all(bool quick) {
+    using Sizes = std::vector<std::pair<int, int>>;
     Rows rows;
-    for (bool noisy : {false, true})
-        for (auto [width, height] : {std::pair{512, 512}, {1024, 256}, {640, 400}})
+    for (Picture picture : {ICE, NOISE, BROAD, NARROW})
+        for (auto [width, height] : is_strips(picture) ? Sizes{{512, 256}} : Sizes{{512, 512}, {1024, 256}, {640, 400}})
             for (int levels : {256, 1024})
                 for (int radius : {3, 7, 15}) {
                     if (quick && (width == 640 || levels == 1024)) continue;
-                    rows.push_back(measure(noisy, {width, height, levels, 256, GUIDED, radius, 64}));
+                    rows.push_back(measure(picture, {width, height, levels, 256, GUIDED, radius, 64}));
                     print_row(rows.back());
                 }
     return rows;
@@ -147,6 +178,7 @@ int main(int count, char **words) {
     print_head();
     Rows rows = measure_all(quick);
     print_ratios(rows);
+    print_beside(rows);
     print_growth(rows);
     print_all_sideways();
     print_full_frames(rows);

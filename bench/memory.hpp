@@ -42,19 +42,21 @@ inline void print_stack(const char *what, void (*call)(Library &)) {
 }
 
 inline void print_stores(int levels, int radius) {
-    auto kilobytes = [](size_t numbers, size_t size) { return double(numbers * size) / 1024; };
-    double counts = kilobytes(ICEMEDIAN_COUNTS_LENGTH(levels, 256), sizeof(uint16_t));
-    double joint = counts + kilobytes(ICEMEDIAN_WORDS_LENGTH(levels, 256), sizeof(uint64_t));
-    double columns = kilobytes(ICEMEDIAN_COLUMNS_LENGTH(1024, levels), sizeof(uint32_t));
-    double chain = kilobytes(ICEMEDIAN_CHAIN_LENGTH(radius), sizeof(uint32_t));
-    std::printf("| stores, L %d, r %d | %.0f | %.0f | %.0f | %.0f | %.1f |\n", levels, radius, joint, joint, joint, columns, chain);
+    std::printf("| stores, L %d, r %d |", levels, radius);
+    for (int c = 0; c < CONTESTS; c++) {
+        Library library(Contest(c), Frame({1024, 1, levels, 256, kind_of(c), radius, 64}));
+        std::printf(" %.1f |", double(library.store_bytes()) / 1024);
+    }
+    std::printf("\n");
 }
 
 // Frame and output, which are the caller's own, come on top; nothing else does.
 inline void print_memory() {
     std::printf("\n## Memory, kilobytes, 1024 columns and 256 guides\n\n| |");
     for (const char *name : NAMES) std::printf(" %s |", name);
-    std::printf("\n|---|---|---|---|---|---|\n");
+    std::printf("\n|---|");
+    for (int c = 0; c < CONTESTS; c++) std::printf("---|");
+    std::printf("\n");
     for (int levels : {256, 1024})
         for (int radius : {3, 7, 15}) print_stores(levels, radius);
     print_stack("filter", [](Library &library) { library.filter(); });

@@ -36,15 +36,14 @@ int main() {
                 "OpenCV weighs with floating point numbers. Frames of 160x120, 256 levels and guides.\n\n"
                 "| frame | r | weights 1 / (16 + d) | at most so many levels | all weights 1 |\n|---|---|---|---|---|\n",
                 CV_VERSION);
-    for (bool noisy : {false, true})
+    for (Picture picture : {ICE, NOISE})
         for (int radius : {3, 7, 15}) {
-            Settings settings{160, 120, 256, 256, TABLE, radius, 0};
-            Frame frame = noisy ? noise(settings) : ice(settings);
+            Frame frame = drawn(picture, {160, 120, 256, 256, TABLE, radius, 0});
             auto [rounded, most] = differences(frame, cv::ximgproc::WMF_IV1);
             std::fill(frame.table.begin(), frame.table.end(), uint16_t(1));
             int ones = differences(frame, cv::ximgproc::WMF_OFF).first;
             same = same && ones == 0;
-            std::printf("| %s | %d | %d of %zu | %d | %d |\n", noisy ? "noise" : "ice", radius, rounded, frame.pixels(), most,
+            std::printf("| %s | %d | %d of %zu | %d | %d |\n", PICTURE_NAMES[picture], radius, rounded, frame.pixels(), most,
                         ones);
         }
     return same ? 0 : 1;

@@ -1,4 +1,4 @@
-// Holds the yardstick's three ways against its sorting filter on random frames and walks of both kinds:
+// Holds the yardstick's four ways against its sorting filter on random frames and walks of both kinds:
 // answers, shift counts and stores. Prints how many windows were hollow, negative, not steady and heavy.
 #include "yardstick.hpp"
 #include <cstdio>
@@ -20,7 +20,7 @@ static void compare(const char *what, int frame, const Walk &way, const Walk &de
 }
 
 // The stores after a walk that ends at (column, row), counted anew from the frame.
-static bool holds(const Joint &joint, const Frame &frame, int column, int row) {
+template <bool BY_BLOCKS> static bool holds(const JointStore<BY_BLOCKS> &joint, const Frame &frame, int column, int row) {
     std::vector<uint16_t> counts(joint.counts.size());
     std::vector<uint64_t> words(joint.words.size());
     std::vector<int16_t> box(256);
@@ -30,7 +30,17 @@ static bool holds(const Joint &joint, const Frame &frame, int column, int row) {
         words[level * joint.words_per_level + g / 64] |= uint64_t(1) << (g % 64);
         box[g] = int16_t(box[g] + (int(level) <= joint.cut ? 1 : -1));
     });
-    return counts == joint.counts && words == joint.words && std::equal(box.begin(), box.end(), joint.box);
+    bool boxed = !(BY_BLOCKS && joint.guided);
+    return counts == joint.counts && words == joint.words && (!boxed || std::equal(box.begin(), box.end(), joint.box));
+}
+
+static bool holds(Coarse &coarse, const Frame &frame, int column, int row) {
+    Sorting sorting(frame);
+    sorting.answer(column, row);
+    std::vector<int64_t> summary(coarse.summary.size());
+    for (auto &pixel : sorting.pixels) summary[pixel.level / BLOCK] += pixel.weight;
+    coarse.summarise();
+    return summary == coarse.summary && holds<true>(coarse, frame, column, row);
 }
 
 static bool holds(const Columns &columns, const Frame &frame, int column, int row) {
@@ -110,11 +120,11 @@ static Frame random_frame(Random &random, int number) {
     return frame;
 }
 
-template <class Way>
+template <class Way, auto ADDED = by_cut>
 static void validate(const char *what, int number, const Frame &frame, int column, int row, const std::vector<uint8_t> &moves) {
     Sorting sorting(frame);
     Way way(frame);
-    compare(what, number, walk(way, frame, column, row, moves), walk(sorting, frame, column, row, moves));
+    compare(what, number, walk<ADDED>(way, frame, column, row, moves), walk<ADDED>(sorting, frame, column, row, moves));
     for (uint8_t move : moves) {
         int s = column + (move == RIGHT) - (move == LEFT), t = row + (move == DOWN) - (move == UP);
         if (s >= 0 && t >= 0 && s < frame.width && t < frame.height) column = s, row = t;
@@ -136,6 +146,7 @@ int main(int count, char **words) {
             for (int i = 0; i < 200; i++) moves.push_back(uint8_t(random.below(50) == 0 ? 7 : random.below(4)));
         }
         validate<Joint>("joint", number, frame, column, row, moves);
+        validate<Coarse, by_blocks>("coarse", number, frame, column, row, moves);
         if (frame.kind == TABLE) continue;
         validate<Columns>("columns", number, frame, column, row, moves);
         validate<Chain>("chain", number, frame, column, row, moves);

@@ -15,7 +15,7 @@ int main(void) {
                                       guide, W * H, NULL, 0, file, sizeof file, &length, &offset);
     if (status == 0)
         status = icemedian_filter(file, length, ICEMEDIAN_JOINT, counts, sizeof counts / sizeof *counts, words,
-                                  sizeof words / sizeof *words, NULL, 0, output, W * H, &shifts, &offset);
+                                  sizeof words / sizeof *words, NULL, 0, NULL, 0, output, W * H, &shifts, &offset);
     if (status != 0)
         return fprintf(stderr, "refused %u\n", (unsigned)status), 1;
     printf("%u %u %u, shifts %llu\n", output[0], output[1], output[2], (unsigned long long)shifts);

@@ -123,6 +123,34 @@ def shaped_cases():
     ]
 
 
+def block_cases():
+    """Levels in several blocks of 16, the last one short; the coarse way sums each block's weights."""
+    def table_row(values, guide, radius, table, levels=40):
+        return row(values, guide, levels, 2, TABLE, radius, 0, table)
+
+    centre_row = table_row([2, 39, 17, 20], [0, 1, 0, 1], 1, [1, 2, 0, 1])
+    blocks = table_row([33, 2, 39, 17], [0, 1, 1, 0], 1, [1, 2, 0, 3])
+    # B with its levels apart: the pixel of negative weight has a block of its own.
+    apart = row([17, 34, 37, 35, 3], [7, 7, 15, 7, 0], 40, 16, GUIDED, 2, 1)
+    # A hollow window between two others.
+    between = table_row([20, 35, 31], [0, 1, 0], 0, [1, 0, 0, 0])
+    # First and last levels of blocks, and empty blocks between them.
+    ends = [15, 16, 31, 32, 0, 96, 79, 80]
+    return [
+        ("block_rows", centre_row, 0, 0, "000"),
+        ("blocks", blocks, 0, 0, "000"),
+        ("blocks_back", blocks, 3, 0, "1912"),
+        ("blocks_apart", apart, 0, 0, "0000"),
+        ("blocks_apart_end", apart, 0, 0, "00"),
+        ("block_hollow", between, 0, 0, "00"),
+        ("block_hollow_end", between, 0, 0, "0"),
+        ("block_ends_table", table_row(ends, [0, 1, 1, 0, 0, 1, 0, 1], 1, [3, 1, 2, 5], 97), 0, 0, "0000000"),
+        ("block_ends_table_back", table_row(ends, [0, 1, 1, 0, 0, 1, 0, 1], 0, [3, 1, 2, 5], 97), 7, 0, "1111111"),
+        ("block_ends_guided", row(ends, [0, 7, 3, 3, 0, 3, 3, 7], 97, 8, GUIDED, 1, 1), 0, 0, "0000000"),
+        ("block_ends_guided_back", row(ends, [0, 7, 3, 3, 0, 3, 3, 7], 97, 8, GUIDED, 2, 1), 7, 0, "1111111"),
+    ]
+
+
 def every_start_cases():
     """One 3 by 3 frame from each of its pixels, turning once through all four directions."""
     nine = frame(3, 3, 16, 8, GUIDED, 1, 2, [4, 13, 2, 9, 0, 15, 7, 7, 11], [1, 0, 7, 0, 6, 0, 2, 0, 3])
@@ -151,7 +179,7 @@ def random_case(number):
 
 
 def main():
-    cases = bench_cases() + shaped_cases() + every_start_cases()
+    cases = bench_cases() + shaped_cases() + block_cases() + every_start_cases()
     cases += [random_case(number) for number in range(1, 13)]
     beside = os.path.join(os.path.dirname(os.path.abspath(__file__)), "cases.txt")
     path = sys.argv[1] if len(sys.argv) > 1 else beside

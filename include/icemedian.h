@@ -19,10 +19,10 @@
  *   7       a value >= level count or a guide >= guide count, searched in that order; `offset` is the byte
  *           offset of the first such number's high byte in the file, for icemedian_write the one that it
  *           would have. A weight may be any 16-bit number
- *   8       the way is not 1 to 3, or does not serve the kind (ways 2 and 3 serve kind 2 only)
+ *   8       the way is not 1 to 4, or does not serve the kind (ways 2 and 3 serve kind 2 only)
  *   9       the pixel is outside the picture, or the level of a balance outside the levels
  *   10      over 1,048,576 moves
- *   11      a store, the answers or the output is too short
+ *   11      a store that the way uses, the answers or the output is too short
  *
  * A refused call changes nothing that it was lent, buffer or result, but for `offset` with 7. A call that
  * is not refused writes all its results but `offset`: that is written with 7 and never else.
@@ -49,9 +49,10 @@
  * where something is added; while MAJOR is 0, MINOR rises for either.
  * 0.2: way, level and the settings of icemedian_write are 32 bits wide; a refused call leaves its results
  * as they were, and `offset` is written with 7 only.
- * 0.3: a weight may be any 16-bit number, 0 to 65,535; icemedian_check and icemedian_write refuse none. */
+ * 0.3: a weight may be any 16-bit number, 0 to 65,535; icemedian_check and icemedian_write refuse none.
+ * 0.4: way 4, coarse; icemedian_filter and icemedian_walk take its summary, a store behind `numbers`. */
 #define ICEMEDIAN_VERSION_MAJOR 0
-#define ICEMEDIAN_VERSION_MINOR 3
+#define ICEMEDIAN_VERSION_MINOR 4
 
 #ifdef __cplusplus
 #define ICEMEDIAN_SIZE(number) static_cast<size_t>(number)
@@ -60,8 +61,11 @@ extern "C" {
 #define ICEMEDIAN_SIZE(number) ((size_t)(number))
 #endif
 
-/* Ways of counting: all give the same answers and the same shift count. */
-enum { ICEMEDIAN_JOINT = 1, ICEMEDIAN_COLUMNS = 2, ICEMEDIAN_CHAIN = 3 };
+/* Ways of counting: all give the same answers. Ways 1 to 3 give the same shift count too. Way 4, made for
+ * many levels, counts by a rule of its own: a window with answer m adds m / 16 (rounded down) plus m mod 16,
+ * but m where kind 2's weight formula is negative for guide 0 or for the last guide, and 0 where the
+ * window's weights sum to 0. */
+enum { ICEMEDIAN_JOINT = 1, ICEMEDIAN_COLUMNS = 2, ICEMEDIAN_CHAIN = 3, ICEMEDIAN_COARSE = 4 };
 
 /* Kinds of weights: from a table (or built in), or from the guide by equation 22 of source 000. */
 enum { ICEMEDIAN_TABLE = 1, ICEMEDIAN_GUIDED = 2 };
@@ -73,12 +77,14 @@ enum { ICEMEDIAN_UNKNOWN_MOVE = 65533, ICEMEDIAN_OFF_PICTURE = 65534 };
 /* A new frame's radius and smoothing, in kind 2, where nothing else is asked for. */
 enum { ICEMEDIAN_DEFAULT_RADIUS = 7, ICEMEDIAN_DEFAULT_SMOOTHING = 64 };
 
-/* Needed lengths, in elements. Way 1 needs counts and words, ways 2 and 3 need numbers. */
+/* Needed lengths, in elements. Way 1 needs counts and words, ways 2 and 3 need numbers, way 4 needs counts,
+ * words and a summary: a number for each block of 16 levels, of which the last may be short. */
 #define ICEMEDIAN_COUNTS_LENGTH(levels, guides) (ICEMEDIAN_SIZE(levels) * ICEMEDIAN_SIZE(guides))
 #define ICEMEDIAN_WORDS_LENGTH(levels, guides) (ICEMEDIAN_SIZE(levels) * ((ICEMEDIAN_SIZE(guides) + 63) / 64))
 #define ICEMEDIAN_COLUMNS_LENGTH(width, levels) (2 * (ICEMEDIAN_SIZE(width) + 1) * ICEMEDIAN_SIZE(levels))
 #define ICEMEDIAN_CHAIN_LENGTH(radius) \
     (1 + 4 * (2 * ICEMEDIAN_SIZE(radius) + 1) * (2 * ICEMEDIAN_SIZE(radius) + 1))
+#define ICEMEDIAN_SUMMARY_LENGTH(levels) ((ICEMEDIAN_SIZE(levels) + 15) / 16)
 #define ICEMEDIAN_ANSWERS_LENGTH(moves) (ICEMEDIAN_SIZE(moves) + 1)
 #define ICEMEDIAN_OUTPUT_LENGTH(width, height) (ICEMEDIAN_SIZE(width) * ICEMEDIAN_SIZE(height))
 #define ICEMEDIAN_FILE_LENGTH(width, height, table_weights) \
@@ -103,23 +109,27 @@ enum { ICEMEDIAN_DEFAULT_RADIUS = 7, ICEMEDIAN_DEFAULT_SMOOTHING = 64 };
 uint32_t icemedian_check(const uint8_t *file, size_t file_length, uint64_t *offset);
 
 /* Filters a frame: checks 1 to 8 and 11. `output` gets a level for each pixel, row by row from the top
- * left; `shifts` the sum of level distances that the cut point travelled along the serpentine. */
+ * left; `shifts` the sum of level distances that the cut point travelled along the serpentine, or way 4's
+ * own count. The way's stores hold the serpentine's last window, as after a walk. */
 uint32_t icemedian_filter(const uint8_t *file, size_t file_length, uint32_t way,
                           uint16_t *counts, size_t counts_length,
                           uint64_t *words, size_t words_length,
                           uint32_t *numbers, size_t numbers_length,
+                          int64_t *summary, size_t summary_length,
                           uint16_t *output, size_t output_length,
                           uint64_t *shifts, uint64_t *offset);
 
 /* Walks from a pixel along a list of moves: checks 1 to 11. `answers` gets the start's answer and then
- * one for each move byte. The way's stores hold the last window; `cut` is the cut point there and
- * `balance_box`, of 256 cells, way 1's balance at it (zeros for the other ways). */
+ * one for each move byte. The way's stores hold the last window: way 4's counts and words as way 1's, and
+ * `summary` the weight sum of each block. `cut` is the cut point there and `balance_box`, of 256 cells,
+ * way 1's balance at it (zeros for the other ways). */
 uint32_t icemedian_walk(const uint8_t *file, size_t file_length, uint32_t way,
                         size_t column, size_t row,
                         const uint8_t *moves, size_t moves_length,
                         uint16_t *counts, size_t counts_length,
                         uint64_t *words, size_t words_length,
                         uint32_t *numbers, size_t numbers_length,
+                        int64_t *summary, size_t summary_length,
                         uint16_t *answers, size_t answers_length,
                         uint64_t *shifts, uint16_t *cut, int16_t *balance_box, uint64_t *offset);
 

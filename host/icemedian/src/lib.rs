@@ -51,7 +51,7 @@ pub struct Filtered {
     pub settings: Settings,
     /// A level for each pixel, row by row from the top left.
     pub levels: Vec<u16>,
-    /// How far the cut point travelled, in levels.
+    /// How far the cut point travelled, in levels; for [`Way::Coarse`] its own count.
     pub shifts: u64,
 }
 
@@ -68,7 +68,7 @@ pub struct Walked {
 /// What a walk says beside its answers and stores.
 #[derive(Clone, Debug, PartialEq, Eq)]
 pub struct WalkEnd {
-    /// How far the cut point travelled, in levels.
+    /// How far the cut point travelled, in levels; for [`Way::Coarse`] its own count.
     pub shifts: u64,
     /// The cut point after the last window.
     pub cut: u16,
@@ -140,6 +140,10 @@ pub fn filter_into(file: &[u8], way: Way, stores: &mut Stores, output: &mut [u16
 /// assert_eq!((walked.end.shifts, walked.end.cut), (3, 3));
 /// // The last window has a pixel of level 3 and guide 2.
 /// assert_eq!(walked.stores.counts[3 * 4 + 2], 1);
+/// // Its pixels weigh 21, 21 and 9, all in the first block of 16 levels.
+/// let coarse = walk(&file, Way::Coarse, (0, 0), &[RIGHT, DOWN, RIGHT, LEFT])?;
+/// assert_eq!(coarse.answers, walked.answers);
+/// assert_eq!((coarse.end.shifts, coarse.stores.summary), (10, vec![51]));
 /// # Ok::<(), icemedian::Refusal>(())
 /// ```
 pub fn walk(file: &[u8], way: Way, start: (usize, usize), moves: &[u8]) -> Result<Walked, Refusal> {

@@ -124,7 +124,8 @@ impl Default for Settings {
     }
 }
 
-/// How a window's pixels are counted. All ways give the same answers and the same shift count.
+/// How a window's pixels are counted. All ways give the same answers. [`Way::Joint`], [`Way::Columns`] and
+/// [`Way::Chain`] give the same shift count too; [`Way::Coarse`] has a count of its own.
 #[derive(Clone, Copy, Debug, PartialEq, Eq)]
 pub enum Way {
     /// A joint histogram of levels and guides; serves both kinds.
@@ -133,11 +134,15 @@ pub enum Way {
     Columns = 2,
     /// A chain of the window's levels; serves kind 2.
     Chain = 3,
+    /// The joint histogram searched by blocks of 16 levels, for many levels; serves both kinds. A window with
+    /// answer m adds m / 16 (rounded down) plus m mod 16 to the shift count, but m where the weight formula is
+    /// negative for guide 0 or for the last guide, and 0 where the window's weights sum to 0.
+    Coarse = 4,
 }
 
 impl Way {
     /// Whether the way serves frames with such weights.
     pub fn serves(self, weights: Weights) -> bool {
-        self == Way::Joint || weights != Weights::Table
+        matches!(self, Way::Joint | Way::Coarse) || weights != Weights::Table
     }
 }

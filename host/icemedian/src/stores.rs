@@ -6,12 +6,14 @@ use crate::{Refusal, Settings, Way};
 /// The stores that a call counts in. One record may serve many calls; it grows as needed.
 #[derive(Clone, Debug, Default, PartialEq, Eq)]
 pub struct Stores {
-    /// Way 1: pixels per level and guide.
+    /// Ways 1 and 4: pixels per level and guide.
     pub counts: Vec<u16>,
-    /// Way 1: occupied guides per level, 64 to a word.
+    /// Ways 1 and 4: occupied guides per level, 64 to a word.
     pub words: Vec<u64>,
     /// Ways 2 and 3.
     pub numbers: Vec<u32>,
+    /// Way 4: the sum of weights of each block of 16 levels, of which the last may be short.
+    pub summary: Vec<i64>,
 }
 
 impl Stores {
@@ -24,6 +26,7 @@ impl Stores {
     /// let settings = Settings { width: 640, height: 400, levels: 256, guides: 256, ..Settings::default() };
     /// let stores = Stores::fitting(Way::Columns, &settings)?;
     /// assert_eq!(stores.numbers.len(), 2 * 641 * 256);
+    /// assert_eq!(Stores::fitting(Way::Coarse, &settings)?.summary.len(), 256 / 16);
     /// let endless = Settings { levels: 65_535, ..settings };
     /// assert_eq!(Stores::fitting(Way::Columns, &endless), Err(Refusal::Counts));
     /// let table = Settings { weights: Weights::Table, ..settings };
@@ -47,9 +50,12 @@ impl Stores {
         let guides = usize::from(settings.guides);
         let side = 2 * usize::from(settings.radius) + 1;
         match way {
-            Way::Joint => {
+            Way::Joint | Way::Coarse => {
                 lengthen(&mut self.counts, levels * guides);
                 lengthen(&mut self.words, levels * guides.div_ceil(64));
+                if way == Way::Coarse {
+                    lengthen(&mut self.summary, levels.div_ceil(16));
+                }
             }
             Way::Columns => lengthen(&mut self.numbers, 2 * (usize::from(settings.width) + 1) * levels),
             Way::Chain => lengthen(&mut self.numbers, 1 + 4 * side * side),
@@ -59,7 +65,13 @@ impl Stores {
 
     /// The stores with an answer buffer, for one call.
     pub(crate) fn lent<'a>(&'a mut self, answers: &'a mut [u16]) -> Lent<'a> {
-        Lent { counts: &mut self.counts, words: &mut self.words, numbers: &mut self.numbers, answers }
+        Lent {
+            counts: &mut self.counts,
+            words: &mut self.words,
+            numbers: &mut self.numbers,
+            summary: &mut self.summary,
+            answers,
+        }
     }
 }
 

@@ -1,12 +1,12 @@
 /* What the header promises a C program: NULL where a length is 0, numbers that are too wide refused and not
- * cut down, results left alone by refusals, what is read may overlap, a weight may be any number, and the
- * macros. It prints each promise that is not kept. */
+ * cut down, results left alone by refusals, what is read may overlap, a weight may be any number, way 4's
+ * count and summary, and the macros. It prints each promise that is not kept. */
 #include "icemedian.h"
 #include <stdio.h>
 #include <string.h>
 
 enum { W = 3, H = 1, PIXELS = W * H, LEVELS = 8, GUIDES = 4, RADIUS = 1, SMOOTHING = 1 };
-enum { COUNTS = LEVELS * GUIDES, WORDS = LEVELS, NUMBERS = 2 * (W + 1) * LEVELS, FILE_BYTES = 40 };
+enum { COUNTS = LEVELS * GUIDES, WORDS = LEVELS, NUMBERS = 2 * (W + 1) * LEVELS, BLOCKS = 1, FILE_BYTES = 40 };
 
 static const uint16_t values[PIXELS] = {5, 1, 3}, guide[PIXELS] = {0, 0, 2};
 static const uint8_t moves[2] = {ICEMEDIAN_RIGHT, ICEMEDIAN_DOWN};
@@ -14,6 +14,7 @@ static uint8_t file[FILE_BYTES];
 static uint16_t counts[COUNTS], levels[PIXELS];
 static uint64_t words[WORDS];
 static uint32_t numbers[NUMBERS];
+static int64_t summary[BLOCKS];
 static int failures;
 
 /* All results of a call, full of one byte before it. */
@@ -42,16 +43,16 @@ static void expect_status(const char *what, uint32_t got, uint32_t wanted) {
 }
 
 /* Calls with buffers of these lengths: NULL where a length is 0. */
-static uint32_t filter(size_t file_length, uint32_t way, size_t c, size_t w, size_t n, size_t output_length) {
+static uint32_t filter(size_t file_length, uint32_t way, size_t c, size_t w, size_t n, size_t s, size_t output_length) {
     return icemedian_filter(file_length ? file : NULL, file_length, way, c ? counts : NULL, c, w ? words : NULL, w,
-                            n ? numbers : NULL, n, output_length ? levels : NULL, output_length, &result.shifts,
-                            &result.offset);
+                            n ? numbers : NULL, n, s ? summary : NULL, s, output_length ? levels : NULL, output_length,
+                            &result.shifts, &result.offset);
 }
 
-static uint32_t walk(size_t file_length, uint32_t way, size_t moves_length, size_t c, size_t w, size_t n,
+static uint32_t walk(size_t file_length, uint32_t way, size_t moves_length, size_t c, size_t w, size_t n, size_t s,
                      size_t answers_length) {
     return icemedian_walk(file_length ? file : NULL, file_length, way, 0, 0, moves_length ? moves : NULL, moves_length,
-                          c ? counts : NULL, c, w ? words : NULL, w, n ? numbers : NULL, n,
+                          c ? counts : NULL, c, w ? words : NULL, w, n ? numbers : NULL, n, s ? summary : NULL, s,
                           answers_length ? levels : NULL, answers_length, &result.shifts, &result.cut, result.box,
                           &result.offset);
 }
@@ -81,22 +82,25 @@ static uint32_t write_ints(int width, int height, int level_count, int guide_cou
 
 static void test_null(void) {
     expect_status("check, no file", icemedian_check(NULL, 0, &result.offset), 1);
-    expect_status("filter, no file", filter(0, 1, COUNTS, WORDS, 0, PIXELS), 1);
-    expect_status("walk, no file", walk(0, 1, 2, COUNTS, WORDS, 0, 3), 1);
+    expect_status("filter, no file", filter(0, 1, COUNTS, WORDS, 0, 0, PIXELS), 1);
+    expect_status("walk, no file", walk(0, 1, 2, COUNTS, WORDS, 0, 0, 3), 1);
     expect_status("balance, no file", balance(0, 0), 1);
-    expect_status("filter, no counts", filter(FILE_BYTES, 1, 0, WORDS, 0, PIXELS), 11);
-    expect_status("filter, no words", filter(FILE_BYTES, 1, COUNTS, 0, 0, PIXELS), 11);
-    expect_status("filter, no numbers", filter(FILE_BYTES, 2, 0, 0, 0, PIXELS), 11);
-    expect_status("filter, no output", filter(FILE_BYTES, 1, COUNTS, WORDS, 0, 0), 11);
-    expect_status("filter, no store that way 1 needs not", filter(FILE_BYTES, 1, COUNTS, WORDS, 0, PIXELS), 0);
-    expect_status("filter, no store that way 2 needs not", filter(FILE_BYTES, 2, 0, 0, NUMBERS, PIXELS), 0);
-    expect_status("filter, no store that way 3 needs not", filter(FILE_BYTES, 3, 0, 0, NUMBERS, PIXELS), 0);
-    expect_status("walk, no counts", walk(FILE_BYTES, 1, 2, 0, WORDS, 0, 3), 11);
-    expect_status("walk, no words", walk(FILE_BYTES, 1, 2, COUNTS, 0, 0, 3), 11);
-    expect_status("walk, no numbers", walk(FILE_BYTES, 3, 2, 0, 0, 0, 3), 11);
-    expect_status("walk, no answers", walk(FILE_BYTES, 1, 2, COUNTS, WORDS, 0, 0), 11);
-    expect_status("walk, no moves and no answers", walk(FILE_BYTES, 1, 0, COUNTS, WORDS, 0, 0), 11);
-    expect_status("walk, no moves", walk(FILE_BYTES, 1, 0, COUNTS, WORDS, 0, 1), 0);
+    expect_status("filter, no counts", filter(FILE_BYTES, 1, 0, WORDS, 0, 0, PIXELS), 11);
+    expect_status("filter, no words", filter(FILE_BYTES, 1, COUNTS, 0, 0, 0, PIXELS), 11);
+    expect_status("filter, no numbers", filter(FILE_BYTES, 2, 0, 0, 0, 0, PIXELS), 11);
+    expect_status("filter, no summary", filter(FILE_BYTES, 4, COUNTS, WORDS, 0, 0, PIXELS), 11);
+    expect_status("filter, no output", filter(FILE_BYTES, 1, COUNTS, WORDS, 0, 0, 0), 11);
+    expect_status("filter, no store that way 1 needs not", filter(FILE_BYTES, 1, COUNTS, WORDS, 0, 0, PIXELS), 0);
+    expect_status("filter, no store that way 2 needs not", filter(FILE_BYTES, 2, 0, 0, NUMBERS, 0, PIXELS), 0);
+    expect_status("filter, no store that way 3 needs not", filter(FILE_BYTES, 3, 0, 0, NUMBERS, 0, PIXELS), 0);
+    expect_status("filter, no store that way 4 needs not", filter(FILE_BYTES, 4, COUNTS, WORDS, 0, BLOCKS, PIXELS), 0);
+    expect_status("walk, no counts", walk(FILE_BYTES, 1, 2, 0, WORDS, 0, 0, 3), 11);
+    expect_status("walk, no words", walk(FILE_BYTES, 1, 2, COUNTS, 0, 0, 0, 3), 11);
+    expect_status("walk, no numbers", walk(FILE_BYTES, 3, 2, 0, 0, 0, 0, 3), 11);
+    expect_status("walk, no summary", walk(FILE_BYTES, 4, 2, COUNTS, WORDS, 0, 0, 3), 11);
+    expect_status("walk, no answers", walk(FILE_BYTES, 1, 2, COUNTS, WORDS, 0, 0, 0), 11);
+    expect_status("walk, no moves and no answers", walk(FILE_BYTES, 1, 0, COUNTS, WORDS, 0, 0, 0), 11);
+    expect_status("walk, no moves", walk(FILE_BYTES, 1, 0, COUNTS, WORDS, 0, 0, 1), 0);
     expect("its answer", levels[0], 1);
     expect_status("write, no values", write_parts(0, PIXELS, FILE_BYTES), 6);
     expect_status("write, no guide", write_parts(PIXELS, 0, FILE_BYTES), 6);
@@ -112,8 +116,8 @@ static void test_overlap(void) {
     expect_status("write, one plane for all parts", status, 0);
     expect_status("check of it", icemedian_check(output, sizeof output, &result.offset), 0);
     /* The file's first bytes are 0, right, and 5, no move. */
-    status = icemedian_walk(file, FILE_BYTES, ICEMEDIAN_JOINT, 0, 0, file, 2, counts, COUNTS, words, WORDS, NULL, 0, levels,
-                            PIXELS, &result.shifts, &result.cut, result.box, &result.offset);
+    status = icemedian_walk(file, FILE_BYTES, ICEMEDIAN_JOINT, 0, 0, file, 2, counts, COUNTS, words, WORDS, NULL, 0,
+                            NULL, 0, levels, PIXELS, &result.shifts, &result.cut, result.box, &result.offset);
     expect_status("walk, moves within the file", status, 0);
     expect("its second answer", levels[1], 3);
     expect("its third answer", levels[2], ICEMEDIAN_UNKNOWN_MOVE);
@@ -127,8 +131,8 @@ static void test_weights(void) {
                                       4, output, sizeof output, &result.length, &result.offset);
     expect_status("write, heavy table", status, 0);
     expect_status("check of it", icemedian_check(output, sizeof output, &result.offset), 0);
-    status = icemedian_filter(output, sizeof output, ICEMEDIAN_JOINT, counts, COUNTS, words, WORDS, NULL, 0, levels,
-                              PIXELS, &result.shifts, &result.offset);
+    status = icemedian_filter(output, sizeof output, ICEMEDIAN_JOINT, counts, COUNTS, words, WORDS, NULL, 0, NULL,
+                              0, levels, PIXELS, &result.shifts, &result.offset);
     expect("its shifts are 7", result.shifts == 7, 1);
     expect_status("filter of it", status, 0);
     expect("its first level", levels[0], 1);
@@ -139,9 +143,24 @@ static void test_weights(void) {
     expect_status("balance of it", status, 0);
 }
 
+/* Way 4: its count is not the cut's, and its summary is of the last window. */
+static void test_coarse(void) {
+    static int16_t no_box[ICEMEDIAN_BOX_LENGTH];
+    uint32_t status = filter(FILE_BYTES, ICEMEDIAN_COARSE, COUNTS, WORDS, 0, BLOCKS, PIXELS);
+    expect("its shifts are 7", result.shifts == 7, 1);
+    expect_status("filter by way 4", status, 0);
+    status = walk(FILE_BYTES, ICEMEDIAN_COARSE, 1, COUNTS, WORDS, 0, BLOCKS, 2);
+    expect("its shifts are 4", result.shifts == 4, 1);
+    expect("its cut", result.cut, 3);
+    expect("its box is zeros", memcmp(result.box, no_box, sizeof no_box) == 0, 1);
+    expect("its summary is 51", summary[0] == 51, 1);
+    expect_status("walk by way 4", status, 0);
+    expect_status("filter by way 5", filter(FILE_BYTES, 5, COUNTS, WORDS, NUMBERS, BLOCKS, PIXELS), 8);
+}
+
 static void test_wide(void) {
-    expect_status("filter, way 257", filter(FILE_BYTES, 257, COUNTS, WORDS, NUMBERS, PIXELS), 8);
-    expect_status("walk, way 257", walk(FILE_BYTES, 257, 2, COUNTS, WORDS, NUMBERS, 3), 8);
+    expect_status("filter, way 257", filter(FILE_BYTES, 257, COUNTS, WORDS, NUMBERS, BLOCKS, PIXELS), 8);
+    expect_status("walk, way 257", walk(FILE_BYTES, 257, 2, COUNTS, WORDS, NUMBERS, BLOCKS, 3), 8);
     expect_status("balance, level 65537", balance(FILE_BYTES, 65537), 9);
     expect_status("write, width 65539", write_ints(65539, H, LEVELS, GUIDES, 2, RADIUS, SMOOTHING), 2);
     expect_status("write, width -1", write_ints(-1, H, LEVELS, GUIDES, 2, RADIUS, SMOOTHING), 2);
@@ -156,7 +175,7 @@ static void test_wide(void) {
 
 static void test_macros(void) {
     expect("version, major", ICEMEDIAN_VERSION_MAJOR, 0);
-    expect("version, minor", ICEMEDIAN_VERSION_MINOR, 3);
+    expect("version, minor", ICEMEDIAN_VERSION_MINOR, 4);
     expect("width", ICEMEDIAN_WIDTH(file, FILE_BYTES), W);
     expect("height", ICEMEDIAN_HEIGHT(file, FILE_BYTES), H);
     expect("levels", ICEMEDIAN_LEVELS(file, FILE_BYTES), LEVELS);
@@ -168,6 +187,9 @@ static void test_macros(void) {
     expect("words", ICEMEDIAN_WORDS_LENGTH(LEVELS, 65), LEVELS * 2);
     expect("columns", ICEMEDIAN_COLUMNS_LENGTH(W, LEVELS), NUMBERS);
     expect("chain", ICEMEDIAN_CHAIN_LENGTH(RADIUS), 1 + 4 * 9);
+    expect("summary", ICEMEDIAN_SUMMARY_LENGTH(LEVELS), BLOCKS);
+    expect("summary, whole blocks", ICEMEDIAN_SUMMARY_LENGTH(1024), 64);
+    expect("summary, a short block", ICEMEDIAN_SUMMARY_LENGTH(33), 3);
     expect("answers", ICEMEDIAN_ANSWERS_LENGTH(2), 3);
     expect("output", ICEMEDIAN_OUTPUT_LENGTH(W, H), PIXELS);
     expect("file", ICEMEDIAN_FILE_LENGTH(W, H, 0), FILE_BYTES);
@@ -183,6 +205,7 @@ int main(void) {
     test_null();
     test_overlap();
     test_weights();
+    test_coarse();
     test_wide();
     test_macros();
     return failures != 0;

@@ -17,7 +17,8 @@ For THERMAL or PICTURE - is standard input, for OUTPUT it is standard output.
   --radius N      pixels to each side of the window, 0 to 15 (default 7)
   --smoothing N   how much guide variance counts as flat, 1 to 65025 (default 64)
   --table         weigh by the built-in table of guide differences instead of equation 22
-  --way NAME      joint, columns or chain (default joint; --table needs joint); the result is the same
+  --way NAME      joint, columns, chain or coarse (default joint; --table needs joint or coarse); the
+                  result is the same, coarse may be faster with many levels
   -h, --help      this text
 ";
 
@@ -74,7 +75,8 @@ fn way(word: Option<OsString>) -> Result<Way, String> {
         Some("joint") => Ok(Way::Joint),
         Some("columns") => Ok(Way::Columns),
         Some("chain") => Ok(Way::Chain),
-        _ => Err("--way needs joint, columns or chain".to_string()),
+        Some("coarse") => Ok(Way::Coarse),
+        _ => Err("--way needs joint, columns, chain or coarse".to_string()),
     }
 }
 
@@ -108,7 +110,7 @@ pub fn read(mut words: impl Iterator<Item = OsString>) -> Result<Option<Options>
         (false, smoothing) => Weights::Guided { smoothing: smoothing.unwrap_or(Settings::SMOOTHING) },
     };
     if !chosen.serves(weights) {
-        return Err("--table needs --way joint".to_string());
+        return Err("--table needs --way joint or coarse".to_string());
     }
     Ok(Some(Options {
         thermal: Place::of(thermal, "standard input"),

@@ -67,9 +67,9 @@ fn b_files(thermal: impl AsRef<OsStr>, guide: impl AsRef<OsStr>) {
 #[test]
 fn document_01s_frame_as_pictures() {
     b_files("b.pgm", "b_guide.pgm");
-    for way in ["joint", "columns", "chain"] {
+    for (way, shifts) in [("joint", 6), ("columns", 6), ("chain", 6), ("coarse", 9)] {
         let words = [&["b.pgm", "b_guide.pgm", "b_out.pgm", "--way", way], B_OPTIONS.as_slice()].concat();
-        notes(&filter(&words));
+        assert!(notes(&filter(&words)).contains(&format!(", {shifts} shifts")), "{way}");
         assert_eq!(std::fs::read(place("b_out.pgm")).unwrap(), pgm(5, 1, &B_FILTERED));
     }
 }
@@ -136,11 +136,12 @@ fn wrong_options_are_named() {
     for word in ["0", "65026", "65537", "1.5"] {
         wrong(&["--smoothing", word], &format!("--smoothing needs a number from 1 to 65025, not {word}"));
     }
-    wrong(&["--way", "table"], "--way needs joint, columns or chain");
-    wrong(&["--table", "--way", "chain"], "--table needs --way joint");
+    wrong(&["--way", "table"], "--way needs joint, columns, chain or coarse");
+    wrong(&["--table", "--way", "chain"], "--table needs --way joint or coarse");
     wrong(&["--table", "--smoothing", "64"], "--table has no smoothing");
     wrong(&["--smoothing", "64", "--table"], "--table has no smoothing");
     notes(&filter(&[one, one, "options_out.pgm", "--table"]));
+    notes(&filter(&[one, one, "options_out.pgm", "--table", "--way", "coarse"]));
 }
 
 #[test]

@@ -1,4 +1,4 @@
-//! Document 01's bench windows A to H, its edges and its 40-byte frame, and two rows more.
+//! Document 01's bench windows A to H, its edges and its 40-byte frame, rows of the coarse way, and two rows more.
 
 use crate::calls;
 use crate::cases::bytes_of_hex;
@@ -6,8 +6,8 @@ use crate::frame::{built_in_weight, open, Asked, Frame, Settings, KIND_GUIDED, K
 use crate::program::printed;
 use crate::random::{accepted_file, Random};
 use crate::refusal::Refusal;
-use crate::store::{stores, ChainEntry, Lengths, Stores, Way};
-use crate::walk::{filter, walk};
+use crate::store::{stores, summary, ChainEntry, Lengths, Stores, Way, BLOCK_LEVELS};
+use crate::walk::{filter, walk, Walk};
 use crate::window::Window;
 use crate::writer::write;
 
@@ -102,7 +102,7 @@ fn h_walks_into_the_border() {
     let walk = walk(&frame_a(), 0, 0, &[0, 2, 0, 1]);
     assert_eq!(walk.answers, [1, 3, 65_534, 3, 3]);
     assert_eq!(walk.shifts, 3);
-    assert_eq!((walk.column, walk.row), (1, 0));
+    assert_eq!(walk.visited, [(0, 0), (1, 0), (2, 0), (1, 0)]);
 }
 
 #[test]
@@ -121,7 +121,9 @@ fn an_unknown_byte_moves_nothing() {
 #[test]
 fn the_program_prints_document_01s_text() {
     let file = bytes_of_hex(A).unwrap();
-    assert_eq!(printed(&file), "3 1\n1 3 3\njoint 3\ncolumns 3\nchain 3\n");
+    assert_eq!(printed(&file), "3 1\n1 3 3\njoint 3\ncolumns 3\nchain 3\ncoarse 7\n");
+    let kind_1 = write(&frame_c(1).settings.asked(), &[2, 6], &[0, 0], &[1; 4], usize::MAX).unwrap();
+    assert_eq!(printed(&kind_1), "2 1\n2 2\njoint 2\ncoarse 4\n");
     assert_eq!(printed(&[]), "refused 1\n");
     assert_eq!(printed(&[0; 16_385]), "refused 12\n");
     let bad_guide = [&file[..6], &[0, 9], &file[8..]].concat();
@@ -248,16 +250,81 @@ fn stores_of_a_after_its_walk() {
     assert_eq!(entries, [entry(1, 0), entry(3, 2), entry(5, 0)]);
 }
 
+/// The coarse way's answers, own count and summary after a walk from a pixel of the first row.
+fn coarse(frame: &Frame, column: usize, moves: &[u8]) -> (Vec<u16>, u64, Vec<i64>) {
+    coarse_end(frame, &walk(frame, column, 0, moves))
+}
+
+fn coarse_end(frame: &Frame, walk: &Walk) -> (Vec<u16>, u64, Vec<i64>) {
+    let Stores::Coarse { summary, .. } = stores(frame, Way::Coarse, walk) else { unreachable!() };
+    (walk.answers.clone(), walk.shifts_by(Way::Coarse), summary)
+}
+
+#[test]
+fn the_coarse_way_has_its_own_count_and_a_summary() {
+    assert_eq!(coarse(&frame_a(), 0, &[0, 2, 0, 1]), (vec![1, 3, 65_534, 3, 3], 10, vec![51]));
+    assert_eq!(coarse_end(&frame_a(), &filter(&frame_a()).1).1, 7);
+    // Two of B's windows are not steady.
+    assert_eq!(coarse(&frame_b(), 0, &[0; 4]), (vec![2, 2, 3, 3, 4], 14, vec![1041]));
+    assert_eq!(coarse(&frame_c(0), 0, &[0]), (vec![2, 6], 0, vec![0]));
+    // Three blocks, the last of 8 levels.
+    let row = |kind, radius, values: &[u16], guide: &[u16], guides, table: &[u16]| {
+        row(kind, 40, guides, radius, values, guide, table)
+    };
+    let centre_row = row(KIND_TABLE, 1, &[2, 39, 17, 20], &[0, 1, 0, 1], 2, &[1, 2, 0, 1]);
+    assert_eq!(filtered(&centre_row), (vec![39, 39, 20, 20], 58));
+    assert_eq!(coarse(&centre_row, 0, &[0; 3]), (vec![39, 39, 20, 20], 28, vec![0, 1, 0]));
+    let blocks = row(KIND_TABLE, 1, &[33, 2, 39, 17], &[0, 1, 1, 0], 2, &[1, 2, 0, 3]);
+    assert_eq!(coarse(&blocks, 0, &[0; 3]), (vec![2, 2, 2, 39], 15, vec![0, 1, 2]));
+    assert_eq!(coarse(&blocks, 3, &[1, 9, 1, 2]), (vec![39, 2, 65_533, 2, 65_534], 13, vec![3, 0, 3]));
+    // B with its levels apart: the pixel of negative weight has a block of its own.
+    let apart = row(KIND_GUIDED, 2, &[17, 34, 37, 35, 3], &[7, 7, 15, 7, 0], 16, &[]);
+    assert_eq!(coarse(&apart, 0, &[0; 2]), (vec![34, 34, 37], 45, vec![-815, 550, 3210]));
+    // A hollow window between two others.
+    let between = row(KIND_TABLE, 0, &[20, 35, 31], &[0, 1, 0], 2, &[1, 0, 0, 0]);
+    assert_eq!(coarse(&between, 0, &[0; 2]), (vec![20, 35, 31], 21, vec![0, 1, 0]));
+}
+
+#[test]
+fn the_first_block_that_reaches_half_holds_a_steady_answer() {
+    let mut random = Random::new(7);
+    let (mut steady, mut later) = (0, 0);
+    for _ in 0..600 {
+        let frame = open(&accepted_file(&mut random, 6)).unwrap();
+        let window = Window::at(&frame, 0, 0);
+        if window.hollow() || !window.steady {
+            continue;
+        }
+        let sums = summary(&frame, &window);
+        let ends = sums.iter().scan(0, |end, sum| {
+            *end += sum;
+            Some(*end)
+        });
+        let first = ends.take_while(|end| 2 * end < window.total()).count();
+        assert_eq!(usize::from(window.answer() / BLOCK_LEVELS), first);
+        steady += 1;
+        later += u32::from(first > 0);
+    }
+    assert!(steady > 100 && later > 100, "{steady} {later}");
+}
+
 #[test]
 fn calls_refuse_in_order() {
     let file = bytes_of_hex(A).unwrap();
-    let lent = Lengths { counts: 32, words: 8, numbers: 64, answers: 3 };
+    let lent = Lengths { counts: 32, words: 8, numbers: 64, summary: 1, answers: 3 };
     let refused =
         |way, start, moves: &[u8]| calls::walk(&file, way, start, moves, &lent).map(drop).map_err(|r| r.number);
     let long = vec![0; calls::MOVES_MOST + 1];
     assert_eq!(refused(1, (2, 0), &[0, 0]), Ok(()));
     assert_eq!(refused(0, (3, 0), &long), Err(8));
-    assert_eq!(refused(4, (0, 0), &[]), Err(8));
+    assert_eq!(refused(4, (0, 0), &[]), Ok(()));
+    assert_eq!(refused(5, (0, 0), &[]), Err(8));
+    let way_4 = |lent: Lengths| calls::filter(&file, 4, &lent).map(drop).map_err(|r| r.number);
+    assert_eq!(way_4(Lengths { numbers: 0, ..lent }), Ok(()));
+    assert_eq!(way_4(Lengths { summary: 0, ..lent }), Err(11));
+    assert_eq!(way_4(Lengths { counts: 31, ..lent }), Err(11));
+    assert_eq!(way_4(Lengths { words: 7, ..lent }), Err(11));
+    assert_eq!(calls::filter(&file, 1, &Lengths { summary: 0, ..lent }).map(drop), Ok(()));
     assert_eq!(refused(257, (3, 0), &[]), Err(8));
     assert_eq!(refused(1, (3, 0), &long), Err(9));
     assert_eq!(refused(1, (0, 1), &[]), Err(9));

@@ -25,10 +25,10 @@ impl Walked {
     fn of(frame: &Frame, way: Way, walk: &Walk, answers: Vec<u16>) -> Walked {
         let balance_box = match way {
             Way::Joint => balance_box(frame, walk),
-            Way::Columns | Way::Chain => [0; BOX_CELLS],
+            Way::Columns | Way::Chain | Way::Coarse => [0; BOX_CELLS],
         };
         let stores = stores(frame, way, walk);
-        Walked { answers, shifts: walk.shifts, cut: walk.cut, balance_box, stores }
+        Walked { answers, shifts: walk.shifts_by(way), cut: walk.cut, balance_box, stores }
     }
 }
 

@@ -53,7 +53,9 @@ impl Case {
     pub fn expected(&self) -> String {
         match self.walk() {
             Ok(walk) => {
-                format!("{}: {} | cut {} | shifts {}", self.name, spaced(&walk.answers), walk.cut, walk.shifts)
+                let Walk { answers, cut, shifts, coarse_shifts, .. } = walk;
+                let answers = spaced(&answers);
+                format!("{}: {answers} | cut {cut} | shifts {shifts} | coarse {coarse_shifts}", self.name)
             }
             Err(refusal) => format!("{}: {refusal}", self.name),
         }

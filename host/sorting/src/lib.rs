@@ -1,6 +1,6 @@
-//! Document 01's weighted median filter, with the weights of document 02's request 1, written from these
-//! documents and sharing no code with the proved library: every window is gathered anew, its pixels are
-//! sorted by level, and weights are added until they reach half of the whole.
+//! Document 01's weighted median filter, with the weights of document 02's request 1 and the coarse way of its
+//! request 2, written from these documents and sharing no code with the proved library: every window is gathered
+//! anew, its pixels are sorted by level, and weights are added until they reach half of the whole.
 //!
 //! It is slow on purpose. Nothing is carried from one window to the next, so a mistake in carrying
 //! a histogram, an occupancy word, a balance box or a cut point cannot be made here.
@@ -10,7 +10,7 @@
 //! | [`refusal`] | the numbers 1 to 12 |
 //! | [`frame`] | the frame's bytes and checks 1 to 7 |
 //! | [`window`] | window, weights, cumulative weight, median, balance |
-//! | [`walk`] | the walk, its marks, cut point and shift count; the serpentine |
+//! | [`walk`] | the walk, its marks, cut point and shift counts; the serpentine |
 //! | [`store`] | what each way's stores hold, and how long they are |
 //! | [`calls`] | walk, filter and balance with their checks 8 to 11 |
 //! | [`writer`] | the writer |

@@ -33,7 +33,7 @@ fn report(frame: &Frame) -> String {
     let mut lines = vec![format!("{} {}", settings.width, settings.height)];
     lines.extend(plane.chunks(usize::from(settings.width)).map(spaced));
     for way in Way::ALL.into_iter().filter(|way| way.serves(settings.kind)) {
-        lines.push(format!("{} {}", way.name(), walk.shifts));
+        lines.push(format!("{} {}", way.name(), walk.shifts_by(way)));
     }
     lines.join("\n")
 }

@@ -6,6 +6,8 @@ use crate::window::{reach, Window};
 
 /// Cells of the balance box, whatever M is.
 pub const BOX_CELLS: usize = 256;
+/// Levels in a block of the coarse way; the last block may be short.
+pub const BLOCK_LEVELS: u16 = 16;
 
 /// A way of counting.
 #[derive(Clone, Copy, Debug, PartialEq, Eq)]
@@ -13,23 +15,25 @@ pub enum Way {
     Joint,
     Columns,
     Chain,
+    Coarse,
 }
 
 impl Way {
     /// All ways, by rising number.
-    pub const ALL: [Way; 3] = [Way::Joint, Way::Columns, Way::Chain];
+    pub const ALL: [Way; 4] = [Way::Joint, Way::Columns, Way::Chain, Way::Coarse];
 
     /// The way of that number, if it serves the kind.
     pub fn serving(number: u32, kind: u8) -> Option<Way> {
         Way::ALL.into_iter().find(|way| way.number() == number && way.serves(kind))
     }
 
-    /// Document 01's number of the way.
+    /// The documents' number of the way.
     pub fn number(self) -> u32 {
         match self {
             Way::Joint => 1,
             Way::Columns => 2,
             Way::Chain => 3,
+            Way::Coarse => 4,
         }
     }
 
@@ -39,12 +43,13 @@ impl Way {
             Way::Joint => "joint",
             Way::Columns => "columns",
             Way::Chain => "chain",
+            Way::Coarse => "coarse",
         }
     }
 
     /// Whether the way serves a kind.
     pub fn serves(self, kind: u8) -> bool {
-        self == Way::Joint || kind == KIND_GUIDED
+        matches!(self, Way::Joint | Way::Coarse) || kind == KIND_GUIDED
     }
 }
 
@@ -54,6 +59,7 @@ pub struct Lengths {
     pub counts: usize,
     pub words: usize,
     pub numbers: usize,
+    pub summary: usize,
     /// The answer buffer of a walk or the output plane of a filter.
     pub answers: usize,
 }
@@ -66,9 +72,10 @@ impl Lengths {
         let side = 2 * usize::from(settings.radius) + 1;
         let mut lengths = Lengths::default();
         match way {
-            Way::Joint => {
+            Way::Joint | Way::Coarse => {
                 lengths.counts = levels * usize::from(settings.guides);
                 lengths.words = levels * words_per_level(settings);
+                lengths.summary = if way == Way::Coarse { blocks(settings) } else { 0 };
             }
             Way::Columns => lengths.numbers = 2 * columns * levels + 2 * levels,
             Way::Chain => lengths.numbers = 1 + 4 * side * side,
@@ -81,12 +88,17 @@ impl Lengths {
         self.counts >= needed.counts
             && self.words >= needed.words
             && self.numbers >= needed.numbers
+            && self.summary >= needed.summary
             && self.answers >= needed.answers
     }
 }
 
 fn words_per_level(settings: &Settings) -> usize {
     usize::from(settings.guides).div_ceil(64)
+}
+
+fn blocks(settings: &Settings) -> usize {
+    usize::from(settings.levels.div_ceil(BLOCK_LEVELS))
 }
 
 /// A level of the chain: its pixels in the window, and the sum of their guides.
@@ -111,26 +123,46 @@ pub enum Stores {
     Chain {
         entries: Vec<ChainEntry>,
     },
+    Coarse {
+        counts: Vec<u16>,
+        words: Vec<u64>,
+        summary: Vec<i64>,
+    },
 }
 
 /// The stores of a way after a walk.
 pub fn stores(frame: &Frame, way: Way, walk: &Walk) -> Stores {
     match way {
         Way::Joint => {
-            let counts = joint_counts(frame, walk);
-            let words = occupancy_words(&frame.settings, &counts);
+            let (counts, words) = joint_stores(frame, walk);
             Stores::Joint { counts, words }
         }
         Way::Columns => Stores::Columns { numbers: column_numbers(frame, walk) },
         Way::Chain => Stores::Chain { entries: chain_entries(frame, walk) },
+        Way::Coarse => {
+            let (counts, words) = joint_stores(frame, walk);
+            Stores::Coarse { counts, words, summary: summary(frame, &last_window(frame, walk)) }
+        }
     }
+}
+
+fn last_window(frame: &Frame, walk: &Walk) -> Window {
+    let (column, row) = walk.last();
+    Window::at(frame, column, row)
+}
+
+/// The joint histogram and its occupancy words.
+fn joint_stores(frame: &Frame, walk: &Walk) -> (Vec<u16>, Vec<u64>) {
+    let counts = joint_counts(frame, walk);
+    let words = occupancy_words(&frame.settings, &counts);
+    (counts, words)
 }
 
 /// The joint histogram: cell i·M + f counts the pixels of level i and guide f.
 fn joint_counts(frame: &Frame, walk: &Walk) -> Vec<u16> {
     let guides = usize::from(frame.settings.guides);
     let mut counts = vec![0; usize::from(frame.settings.levels) * guides];
-    for pixel in Window::at(frame, walk.column, walk.row).pixels {
+    for pixel in last_window(frame, walk).pixels {
         counts[usize::from(pixel.level) * guides + usize::from(pixel.guide)] += 1;
     }
     counts
@@ -150,14 +182,24 @@ fn occupancy_words(settings: &Settings, counts: &[u16]) -> Vec<u64> {
     words
 }
 
+/// The sum of the weights of each block's levels.
+pub fn summary(frame: &Frame, window: &Window) -> Vec<i64> {
+    let mut sums = vec![0; blocks(&frame.settings)];
+    for pixel in &window.pixels {
+        sums[usize::from(pixel.level / BLOCK_LEVELS)] += pixel.weight;
+    }
+    sums
+}
+
 /// Per column and level the count and the guide sum in the window's rows; then those of the window.
 fn column_numbers(frame: &Frame, walk: &Walk) -> Vec<u32> {
     let settings = &frame.settings;
     let (width, levels) = (usize::from(settings.width), usize::from(settings.levels));
-    let window_columns = reach(walk.column, settings.radius, settings.width);
+    let (column, row) = walk.last();
+    let window_columns = reach(column, settings.radius, settings.width);
     let (mut counts, mut sums) = (vec![0; width * levels], vec![0; width * levels]);
     let (mut window_counts, mut window_sums) = (vec![0; levels], vec![0; levels]);
-    for t in reach(walk.row, settings.radius, settings.height) {
+    for t in reach(row, settings.radius, settings.height) {
         for s in 0..width {
             let (level, guide) = (usize::from(frame.level(s, t)), u32::from(frame.guide(s, t)));
             counts[s * levels + level] += 1;
@@ -173,7 +215,7 @@ fn column_numbers(frame: &Frame, walk: &Walk) -> Vec<u32> {
 
 /// The window's levels, ascending, each once.
 fn chain_entries(frame: &Frame, walk: &Walk) -> Vec<ChainEntry> {
-    let mut pixels = Window::at(frame, walk.column, walk.row).pixels;
+    let mut pixels = last_window(frame, walk).pixels;
     pixels.sort_by_key(|pixel| pixel.level);
     let same_level = pixels.chunk_by(|one, other| one.level == other.level);
     same_level
@@ -188,7 +230,7 @@ fn chain_entries(frame: &Frame, walk: &Walk) -> Vec<ChainEntry> {
 /// The balance box: per guide, the window's pixels at the cut or below less those above.
 pub fn balance_box(frame: &Frame, walk: &Walk) -> [i16; BOX_CELLS] {
     let mut cells = [0; BOX_CELLS];
-    for pixel in Window::at(frame, walk.column, walk.row).pixels {
+    for pixel in last_window(frame, walk).pixels {
         let side = if pixel.level <= walk.cut { 1 } else { -1 };
         cells[usize::from(pixel.guide)] += side;
     }

@@ -1,6 +1,7 @@
 //! The walk over moves, and the serpentine of the filter.
 
 use crate::frame::Frame;
+use crate::store::{Way, BLOCK_LEVELS};
 use crate::window::Window;
 
 /// The answer to a move that would leave the picture.
@@ -18,45 +19,58 @@ pub const UP: u8 = 3;
 pub struct Walk {
     /// One answer for the start and one for each move byte.
     pub answers: Vec<u16>,
-    /// Sum of the level distances over all windows.
+    /// Sum of the level distances over all windows: the count of ways 1 to 3.
     pub shifts: u64,
+    /// Way 4's own count.
+    pub coarse_shifts: u64,
     /// The cut point after the last window.
     pub cut: u16,
-    /// The last pixel.
-    pub column: usize,
-    pub row: usize,
+    /// The pixels whose windows answered, in turn; at the last one the walk stands.
+    pub visited: Vec<(usize, usize)>,
 }
 
 impl Walk {
     /// Stands at the start: cut and shift count are 0, and the start window adds first.
     fn start(frame: &Frame, column: usize, row: usize) -> Walk {
-        let mut walk = Walk { answers: Vec::new(), shifts: 0, cut: 0, column, row };
-        walk.arrive(frame);
+        let mut walk = Walk { answers: Vec::new(), shifts: 0, coarse_shifts: 0, cut: 0, visited: Vec::new() };
+        walk.arrive(frame, column, row);
         walk
     }
 
-    /// Answers for the window at the present pixel and lets it add to the shift count.
-    fn arrive(&mut self, frame: &Frame) {
-        let window = Window::at(frame, self.column, self.row);
+    /// The last pixel.
+    pub fn last(&self) -> (usize, usize) {
+        self.visited[self.visited.len() - 1]
+    }
+
+    /// The shift count of a way.
+    pub fn shifts_by(&self, way: Way) -> u64 {
+        match way {
+            Way::Joint | Way::Columns | Way::Chain => self.shifts,
+            Way::Coarse => self.coarse_shifts,
+        }
+    }
+
+    /// Answers for the window at a pixel and lets it add to both counts.
+    fn arrive(&mut self, frame: &Frame, column: usize, row: usize) {
+        let window = Window::at(frame, column, row);
         let answer = window.answer();
         self.answers.push(answer);
+        self.visited.push((column, row));
         if window.hollow() {
             return;
         }
         let from = if window.steady { self.cut } else { 0 };
         self.shifts += u64::from(answer.abs_diff(from));
+        let by_blocks = answer / BLOCK_LEVELS + answer % BLOCK_LEVELS;
+        self.coarse_shifts += u64::from(if window.steady { by_blocks } else { answer });
         self.cut = answer;
     }
 
     /// Takes one move byte.
     fn step(&mut self, frame: &Frame, byte: u8) {
-        match target(self.column, self.row, byte) {
+        match target(self.last(), byte) {
             Target::Unknown => self.answers.push(UNKNOWN_MOVE),
-            Target::Pixel(Some(column), Some(row)) if frame.has(column, row) => {
-                self.column = column;
-                self.row = row;
-                self.arrive(frame);
-            }
+            Target::Pixel(Some(column), Some(row)) if frame.has(column, row) => self.arrive(frame, column, row),
             Target::Pixel(..) => self.answers.push(OFF_PICTURE),
         }
     }
@@ -68,7 +82,7 @@ enum Target {
     Unknown,
 }
 
-fn target(column: usize, row: usize, byte: u8) -> Target {
+fn target((column, row): (usize, usize), byte: u8) -> Target {
     match byte {
         RIGHT => Target::Pixel(Some(column + 1), Some(row)),
         LEFT => Target::Pixel(column.checked_sub(1), Some(row)),

@@ -7,20 +7,20 @@ use sorting_filter::refusal::Refusal;
 use sorting_filter::store::{Stores, BOX_CELLS};
 use sorting_filter::window::Window;
 use sorting_filter::writer;
+use std::ops::BitXorAssign;
 use std::sync::LazyLock;
 
-static CHOSEN: LazyLock<String> = LazyLock::new(|| std::env::var("STANDIN_FAULT").unwrap_or_default());
+pub static CHOSEN: LazyLock<String> = LazyLock::new(|| std::env::var("STANDIN_FAULT").unwrap_or_default());
 
 /// Whether the mistake of that name is asked for.
 pub fn makes(name: &str) -> bool {
     *CHOSEN == name
 }
 
-/// Adds 1 to a cell, if the buffer has it.
-fn spoil<T: Copy + Into<u64> + TryFrom<u64>>(buffer: &mut [T], place: usize) {
+/// Changes a cell, if the buffer has it.
+fn spoil<T: BitXorAssign + From<bool>>(buffer: &mut [T], place: usize) {
     if let Some(cell) = buffer.get_mut(place) {
-        let other = (*cell).into() ^ 1;
-        *cell = T::try_from(other).unwrap_or(*cell);
+        *cell ^= T::from(true);
     }
 }
 
@@ -31,6 +31,7 @@ pub fn in_stores(lent: &mut Lent, walked: &Walked) {
         "first_answer" => spoil(lent.answers, 0),
         "last_answer" => spoil(lent.answers, answers - 1),
         "beyond_answers" => spoil(lent.answers, answers),
+        "summary_of_others" if !matches!(walked.stores, Stores::Coarse { .. }) => spoil(lent.summary, 0),
         _ => {}
     }
     match &walked.stores {
@@ -57,6 +58,32 @@ pub fn in_stores(lent: &mut Lent, walked: &Walked) {
             }
             _ => {}
         },
+        Stores::Coarse { counts, words, summary } => match CHOSEN.as_str() {
+            "coarse_cell" => spoil(lent.counts, counts.len() - 1),
+            "coarse_beyond_counts" => spoil(lent.counts, counts.len()),
+            "coarse_bit_left_set" => lent.words[words.len() - 1] |= 1,
+            "coarse_beyond_words" => spoil(lent.words, words.len()),
+            "coarse_numbers" => spoil(lent.numbers, 0),
+            "summary_sum" => spoil(lent.summary, summary.len() - 1),
+            "beyond_summary" => spoil(lent.summary, summary.len()),
+            _ => {}
+        },
+    }
+}
+
+/// The summary, as much as there is room for, unless it is left as it was lent.
+pub fn put_summary(lent: &mut [i64], summary: &[i64]) {
+    if !makes("summary_left") {
+        lent.iter_mut().zip(summary).for_each(|(place, &sum)| *place = sum);
+    }
+}
+
+/// The way that is taken for the asked one: 4 for 5, or none for 4 in kind 1.
+pub fn way(file: &[u8], asked: u32) -> u32 {
+    match CHOSEN.as_str() {
+        "next_way_accepted" if asked == 5 => 4,
+        "coarse_refused" if asked == 4 && table_frame(file).is_some() => 0,
+        _ => asked,
     }
 }
 
@@ -166,6 +193,7 @@ pub fn on_refusal(lent: &mut Lent) {
         "refusal_counts" => spoil(lent.counts, 0),
         "refusal_words" => spoil(lent.words, 0),
         "refusal_numbers" => spoil(lent.numbers, 0),
+        "refusal_summary" => spoil(lent.summary, 0),
         _ => {}
     }
 }

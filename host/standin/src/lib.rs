@@ -1,7 +1,8 @@
 //! The C interface of `include/icemedian.h` over the sorting filter. It tests the wrapper and the
-//! tests themselves: with `STANDIN_FAULT` set to one of the names in [`fault`], it makes that mistake,
-//! and the tests must notice.
+//! tests themselves: with `STANDIN_FAULT` set to one of the names in [`fault`] and [`coarse`], it makes that
+//! mistake, and the tests must notice.
 
+mod coarse;
 mod fault;
 
 use fault::{makes, narrowed, set_on_refusal};
@@ -9,7 +10,7 @@ use sorting_filter::calls::{self, Walked};
 use sorting_filter::frame::{locate, open, Asked};
 use sorting_filter::refusal::Refusal;
 use sorting_filter::store::{ChainEntry, Lengths, Stores, BOX_CELLS};
-use sorting_filter::writer;
+use sorting_filter::{walk, writer};
 use std::{ptr, slice};
 
 /// The stores and the answer buffer that a call lends.
@@ -17,6 +18,7 @@ struct Lent<'a> {
     counts: &'a mut [u16],
     words: &'a mut [u64],
     numbers: &'a mut [u32],
+    summary: &'a mut [i64],
     answers: &'a mut [u16],
 }
 
@@ -26,6 +28,7 @@ impl Lent<'_> {
             counts: self.counts.len(),
             words: self.words.len(),
             numbers: self.numbers.len(),
+            summary: if makes("short_summary") { usize::MAX } else { self.summary.len() },
             answers: self.answers.len(),
         }
     }
@@ -39,6 +42,11 @@ impl Lent<'_> {
             }
             Stores::Columns { numbers } => front(self.numbers, numbers),
             Stores::Chain { entries } => front(self.numbers, &chain_numbers(entries)),
+            Stores::Coarse { counts, words, summary } => {
+                front(self.counts, counts);
+                front(self.words, words);
+                fault::put_summary(self.summary, summary);
+            }
         }
         fault::in_stores(self, walked);
     }
@@ -127,6 +135,8 @@ pub unsafe extern "C" fn icemedian_filter(
     words_length: usize,
     numbers: *mut u32,
     numbers_length: usize,
+    summary: *mut i64,
+    summary_length: usize,
     output: *mut u16,
     output_length: usize,
     shifts: &mut u64,
@@ -136,11 +146,16 @@ pub unsafe extern "C" fn icemedian_filter(
         counts: lend(counts, counts_length),
         words: lend(words, words_length),
         numbers: lend(numbers, numbers_length),
+        summary: lend(summary, summary_length),
         answers: lend(output, output_length),
     };
     let file = fault::as_read(read(file, file_length));
-    let mut result = calls::filter(&file, narrowed(way, 8, "filter_way_cut"), &lent.lengths());
-    result.iter_mut().for_each(|walked| fault::in_plane(&file, &mut walked.answers));
+    let way = fault::way(&file, narrowed(way, 8, "filter_way_cut"));
+    let mut result = calls::filter(&file, way, &lent.lengths());
+    if let Ok(walked) = &mut result {
+        fault::in_plane(&file, &mut walked.answers);
+        coarse::spoil(&file, walked, |frame| walk::filter(frame).1);
+    }
     finish(result, &mut lent, shifts, offset).err().unwrap_or(0)
 }
 
@@ -161,6 +176,8 @@ pub unsafe extern "C" fn icemedian_walk(
     words_length: usize,
     numbers: *mut u32,
     numbers_length: usize,
+    summary: *mut i64,
+    summary_length: usize,
     answers: *mut u16,
     answers_length: usize,
     shifts: &mut u64,
@@ -172,11 +189,15 @@ pub unsafe extern "C" fn icemedian_walk(
         counts: lend(counts, counts_length),
         words: lend(words, words_length),
         numbers: lend(numbers, numbers_length),
+        summary: lend(summary, summary_length),
         answers: lend(answers, answers_length),
     };
     let (file, moves) = (fault::as_read(read(file, file_length)), read(moves, moves_length));
-    let way = narrowed(way, 8, "walk_way_cut");
-    let result = calls::walk(&file, way, (column, row), moves, &lent.lengths());
+    let way = fault::way(&file, narrowed(way, 8, "walk_way_cut"));
+    let mut result = calls::walk(&file, way, (column, row), moves, &lent.lengths());
+    if let Ok(walked) = &mut result {
+        coarse::spoil(&file, walked, |frame| walk::walk(frame, column, row, moves));
+    }
     match finish(result, &mut lent, shifts, offset) {
         Ok(mut walked) => {
             fault::in_results(&mut walked);

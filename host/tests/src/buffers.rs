@@ -11,6 +11,7 @@ pub struct Buffers {
     pub counts: Vec<u16>,
     pub words: Vec<u64>,
     pub numbers: Vec<u32>,
+    pub summary: Vec<i64>,
     pub answers: Vec<u16>,
 }
 
@@ -21,6 +22,7 @@ impl Buffers {
             counts: (0..lengths.counts).map(|_| random.bits() as u16).collect(),
             words: (0..lengths.words).map(|_| random.bits()).collect(),
             numbers: (0..lengths.numbers).map(|_| random.bits() as u32).collect(),
+            summary: (0..lengths.summary).map(|_| random.bits() as i64).collect(),
             answers: (0..lengths.answers).map(|_| random.bits() as u16).collect(),
         }
     }
@@ -36,6 +38,7 @@ impl Buffers {
             counts: self.counts.len(),
             words: self.words.len(),
             numbers: self.numbers.len(),
+            summary: self.summary.len(),
             answers: self.answers.len(),
         }
     }
@@ -46,6 +49,7 @@ impl Buffers {
             counts: &mut self.counts,
             words: &mut self.words,
             numbers: &mut self.numbers,
+            summary: &mut self.summary,
             answers: &mut self.answers,
         }
     }
@@ -61,6 +65,11 @@ impl Buffers {
             }
             Stores::Columns { numbers } => front(&mut after.numbers, numbers),
             Stores::Chain { .. } => {}
+            Stores::Coarse { counts, words, summary } => {
+                front(&mut after.counts, counts);
+                front(&mut after.words, words);
+                front(&mut after.summary, summary);
+            }
         }
         after
     }
@@ -76,6 +85,7 @@ pub fn roomy(random: &mut Random, needed: &Lengths) -> Lengths {
         counts: needed.counts + 1 + random.below(9),
         words: needed.words + 1 + random.below(9),
         numbers: needed.numbers + 1 + random.below(9),
+        summary: needed.summary + 1 + random.below(9),
         answers: needed.answers + 1 + random.below(9),
     }
 }
@@ -95,7 +105,8 @@ pub fn compare_all(library: &Buffers, expected: &Buffers) -> Check {
     first_difference("answers", &library.answers, &expected.answers)?;
     first_difference("counts", &library.counts, &expected.counts)?;
     first_difference("words", &library.words, &expected.words)?;
-    first_difference("numbers", &library.numbers, &expected.numbers)
+    first_difference("numbers", &library.numbers, &expected.numbers)?;
+    first_difference("summary", &library.summary, &expected.summary)
 }
 
 fn first_difference<T: PartialEq + std::fmt::Debug>(what: &str, library: &[T], expected: &[T]) -> Check {

@@ -8,9 +8,9 @@ use crate::{same, Check};
 use sorting_filter::calls;
 use sorting_filter::cases;
 use sorting_filter::frame::{locate, open, Frame, Settings, KIND_GUIDED, KIND_TABLE};
-use sorting_filter::random::{accepted_file, accepted_file_of, damage_table, moves, start, Random};
+use sorting_filter::random::{accepted_file, accepted_file_of, damage_table, moves, settings, start, Random};
 use sorting_filter::random::{random_guides, random_values};
-use sorting_filter::store::{Lengths, Way};
+use sorting_filter::store::{Lengths, Stores, Way, BLOCK_LEVELS};
 use sorting_filter::walk::UNKNOWN_MOVE;
 use sorting_filter::window::Window;
 use sorting_filter::writer;
@@ -42,7 +42,9 @@ pub fn test_largest(random: &mut Random, tally: &mut Tally) -> Check {
         test_accepted(random, &file, tally)?;
         let file = accepted_file_of(random, &Settings { width: 1, height: 1, ..settings });
         let moves = random.bytes(calls::MOVES_MOST);
-        test_walk(random, &file, Way::Joint, &moves, tally)?;
+        for way in [Way::Joint, Way::Coarse] {
+            test_walk(random, &file, way, &moves, tally)?;
+        }
     }
     Ok(())
 }
@@ -63,9 +65,10 @@ pub fn test_damaged_table(random: &mut Random, file: &[u8], tally: &mut Tally) -
 pub fn test_heavy(random: &mut Random, tally: &mut Tally) -> Check {
     let (side, centre) = (33, 16);
     let sizes = [vec![65_535], vec![32_768], vec![32_767, 32_768], vec![0, 65_535], vec![1, 32_767, 32_768, 65_535]];
-    for (weights, guides) in sizes.iter().zip([2, 64, 65, 256, 256]) {
+    let counts = [(8, 2), (16, 64), (17, 65), (8, 256), (40, 256)];
+    for (weights, (levels, guides)) in sizes.iter().zip(counts) {
         let settings =
-            Settings { width: side, height: side, levels: 8, guides, kind: KIND_TABLE, radius: 15, smoothing: 0 };
+            Settings { width: side, height: side, levels, guides, kind: KIND_TABLE, radius: 15, smoothing: 0 };
         let table: Vec<u16> = (0..settings.table_weights()).map(|_| random.pick(weights)).collect();
         let alike = (vec![settings.levels - 1; settings.pixels()], vec![guides - 1; settings.pixels()]);
         let by_chance = (random_values(random, &settings), random_guides(random, &settings));
@@ -74,11 +77,44 @@ pub fn test_heavy(random: &mut Random, tally: &mut Tally) -> Check {
                 .map_err(|refusal| refusal.to_string())?;
             test_accepted(random, &file, tally)?;
             let moves = moves(random, &settings, MOVES);
-            test_walk_from(random, &file, Way::Joint, (centre, centre), &moves, tally)?;
+            for way in [Way::Joint, Way::Coarse] {
+                test_walk_from(random, &file, way, (centre, centre), &moves, tally)?;
+            }
             for level in 0..u32::from(settings.levels) {
                 try_balance(&file, (centre, centre), level, tally)?;
             }
         }
+    }
+    Ok(())
+}
+
+/// Level counts about the ends of the coarse way's blocks, in both kinds, and every window of frames in which
+/// a block's weights may sum to less than 0.
+pub fn test_blocks(random: &mut Random, tally: &mut Tally) -> Check {
+    for levels in [2, 15, 16, 17, 31, 32, 33, 63, 64, 65, 255, 257, 1008, 1009, 1023, 1024] {
+        for kind in [KIND_TABLE, KIND_GUIDED] {
+            let mut settings = settings(random, SIDE);
+            (settings.levels, settings.kind) = (levels, kind);
+            settings.smoothing = if kind == KIND_GUIDED { random.within(1, 64) } else { 0 };
+            let file = accepted_file_of(random, &settings);
+            test_accepted(random, &file, tally).map_err(|error| format!("{levels} levels: {error}"))?;
+        }
+        test_lonely(random, levels, tally).map_err(|error| format!("{levels} levels, lonely guides: {error}"))?;
+    }
+    Ok(())
+}
+
+/// Levels by chance under guides with a few lonely ones at both ends: the summary of each window.
+fn test_lonely(random: &mut Random, levels: u16, tally: &mut Tally) -> Check {
+    let settings = Settings { width: 7, height: 5, levels, guides: 16, kind: KIND_GUIDED, radius: 1, smoothing: 1 };
+    let values: Vec<u16> = (0..settings.pixels()).map(|_| random.within(0, levels - 1)).collect();
+    let guides: Vec<u16> = (0..settings.pixels()).map(|_| random.pick(&[0, 15, 7, 7, 7, 7, 7])).collect();
+    let file = writer::write(&settings.asked(), &values, &guides, &[], usize::MAX);
+    let file = file.map_err(|refusal| refusal.to_string())?;
+    test_accepted(random, &file, tally)?;
+    for pixel in 0..settings.pixels() {
+        let width = usize::from(settings.width);
+        test_walk_from(random, &file, Way::Coarse, (pixel % width, pixel / width), &[], tally)?;
     }
     Ok(())
 }
@@ -150,6 +186,7 @@ fn test_walk_from(
     tally.answers += walked.answers.len() as u64;
     tally.marks += walked.answers.iter().filter(|&&answer| answer >= UNKNOWN_MOVE).count() as u64;
     compare(&before, after, &walked, &needed)?;
+    count_summary(&frame, &walked, tally);
     if random.once_in(4) {
         test_wrapper_walk(file, way, start, moves, &walked, &needed)?;
     }
@@ -163,6 +200,15 @@ fn count_window(frame: &Frame, window: &Window, tally: &mut Tally) {
     tally.hollow += u64::from(window.hollow());
     tally.negative += u64::from(window.has_negative_weight());
     tally.unsteady += u64::from(!window.steady);
+}
+
+fn count_summary(frame: &Frame, walked: &calls::Walked, tally: &mut Tally) {
+    let Stores::Coarse { summary, .. } = &walked.stores else { return };
+    let coarse = &mut tally.coarse;
+    coarse.walks += 1;
+    coarse.one_block += u64::from(summary.len() == 1);
+    coarse.short_block += u64::from(frame.settings.levels % BLOCK_LEVELS != 0);
+    coarse.negative += u64::from(summary.iter().any(|&sum| sum < 0));
 }
 
 fn test_filter(random: &mut Random, file: &[u8], frame: &Frame, way: Way, tally: &mut Tally) -> Check {
@@ -186,6 +232,7 @@ fn wrapper_way(way: Way) -> icemedian::Way {
         Way::Joint => icemedian::Way::Joint,
         Way::Columns => icemedian::Way::Columns,
         Way::Chain => icemedian::Way::Chain,
+        Way::Coarse => icemedian::Way::Coarse,
     }
 }
 
@@ -199,8 +246,8 @@ fn test_wrapper_walk(
     needed: &Lengths,
 ) -> Check {
     let walked = icemedian::walk(file, wrapper_way(way), start, moves).map_err(|refusal| refusal.to_string())?;
-    let icemedian::Stores { counts, words, numbers } = walked.stores;
-    let after = Buffers { counts, words, numbers, answers: walked.answers };
+    let icemedian::Stores { counts, words, numbers, summary } = walked.stores;
+    let after = Buffers { counts, words, numbers, summary, answers: walked.answers };
     same("wrapper's lengths", &after.lengths(), needed)?;
     compare(&after.clone(), after, expected, needed).map_err(|error| format!("wrapper's {error}"))?;
     let end = (expected.shifts, expected.cut, expected.balance_box);

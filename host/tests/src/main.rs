@@ -90,6 +90,8 @@ fn run(options: &Options) -> Result<Tally, String> {
     failures.extend(heavy.err().map(|message| format!("heavy tables: {message}")));
     let heavy = writing::test_heavy(&mut Random::new(options.seed), &mut tally);
     failures.extend(heavy.err().map(|message| format!("heavy tables written: {message}")));
+    let blocks = frames::test_blocks(&mut Random::new(options.seed), &mut tally);
+    failures.extend(blocks.err().map(|message| format!("blocks: {message}")));
     let largest = frames::test_largest(&mut Random::new(options.seed), &mut tally);
     failures.extend(largest.err().map(|message| format!("largest: {message}")));
     if let Some(path) = &options.program {

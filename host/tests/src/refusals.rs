@@ -32,9 +32,9 @@ impl Attempt {
     fn spoil(&mut self, random: &mut Random, frame: &Frame, number: u8) {
         match number {
             8 => {
-                let other_kind = if frame.settings.kind == 1 { random.pick(&[2, 3]) } else { 4 };
+                let other_kind = if frame.settings.kind == 1 { random.pick(&[2, 3]) } else { 5 };
                 let wide = self.way | random.pick(&[1 << 8, 1 << 16, 1 << 24, 1 << 31]);
-                self.way = random.pick(&[0, 4, 255, other_kind, wide, u32::MAX]);
+                self.way = random.pick(&[0, 5, 255, other_kind, wide, u32::MAX]);
             }
             9 if random.once_in(2) => self.start.0 = outside(random, frame.settings.width),
             9 => self.start.1 = outside(random, frame.settings.height),
@@ -53,6 +53,7 @@ impl Attempt {
             (&mut lent.counts, needed.counts),
             (&mut lent.words, needed.words),
             (&mut lent.numbers, needed.numbers),
+            (&mut lent.summary, needed.summary),
         ];
         used.retain(|&(_, needed)| needed > 0);
         let index = random.below(used.len());

@@ -13,6 +13,18 @@ pub struct Overlapping {
     pub odd_apart: u64,
 }
 
+/// Walks by the coarse way, among the walks.
+#[derive(Default)]
+pub struct Coarse {
+    pub walks: u64,
+    /// With all levels in one block.
+    pub one_block: u64,
+    /// With a last block of under 16 levels.
+    pub short_block: u64,
+    /// With a block whose weights sum to less than 0 in the last window.
+    pub negative: u64,
+}
+
 #[derive(Default)]
 pub struct Tally {
     /// Accepted frames of each kind; those made at random are among them.
@@ -28,6 +40,7 @@ pub struct Tally {
     pub walks: u64,
     /// Walks of the list of small ones, among the walks.
     pub listed: u64,
+    pub coarse: Coarse,
     pub filters: u64,
     pub answers: u64,
     pub marks: u64,
@@ -58,8 +71,10 @@ impl Tally {
         let Overlapping { same_start, even_apart, odd_apart } = self.overlapping;
         let windows = [self.listed, self.damaged, self.marks, self.hollow, self.negative, self.unsteady];
         let frames = [self.frames[0], self.frames[1], same_start, even_apart, odd_apart];
+        let Coarse { walks, one_block, short_block, negative } = self.coarse;
+        let coarse = [walks - one_block, walks - short_block, one_block, short_block, negative];
         let tables = [self.heavy_tables, self.damaged_tables, u64::from(self.heaviest == HEAVIEST)];
-        if [&self.refusals[1..], &windows, &frames, &tables].iter().any(|counts| counts.contains(&0)) {
+        if [&self.refusals[1..], &windows, &coarse, &frames, &tables].iter().any(|counts| counts.contains(&0)) {
             return Some(format!("the run left something untried:\n{self}"));
         }
         None
@@ -97,6 +112,11 @@ impl fmt::Display for Tally {
             f,
             "walks: {} ({} of the list), filters: {}, answers: {} ({} marks)",
             self.walks, self.listed, self.filters, self.answers, self.marks
+        )?;
+        let Coarse { walks, one_block, short_block, negative } = self.coarse;
+        writeln!(
+            f,
+            "walks by way 4: {walks} ({one_block} with one block, {short_block} with a short one, {negative} with a negative sum)"
         )?;
         writeln!(f, "balances: {}, frames written: {}", self.balances, self.written)?;
         write!(f, "refused calls by number:")?;

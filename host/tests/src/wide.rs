@@ -64,7 +64,7 @@ pub fn test(random: &mut Random, tally: &mut Tally) -> Check {
     }
     let file = writer::write(&settings(), &VALUES, &GUIDES, &[], usize::MAX).map_err(|refusal| refusal.to_string())?;
     let frame = open(&file).map_err(|refusal| refusal.to_string())?;
-    for way in [257, 258, 259, 65_537, 1 | 1 << 31, u32::MAX] {
+    for way in [257, 258, 259, 260, 65_537, 1 | 1 << 31, u32::MAX] {
         try_way(random, &file, &frame, way, (0, 0), 8, tally)?;
         // The start is looked at later, the file before.
         try_way(random, &file, &frame, way, (3, 0), 8, tally)?;
@@ -112,8 +112,13 @@ fn try_way(
 ) -> Check {
     let stores = Way::ALL.map(|way| Lengths::of_stores(way, &frame.settings));
     let most = |length: fn(&Lengths) -> usize| stores.iter().map(length).max().unwrap_or(0);
-    let needed =
-        Lengths { counts: most(|l| l.counts), words: most(|l| l.words), numbers: most(|l| l.numbers), answers: 3 };
+    let needed = Lengths {
+        counts: most(|l| l.counts),
+        words: most(|l| l.words),
+        numbers: most(|l| l.numbers),
+        summary: most(|l| l.summary),
+        answers: 3,
+    };
     let lengths = roomy(random, &needed);
     let before = Buffers::poisoned(random, &lengths);
     let mut after = before.clone();

@@ -26,7 +26,7 @@ pub fn settings(random: &mut Random, side: u16) -> Settings {
     Settings {
         width,
         height,
-        levels: random.ranged(&[(2, 2), (2, 9), (2, 64), (2, 1024), (1024, 1024)]),
+        levels: random.ranged(&[(2, 2), (2, 9), (15, 17), (31, 33), (2, 64), (2, 1024), (1024, 1024)]),
         guides: random.ranged(&[(2, 2), (2, 9), (2, 64), (63, 65), (127, 129), (2, 256), (256, 256)]),
         kind,
         radius,
