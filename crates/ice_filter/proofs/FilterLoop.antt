@@ -95,7 +95,7 @@ module _ (p : Frame) (g : FrameLimits p) (O : List ℕ) (long : pixels (p .set) 
 pub record Sweeping (way : Way) (b : List ℕ) (x : State) (a : Stores) (O₀ : List ℕ) (z : Stores) (O hs : List ℕ) (d : List ℤ) (v : Visit) (i : ℕ) :
     Type 0 where
   pub going : Going way b (serpentine (frameOf b .set)) x a z hs d v i
-  pub at : At (frameOf b) (stateOf v) (columnAfter (frameOf b .set .width) i) (i / frameOf b .set .width)
+  pub at : At (frameOf b) (stateOf way v) (columnAfter (frameOf b .set .width) i) (i / frameOf b .set .width)
   pub plane : Plane (frameOf b) O i
   pub rest : KeptBeyond (pixels (frameOf b .set)) O₀ O
   pub inside : i < pixels (frameOf b .set)
@@ -111,26 +111,26 @@ module _ (way : Way) (b : List ℕ) (g : FrameLimits (frameOf b)) where
   pub sweep-goes : (x : State) (a : Stores) (O₀ : List ℕ) (z : Stores) (O hs : List ℕ) (d : List ℤ) (v : Visit) (i : ℕ) →
       Sweeping way b x a O₀ z O hs d v i
       → i + 1 < pixels (p .set) → (byte : ℕ) → byte ≡ turn (p .set .width) i → (z′ : Stores) (hs′ : List ℕ) (d′ : List ℤ) (v′ : Visit)
-      → Visited way b (step p (stateOf v) byte) z z′ hs′ d′ v′ → At p (stateOf v′) (columnAfter (p .set .width) (i + 1)) ((i + 1) / p .set .width)
+      → Visited way b (step p (stateOf way v) byte) z z′ hs′ d′ v′ → At p (stateOf way v′) (columnAfter (p .set .width) (i + 1)) ((i + 1) / p .set .width)
   sweep-goes x a O₀ z O hs d v i w l byte eb z′ hs′ d′ v′ h =
       subst (λ (q : State). At p q (columnAfter (p .set .width) (i + 1)) ((i + 1) / p .set .width)) (sym (h .state))
-      (subst (λ (n : ℕ). At p (step p (stateOf v) n) (columnAfter (p .set .width) (i + 1)) ((i + 1) / p .set .width)) (sym eb)
-      (at-turn p (stateOf v) i (g .sound .width-low) l (w .at)))
+      (subst (λ (n : ℕ). At p (step p (stateOf way v) n) (columnAfter (p .set .width) (i + 1)) ((i + 1) / p .set .width)) (sym eb)
+      (at-turn p (stateOf way v) i (g .sound .width-low) l (w .at)))
 
-  place : (v : Visit) (i : ℕ) → At p (stateOf v) (columnAfter (p .set .width) i) (i / p .set .width) →
+  place : (v : Visit) (i : ℕ) → At p (stateOf way v) (columnAfter (p .set .width) i) (i / p .set .width) →
       v .row * p .set .width + v .column ≡ visited (p .set .width) i
   place v i a = rw (a .row, a .column) (sym (visited-is (p .set .width) (g .sound .width-low) i))
 
-  pub sweep-place : (v : Visit) (i : ℕ) → i < pixels (p .set) → At p (stateOf v) (columnAfter (p .set .width) i) (i / p .set .width)
+  pub sweep-place : (v : Visit) (i : ℕ) → i < pixels (p .set) → At p (stateOf way v) (columnAfter (p .set .width) i) (i / p .set .width)
       → v .row * p .set .width + v .column < pixels (p .set)
   sweep-place v i l a = subst (λ (n : ℕ). n < pixels (p .set)) (sym (place v i a)) (visited-low (p .set) (g .sound .width-low) i l)
 
-  pub sweep-start : (z : Stores) (O hs : List ℕ) (d : List ℤ) (v : Visit) → pixels (p .set) ≤ length O → stateOf v ≡ start p 0 0 →
+  pub sweep-start : (z : Stores) (O hs : List ℕ) (d : List ℤ) (v : Visit) → pixels (p .set) ≤ length O → stateOf way v ≡ start way p 0 0 →
       AtWindow way b z hs d v
-      → StateBounded p (stateOf v) 1 → (m : ℕ) → m ≡ answerNumber (v .answer) → Sweeping way b (stateOf v) z (set O 0 m) z (set O 0 m) hs d v 0
+      → StateBounded p (stateOf way v) 1 → (m : ℕ) → m ≡ answerNumber (v .answer) → Sweeping way b (stateOf way v) z (set O 0 m) z (set O 0 m) hs d v 0
   sweep-start z O hs d v long e h on m em =
-      let k : At p (stateOf v) (columnAfter (p .set .width) 0) (0 / p .set .width) =
-      subst (λ (q : State). At p q (columnAfter (p .set .width) 0) (0 / p .set .width)) (sym e) (serpentine-begins g) in
+      let k : At p (stateOf way v) (columnAfter (p .set .width) 0) (0 / p .set .width) =
+      subst (λ (q : State). At p q (columnAfter (p .set .width) 0) (0 / p .set .width)) (sym e) (serpentine-begins way g) in
       let o : visited (p .set .width) 0 ≡ 0 = sym (place v 0 k) ∙ zero-place in
       record {
         going = going-start way b (serpentine (p .set)) z hs d v h on;
@@ -142,7 +142,7 @@ module _ (way : Way) (b : List ℕ) (g : FrameLimits (frameOf b)) where
     where
       zero-place : v .row * p .set .width + v .column ≡ 0
       zero-place =
-          let q = at-arrive p 0 0 0 0 in
+          let q = at-arrive way p 0 0 0 0 in
           let r : v .row ≡ 0 = ap (λ (y : State). y .row) e ∙ q .row in
           let c : v .column ≡ 0 = ap (λ (y : State). y .column) e ∙ q .column in
           rw (r, c) (omega arith)
@@ -151,7 +151,7 @@ module _ (way : Way) (b : List ℕ) (g : FrameLimits (frameOf b)) where
       Sweeping way b x a O₀ z O hs d v i
       → i + 1 < pixels (p .set) → pixels (p .set) ≤ length O₀ → (byte : ℕ) → byte ≡ turn (p .set .width) i →
       (z′ : Stores) (hs′ : List ℕ) (d′ : List ℤ) (v′ : Visit)
-      → Visited way b (step p (stateOf v) byte) z z′ hs′ d′ v′ → (m : ℕ) → m ≡ answerNumber (v′ .answer)
+      → Visited way b (step p (stateOf way v) byte) z z′ hs′ d′ v′ → (m : ℕ) → m ≡ answerNumber (v′ .answer)
       → Sweeping way b x a O₀ z′ (set O (v′ .row * p .set .width + v′ .column) m) hs′ d′ v′ (i + 1)
   sweep-more x a O₀ z O hs d v i w l long byte eb z′ hs′ d′ v′ h m em =
       let k = sweep-goes x a O₀ z O hs d v i w l byte eb z′ hs′ d′ v′ h in
@@ -172,14 +172,14 @@ module _ (way : Way) (b : List ℕ) (g : FrameLimits (frameOf b)) where
 
   pub sweep-end : (y : State) (a₀ a : Stores) (O₁ O₀ : List ℕ) (z : Stores) (O hs : List ℕ) (d : List ℤ) (v : Visit) (i : ℕ) →
       Sweeping way b y a O₀ z O hs d v i
-      → pixels (p .set) ≤ i + 1 → pixels (p .set) ≤ length O₀ → y ≡ start p 0 0 → RestKept way (p .set) a₀ a → (q : ℕ) → O₀ ≡ set O₁ 0 q
-      → Visited way b (filterEnd p) a₀ z hs d v × (O ≡ filtered p ++ drop (pixels (p .set)) O₁)
+      → pixels (p .set) ≤ i + 1 → pixels (p .set) ≤ length O₀ → y ≡ start way p 0 0 → RestKept way (p .set) a₀ a → (q : ℕ) → O₀ ≡ set O₁ 0 q
+      → Visited way b (filterEnd way p) a₀ z hs d v × (O ≡ filtered p ++ drop (pixels (p .set)) O₁)
   unfolding filterEnd walkEnd
   sweep-end y a₀ a O₁ O₀ z O hs d v i w l long e kept q e₀ =
       let lo : length O ≡ length O₀ = w .rest .long in
       let dd : drop (pixels (p .set)) O ≡ drop (pixels (p .set)) O₁ =
       w .rest .beyond ∙ ap (drop (pixels (p .set))) e₀ ∙ drop-set-lt (pixels (p .set)) O₁ 0 q pixels-some in (
-        going-end way b (serpentine (p .set)) (start p 0 0) y a₀ a z hs d v i (w .going) (omega (arith, serpentine-length (p .set))) e kept,
+        going-end way b (serpentine (p .set)) (start way p 0 0) y a₀ a z hs d v i (w .going) (omega (arith, serpentine-length (p .set))) e kept,
         plane-all
             p g O (omega arith) i l (w .plane) O₁ dd,
       )
@@ -198,11 +198,11 @@ module _ (way : Way) {b : List ℕ} {z : Plan} (k : Planned b z) where
   pub first-in : (0 < z .width) × (0 < z .height)
   first-in = let f = facts k in (rw (f .width) (f .limits .sound .width-low), rw (f .height) (f .limits .sound .height-low))
 
-  pub sweeping-start : (s : Stores) (O hs : List ℕ) (d : List ℤ) (v : Visit) → n ≤ length O → stateOf v ≡ start (frameOf b) 0 0 →
+  pub sweeping-start : (s : Stores) (O hs : List ℕ) (d : List ℤ) (v : Visit) → n ≤ length O → stateOf way v ≡ start way (frameOf b) 0 0 →
       AtWindow way b s hs d v
-      → (m : ℕ) → m ≡ answerNumber (v .answer) → Sweeping way b (stateOf v) s (set O 0 m) s (set O 0 m) hs d v 0
+      → (m : ℕ) → m ≡ answerNumber (v .answer) → Sweeping way b (stateOf way v) s (set O 0 m) s (set O 0 m) hs d v 0
   sweeping-start s O hs d v long e h m em =
-      sweep-start way b (facts k .limits) s O hs d v (rw count-is at long) e h (held-first k 0 0 v (first-in .0) (first-in .1) e) m em
+      sweep-start way b (facts k .limits) s O hs d v (rw count-is at long) e h (held-first way k 0 0 v (first-in .0) (first-in .1) e) m em
 
   module _ (x : State) (a : Stores) (O₀ : List ℕ) (s : Stores) (O hs : List ℕ) (d : List ℤ) (v : Visit) (i : ℕ)
       (w : Sweeping way b x a O₀ s O hs d v i) where
@@ -210,7 +210,7 @@ module _ (way : Way) {b : List ℕ} {z : Plan} (k : Planned b z) where
     sweeping-low = omega (arith, w .inside, facts k .limits .sound .pixels-high)
 
     module _ (l : i + 1 < n) (byte : ℕ) (eb : byte ≡ turn (z .width) i) (s′ : Stores) (hs′ : List ℕ) (d′ : List ℤ) (v′ : Visit)
-        (h : Visited way b (step (frameOf b) (stateOf v) byte) s s′ hs′ d′ v′) where
+        (h : Visited way b (step (frameOf b) (stateOf way v) byte) s s′ hs′ d′ v′) where
       inside : i + 1 < pixels (frameOf b .set)
       inside = rw count-is at l
 
@@ -230,8 +230,8 @@ module _ (way : Way) {b : List ℕ} {z : Plan} (k : Planned b z) where
           rw (ep, facts k .width)
           (sweep-more way b (facts k .limits) x a O₀ s O hs d v i w inside (rw count-is at long) byte byte-is s′ hs′ d′ v′ h m em)
 
-    pub sweeping-end : (a₀ : Stores) (O₁ : List ℕ) → n ≤ i + 1 → n ≤ length O₀ → x ≡ start (frameOf b) 0 0 → RestKept way (frameOf b .set) a₀ a →
+    pub sweeping-end : (a₀ : Stores) (O₁ : List ℕ) → n ≤ i + 1 → n ≤ length O₀ → x ≡ start way (frameOf b) 0 0 → RestKept way (frameOf b .set) a₀ a →
         (q : ℕ) → O₀ ≡ set O₁ 0 q
-        → Visited way b (filterEnd (frameOf b)) a₀ s hs d v × (O ≡ filtered (frameOf b) ++ drop (pixels (frameOf b .set)) O₁)
+        → Visited way b (filterEnd way (frameOf b)) a₀ s hs d v × (O ≡ filtered (frameOf b) ++ drop (pixels (frameOf b .set)) O₁)
     sweeping-end a₀ O₁ l long e kept q e₀ =
         sweep-end way b (facts k .limits) x a₀ a O₁ O₀ s O hs d v i w (rw count-is at l) (rw count-is at long) e kept q e₀

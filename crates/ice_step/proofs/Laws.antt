@@ -2,7 +2,7 @@
 -- Assumes nothing.
 use Prim.Native.Nat.{ℕ, suc, _+_, _-_, _≤_, _<_}
 use mathlib.Core.Path.{_≡_, refl, ap, sym, _∙_, subst}
-use mathlib.Core.Bool.{Bool, true, false}
+use mathlib.Core.Bool.{Bool, true, false, true≢false}
 use mathlib.Core.List.{List, [], _∷_, _++_, append-assoc}
 use native.Mathlib.Omega.{arith}
 use native.Mathlib.Numerals.{add-one}
@@ -14,12 +14,15 @@ use borrow.Author.Tests.{ltb-true}
 use Rattle.spec.specs.declared.Settings.{Settings}
 use Rattle.spec.specs.declared.Plan.{Plan}
 use Rattle.spec.specs.declared.Way.{Way}
+use Rattle.spec.specs.declared.Way.the-variants.{Joint, Columns, Chain, Coarse}
 use Rattle.spec.specs.declared.Move.the-variants.{To, Nowhere}
 use Rattle.spec.specs.declared.Verdict.the-variants.{Accepted}
 use Rattle.spec.specs.Base.{if_then_else_}
 use Rattle.spec.specs.Frame.{Frame, frameOf, settingsIn}
 use Rattle.spec.specs.Checks.{Planned, SettingsLimits}
-use Rattle.spec.specs.Walk.{State, arrive, toIf, move, step, after, answers}
+use Rattle.spec.specs.Coarse.{blockCount, summary}
+use Rattle.spec.specs.Walk.{State, byBlocks, arrive, toIf, move, step, after, answers, start}
+use Rattle.spec.specs.Calls.{roomOf, boxOf, summaryOf, zeros}
 use Rattle.spec.proofs.Plans.{facts, pixel-of}
 use Rattle.spec.proofs.Steps.{after-one}
 use Rattle.spec.proofs.Walks.{StateBounded, bounded-start, bounded-step, step-to, step-nowhere}
@@ -27,10 +30,10 @@ use Rattle.histogram.specs.Histogram.{Blank}
 use Rattle.window.specs.Line.{Adjacent, right, left, down, up}
 use Rattle.visit.specs.declared.Visit.{Visit}
 use Rattle.visit.specs.Visit.{stateOf, Within}
-use Rattle.ways.specs.Visit.{Stores, StoresFit, KeptBeyond, RestKept, AtWindow, Visited}
+use Rattle.ways.specs.Visit.{Stores, StoresFit, KeptBeyond, RestKept, ownBox, AtWindow, Visited}
 use Rattle.ways.proofs.WayLaws.{settings-same, beyond-same}
 use Rattle.ice_step.specs.declared.Walked.{Walked}
-use Rattle.ice_step.specs.Finished.{Finished}
+use Rattle.ice_step.specs.Finished.{Closed, Finished}
 
 -- ---- the plan's settings are within document 01's limits
 pub settings-limits-in : {b : List ℕ} {z : Plan} → Planned b z → SettingsLimits (settingsIn z)
@@ -93,22 +96,22 @@ move-adjacent z s t b s′ t′ hs ht = by (eqb b 0) (eqb b 1) (eqb b 2) (eqb b 
 -- ---- one byte, from a visit x: it moves, or it stays
 module _ (way : Way) {b : List ℕ} {z : Plan} (k : Planned b z) (x : Visit) (byte : ℕ) (hs : List ℕ) (d : List ℤ) (v : Visit) where
   pub visited-moves : (a s : Stores) (column row : ℕ) → move (settingsIn z) (x .column) (x .row) byte ≡ To column row
-      → Visited way b (arrive (frameOf b) column row (x .cut .0) (x .shifts)) a s hs d v
-      → Visited way b (step (frameOf b) (stateOf x) byte) a s hs d v
+      → Visited way b (arrive way (frameOf b) column row (x .cut .0) (x .shifts)) a s hs d v
+      → Visited way b (step (frameOf b) (stateOf way x) byte) a s hs d v
   visited-moves a s column row e h =
       let m : move (frameOf b .set) (x .column) (x .row) byte ≡ To column row = rw (settings-same k) at e in
-      subst (λ (y : State). Visited way b y a s hs d v) (sym (step-to (frameOf b) (stateOf x) byte column row m)) h
+      subst (λ (y : State). Visited way b y a s hs d v) (sym (step-to (frameOf b) (stateOf way x) byte column row m)) h
 
   pub visited-stays : (s : Stores) (mark : ℕ) → move (settingsIn z) (x .column) (x .row) byte ≡ Nowhere mark → AtWindow way b s hs d v
-      → stateOf v ≡ record { column = x .column; row = x .row; cut = x .cut .0; shifts = x .shifts; answer = mark }
-      → Visited way b (step (frameOf b) (stateOf x) byte) s s hs d v
+      → stateOf way v ≡ record { way = way; column = x .column; row = x .row; cut = x .cut .0; shifts = x .shifts; answer = mark }
+      → Visited way b (step (frameOf b) (stateOf way x) byte) s s hs d v
   visited-stays s mark e h q =
       let m : move (frameOf b .set) (x .column) (x .row) byte ≡ Nowhere mark = rw (settings-same k) at e in
-      record { state = q ∙ sym (step-nowhere (frameOf b) (stateOf x) byte mark m); here = h; kept = kept-same way (frameOf b .set) s }
+      record { state = q ∙ sym (step-nowhere (frameOf b) (stateOf way x) byte mark m); here = h; kept = kept-same way (frameOf b .set) s }
 
 -- ---- a walk's state is within the plan
-pub within-of : {b : List ℕ} {z : Plan} → Planned b z → (v : Visit) (n : ℕ) → StateBounded (frameOf b) (stateOf v) n → n ≤ 1048577 → Within z v
-within-of {b} {z} k v n h l =
+pub within-of : (way : Way) {b : List ℕ} {z : Plan} → Planned b z → (v : Visit) (n : ℕ) → StateBounded (frameOf b) (stateOf way v) n → n ≤ 1048577 → Within z v
+within-of way {b} {z} k v n h l =
     let f = facts k in
     record {
       column = rw (f .width) (h .in-column);
@@ -118,17 +121,45 @@ within-of {b} {z} k v n h l =
     }
 
 -- ---- the first state of a walk that an accepted file makes
-pub held-first : {b : List ℕ} {z : Plan} → Planned b z → (s t : ℕ) (v : Visit) → s < z .width → t < z .height → stateOf v ≡ arrive (frameOf b) s t 0 0
-    → StateBounded (frameOf b) (stateOf v) 1
-held-first {b} k s t v hs ht e = subst (λ (q : State). StateBounded (frameOf b) q 1) (sym e) (bounded-start (pixel-of k hs ht))
+pub held-first : (way : Way) {b : List ℕ} {z : Plan} → Planned b z → (s t : ℕ) (v : Visit) → s < z .width → t < z .height
+    → stateOf way v ≡ start way (frameOf b) s t → StateBounded (frameOf b) (stateOf way v) 1
+held-first way {b} k s t v hs ht e = subst (λ (q : State). StateBounded (frameOf b) q 1) (sym e) (bounded-start (pixel-of k hs ht) way)
 
--- what a visit leaves, as a loop's result
-pub finished : {way : Way} {b : List ℕ} {x : State} {a z : Stores} {hs : List ℕ} {d : List ℤ} (v : Visit) (r : Walked) → Visited way b x a z hs d v →
-    r .verdict ≡ Accepted
-    → r .shifts ≡ v .shifts → r .cut .0 ≡ v .cut .0 → r .«balance_box» ≡ d → Finished way (frameOf b) x a z r
-finished {way} {b} {x} {a} {z} {hs} {d} v r h e s c k =
-    subst (λ (w : State). Finished way (frameOf b) w a z r) (h .state)
-    (record { verdict = e; shifts = s; cut = c; holds = rw k (h .here .holds); kept = h .kept })
+-- ---- the end of a loop: the result and the summary, by the rule that the way counts by
+module _ (p : Frame) (x : State) (before after : List ℤ) (r : Walked) (told : r .verdict ≡ Accepted) (shifts : r .shifts ≡ x .shifts)
+    (cut : r .cut .0 ≡ x .cut) where
+  pub closed-blocks : (way : Way) → byBlocks way ≡ true → r .«balance_box» ≡ zeros
+      → after ≡ summary p (x .column) (x .row) ++ drop (blockCount (p .set)) before → Closed way p x before after r
+  unfolding roomOf boxOf summaryOf
+  closed-blocks Joint e q m = absurd (true≢false (sym e))
+  closed-blocks Columns e q m = absurd (true≢false (sym e))
+  closed-blocks Chain e q m = absurd (true≢false (sym e))
+  closed-blocks Coarse e q m = record { verdict = told; shifts = shifts; cut = cut; balance-box = q; summary = m }
+
+  pub closed-levels : (way : Way) → byBlocks way ≡ false → r .«balance_box» ≡ ownBox way p (x .column) (x .row) (x .cut) → after ≡ before
+      → Closed way p x before after r
+  unfolding roomOf boxOf summaryOf ownBox
+  closed-levels Joint e q m = record { verdict = told; shifts = shifts; cut = cut; balance-box = q; summary = m }
+  closed-levels Columns e q m = record { verdict = told; shifts = shifts; cut = cut; balance-box = q; summary = m }
+  closed-levels Chain e q m = record { verdict = told; shifts = shifts; cut = cut; balance-box = q; summary = m }
+  closed-levels Coarse e q m = absurd (true≢false e)
+
+-- the room that the summary needs
+pub blocks-fit : (way : Way) → byBlocks way ≡ true → {b : List ℕ} {z : Plan} → Planned b z → (n : ℕ) → roomOf way (settingsIn z) .summary ≤ n
+    → blockCount (frameOf b .set) ≤ n
+unfolding roomOf
+blocks-fit Joint e k n h = absurd (true≢false (sym e))
+blocks-fit Columns e k n h = absurd (true≢false (sym e))
+blocks-fit Chain e k n h = absurd (true≢false (sym e))
+blocks-fit Coarse e k n h = subst (λ (q : Settings). blockCount q ≤ n) (settings-same k) h
+
+-- what a visit leaves, and the end made of it
+pub finished : {way : Way} {b : List ℕ} {x : State} {a z : Stores} {hs : List ℕ} {d s s′ : List ℤ} (v : Visit) (r : Walked)
+    → Visited way b x a z hs d v → Closed way (frameOf b) (stateOf way v) s s′ r
+    → Finished way (frameOf b) x (record { stores = a; summary = s }) (record { stores = z; summary = s′ }) r
+finished {way} {b} {x} {a} {z} {hs} {d} {s} {s′} v r h c =
+    subst (λ (w : State). Finished way (frameOf b) w (record { stores = a; summary = s }) (record { stores = z; summary = s′ }) r) (h .state)
+    (record { closed = c; holds = h .here .holds; kept = h .kept })
 
 -- ---- a list with one more byte
 pub answers-one : (p : Frame) (x : State) (bs : List ℕ) (b : ℕ) →
@@ -151,29 +182,29 @@ told-more front A A₀ i a n l e =
 pub record Going (way : Way) (b : List ℕ) (ms : List ℕ) (x : State) (a z : Stores) (hs : List ℕ) (d : List ℤ) (v : Visit) (i : ℕ) : Type 0 where
   pub most : i ≤ length ms
   pub visited : Visited way b (after (frameOf b) x (take i ms)) a z hs d v
-  pub held : StateBounded (frameOf b) (stateOf v) (1 + i)
+  pub held : StateBounded (frameOf b) (stateOf way v) (1 + i)
 
 module _ (way : Way) (b ms : List ℕ) where
-  pub going-start : (z : Stores) (hs : List ℕ) (d : List ℤ) (v : Visit) → AtWindow way b z hs d v → StateBounded (frameOf b) (stateOf v) 1 →
-      Going way b ms (stateOf v) z z hs d v 0
+  pub going-start : (z : Stores) (hs : List ℕ) (d : List ℤ) (v : Visit) → AtWindow way b z hs d v → StateBounded (frameOf b) (stateOf way v) 1 →
+      Going way b ms (stateOf way v) z z hs d v 0
   unfolding after
   going-start z hs d v h on =
       record { most = omega arith; visited = record { state = refl; here = h; kept = kept-same way (frameOf b .set) z }; held = on }
 
   pub going-more : (x : State) (a z : Stores) (hs : List ℕ) (d : List ℤ) (v : Visit) (i : ℕ) → Going way b ms x a z hs d v i → i < length ms →
       (byte : ℕ) → byte ≡ getD ms i 0
-      → (z′ : Stores) (hs′ : List ℕ) (d′ : List ℤ) (v′ : Visit) → Visited way b (step (frameOf b) (stateOf v) byte) z z′ hs′ d′ v′ →
+      → (z′ : Stores) (hs′ : List ℕ) (d′ : List ℤ) (v′ : Visit) → Visited way b (step (frameOf b) (stateOf way v) byte) z z′ hs′ d′ v′ →
       Going way b ms x a z′ hs′ d′ v′ (i + 1)
   going-more x a z hs d v i w l byte eb z′ hs′ d′ v′ h =
       let p = frameOf b in
-      let e : after p x (take (i + 1) ms) ≡ step p (stateOf v) byte =
+      let e : after p x (take (i + 1) ms) ≡ step p (stateOf way v) byte =
       rw (eb, add-one i, take-suc ms i 0 l)
       (after-one p x (take i ms) (getD ms i 0) ∙ ap (λ (q : State). step p q (getD ms i 0)) (sym (w .visited .state))) in
       let j : suc (1 + i) ≡ 1 + (i + 1) = omega arith in
       record {
         most = omega arith;
         visited = rw e (record { state = h .state; here = h .here; kept = kept-trans way _ a z z′ (w .visited .kept) (h .kept) });
-        held = subst (λ (n : ℕ). StateBounded p (stateOf v′) n) j
+        held = subst (λ (n : ℕ). StateBounded p (stateOf way v′) n) j
             (subst (λ (q : State). StateBounded p q (suc (1 + i))) (sym (h .state)) (bounded-step (w .held) byte));
       }
 

@@ -28,7 +28,7 @@ pub const BLOCK: usize = 16;
 // 0 in the first n places.
 pub fn clear(summary: &mut [i64], n: usize)
     requires { ⌜ n ≤ length (now summary) ⌝ }
-    ensures { λ _. ⌜ Cleared n (now (summary .entry)) (now (summary .exit)) ⌝ }
+    ensures { λ _. ⌜ Cleared n n (now (summary .entry)) (now (summary .exit)) ⌝ }
 {
     let mut k = 0;
     while k < n {

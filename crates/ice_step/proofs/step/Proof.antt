@@ -61,7 +61,7 @@ returns-2 c =
     let h = at .pre .1 .1 .1 in
     visited-stays _ (at .pre .0 .0) (at .args .visit) _ _ _ _ _ _
     (sym (c .before .before .before .before .before .next .ensures) ∙ c .before .before .before .m2 .given .1)
-    (record { holds = h .holds; carried = h .carried }) refl
+    (record { holds = h .holds; balance-box = h .balance-box; carried = h .carried }) refl
 
 pub step-spec : {M : Type 1} → statement M
 step-spec =

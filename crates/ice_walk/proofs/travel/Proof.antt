@@ -12,17 +12,18 @@ use Rattle.ice_walk.proofs.travel.Tie as tie
 use Rattle.ice_walk.proofs.travel.Reads as reads
 use Rattle.ice_walk.proofs.travel.Lts as lts
 use Rattle.ice_step.proofs.step.Reads as step-reads
+use Rattle.ice_step.proofs.finish.Reads as finish-reads
 use Rattle.spec.proofs.answer_number.Reads as answer-number-reads
 use Rattle.ways.proofs.dispatch.enter.Reads as enter-reads
 
 abbrev Inv-loop : tie.InvT-loop
-Inv-loop file plan way column row moves counts₀ words₀ numbers₀ answers₀ weights box₀ histogram₀ visit₀ i₀ counts words numbers answers box histogram
-    visit i =
-    Walking way file moves (stateOf visit₀) (stores counts₀ words₀ numbers₀) answers₀ (stores counts words numbers) answers histogram box visit i
+Inv-loop file plan way column row moves counts₀ words₀ numbers₀ summary answers₀ weights box₀ histogram₀ visit₀ i₀ counts words numbers answers box
+    histogram visit i =
+    Walking way file moves (stateOf way visit₀) (stores counts₀ words₀ numbers₀) answers₀ (stores counts words numbers) answers histogram box visit i
 
 abbrev μ-loop : tie.MeasureT-loop
-μ-loop file plan way column row moves counts₀ words₀ numbers₀ answers₀ weights box₀ histogram₀ visit₀ i₀ counts words numbers answers box histogram
-    visit i =
+μ-loop file plan way column row moves counts₀ words₀ numbers₀ summary answers₀ weights box₀ histogram₀ visit₀ i₀ counts words numbers answers box
+    histogram visit i =
     length moves - i
 
 -- the way back from the loop to the function's entry
@@ -48,7 +49,7 @@ enter-requires : tie.Need-enter-requires Inv-loop μ-loop
 enter-requires c κs =
     let at = c .before .before .before .before .before .before .before .before .before .before .before .before .before .before .before in (
       (at .pre .0 .0, c .before .before .before .before .before .before .before .built-rows .ensures, at .pre .0 .1),
-      (at .pre .1 .0, (at .pre .1 .1 .1 .0, (refl, histogram-blank (at .pre .0 .0)))),
+      (at .pre .1 .0, (at .pre .1 .1 .1 .0 .stores, (refl, histogram-blank (at .pre .0 .0)))),
     )
 
 answer-number-requires : tie.Need-answer-number-requires Inv-loop μ-loop
@@ -64,7 +65,7 @@ loop-holds c =
     let at = entry c in
     let v = c .before .before .before .before .before .before .before .enter in
     walking-start _ (at .args .file .now) _ _ (at .args .answers .now) _ _ _ (omega (arith, room c)) (v .ensures .here)
-    (held-first (at .pre .0 .0) _ _ (v .result) (at .pre .1 .0 .0) (at .pre .1 .0 .1) (v .ensures .state)) _ (c .answer-number .ensures)
+    (held-first _ (at .pre .0 .0) _ _ (v .result) (at .pre .1 .0 .0) (at .pre .1 .0 .1) (v .ensures .state)) _ (c .answer-number .ensures)
 
 slice-aggregate-step : tie.Need-slice-aggregate-step Inv-loop μ-loop
 slice-aggregate-step c = search needs
@@ -86,9 +87,9 @@ step-requires c κs =
         at .pre .0 .1,
       ),
       (
-        within-of (at .pre .0 .0) _ _ (w .held) (omega (arith, w .most, at .pre .1 .1 .0)),
+        within-of _ (at .pre .0 .0) _ _ (w .held) (omega (arith, w .most, at .pre .1 .1 .0)),
         (
-          fit-going _ (at .pre .0 .0) _ _ _ (at .pre .1 .1 .1 .0) (b .before .before .before .before .before .before .before .enter .ensures .kept)
+          fit-going _ (at .pre .0 .0) _ _ _ (at .pre .1 .1 .1 .0 .stores) (b .before .before .before .before .before .before .before .enter .ensures .kept)
               (w .visited .kept),
           w .visited .here,
         ),
@@ -152,37 +153,51 @@ loop-again c =
     )) (simp length-set (room (l .before))) _ _ _ _ (c .before .before .before .before .before .before .before .step .ensures) _
     (c .answer-number2 .ensures)
 
+finish-requires : tie.Need-finish-requires Inv-loop μ-loop
+unfolding entry
+finish-requires c κs =
+    let l = c .before .before in
+    let w = l .loop .inv .going in
+    let at = entry (l .before) in (
+      (at .pre .0 .0, within-of _ (at .pre .0 .0) _ _ (w .held) (omega (arith, w .most, at .pre .1 .1 .0))),
+      (w .visited .here .balance-box, at .pre .1 .1 .1 .0 .summary),
+    )
+
+-- from the end back to the loop, and to the first window
+abbrev looped : tie.After-summary Inv-loop μ-loop → tie.At-loop Inv-loop μ-loop
+looped c = c .before .before .before .before
+
+abbrev entered : tie.After-summary Inv-loop μ-loop → tie.After-enter Inv-loop μ-loop
+entered c = looped c .before .before .before .before .before .before .before .before
+
 same-length : tie.Need-same-length Inv-loop μ-loop
-same-length c =
-    c .before .before .loop .inv .going .visited .kept .counts .long ∙ c .before .before .before .before .before .before .before .before .before
-    .before .enter .ensures .kept .counts .long
+same-length c = looped c .loop .inv .going .visited .kept .counts .long ∙ entered c .enter .ensures .kept .counts .long
 
 same-length-2 : tie.Need-same-length-2 Inv-loop μ-loop
-same-length-2 c =
-    c .before .before .loop .inv .going .visited .kept .words .long ∙ c .before .before .before .before .before .before .before .before .before
-    .before .enter .ensures .kept .words .long
+same-length-2 c = looped c .loop .inv .going .visited .kept .words .long ∙ entered c .enter .ensures .kept .words .long
 
 same-length-3 : tie.Need-same-length-3 Inv-loop μ-loop
-same-length-3 c =
-    c .before .before .loop .inv .going .visited .kept .numbers .long ∙ c .before .before .before .before .before .before .before .before .before
-    .before .enter .ensures .kept .numbers .long
+same-length-3 c = looped c .loop .inv .going .visited .kept .numbers .long ∙ entered c .enter .ensures .kept .numbers .long
 
 same-length-4 : tie.Need-same-length-4 Inv-loop μ-loop
+same-length-4 c = search needs
+
+same-length-5 : tie.Need-same-length-5 Inv-loop μ-loop
 unfolding entry
-same-length-4 c =
-    let l = c .before .before in
+same-length-5 c =
+    let l = looped c in
     walking-long _ _ _ _ _ _ _ (l .loop .answers) _ _ _ (l .loop .i) (l .loop .inv) (simp length-set (room (l .before))) ∙ simp length-set
 
 returns : tie.Need-returns Inv-loop μ-loop
 unfolding entry
 returns c =
-    let l = c .before .before in
+    let l = looped c in
     let at = entry (l .before) in
-    let v = c .before .before .before .before .before .before .before .before .before .before .enter .ensures in
+    let v = entered c .enter .ensures in
     let q =
     walking-end _ (at .args .file .now) (at .args .moves .now) _ _ _ _ _ (at .args .answers .now) _ _ _ _ _ (l .loop .visit) (l .loop .i)
-    (l .loop .inv) (omega (arith, c .before .loop-test .left)) (v .state) (v .kept) _ refl in
-    (finished (l .loop .visit) _ (q .0) refl refl refl refl, q .1)
+    (l .loop .inv) (omega (arith, c .before .before .before .loop-test .left)) (v .state) (v .kept) _ refl in
+    (finished (l .loop .visit) _ (q .0) (c .before .finish .ensures), q .1)
 
 pub travel-spec : {M : Type 1} → statement M
 travel-spec =
@@ -206,8 +221,10 @@ travel-spec =
     slice-write-answers-2
     loop-less
     loop-again
+    finish-requires
     same-length
     same-length-2
     same-length-3
     same-length-4
+    same-length-5
     returns)

@@ -1,0 +1,188 @@
+-- `fill_by` meets its contract: after k turns the window's first k columns are in the blocks. Assumes nothing.
+use mathlib.Core.Path.{_≡_, _∙_, subst}
+use native.Mathlib.Omega.{arith}
+use borrow.Author.Needs.{needs}
+use Prim.Native.Nat.{ℕ, _+_, _-_, _≤_, _<_}
+use lib.ListN.{length, take, drop}
+use Rattle.spec.specs.Frame.{frameOf}
+use Rattle.spec.specs.Coarse.{blockCount}
+use Rattle.spec.proofs.Plans.{facts}
+use Rattle.window.proofs.PixelLaws.{plan-limits, levels-high}
+use Rattle.window.proofs.LineLaws.{column-in, span-in, span-high}
+use Rattle.pixels.specs.Pixels.{LinePixels}
+use Rattle.pixels.proofs.Laws.{line-part}
+use Rattle.summary.specs.Summary.{Cleared}
+use Rattle.summary.proofs.SummaryLaws.{cleared-count, ColumnsAdded, columns-start, list-asks, columns-next, columns-all}
+use Rattle.summary.proofs.fill_by.Statement.{statement}
+use Rattle.summary.proofs.fill_by.Tie as tie
+
+abbrev Inv-loop : tie.InvT-loop
+Inv-loop file plan weights formula s t summary₀ x n k₀ summary k =
+    (k ≤ n) × ColumnsAdded file plan s t x (blockCount (frameOf file .set)) k summary₀ summary
+
+abbrev μ-loop : tie.MeasureT-loop
+μ-loop file plan weights formula s t summary₀ x n k₀ summary k = n - k
+
+-- the places passed: the start, and the numbers cleared
+abbrev origin : tie.After-clear Inv-loop μ-loop → tie.Start Inv-loop μ-loop
+origin e = e .before .before .before .before .before
+
+abbrev zeros : tie.At-loop Inv-loop μ-loop → tie.After-clear Inv-loop μ-loop
+zeros h = h .before .before .before .before
+
+abbrev start : tie.At-loop Inv-loop μ-loop → tie.Start Inv-loop μ-loop
+start h = origin (zeros h)
+
+abbrev count : tie.Start Inv-loop μ-loop → ℕ
+count at = blockCount (frameOf (at .args .file .now) .set)
+
+-- the plan's levels are the frame's, so as many numbers are cleared as there are blocks
+cleared : (e : tie.After-clear Inv-loop μ-loop) → Cleared (count (origin e)) (count (origin e)) (origin e .args .summary .now) (e .clear .last .0)
+cleared e = cleared-count (e .clear .ensures) (omega (arith, facts (origin e .pre .0 .planned) .levels))
+
+room : (h : tie.At-loop Inv-loop μ-loop) → count (start h) ≤ length (zeros h .clear .last .0)
+room h = omega (arith, cleared (zeros h) .long, start h .pre .1)
+
+-- the column that a turn adds is in the picture, and the columns are few
+wide : (c : tie.In-loop Inv-loop μ-loop) → c .before .before .before .low .result + c .before .loop .k < (start (c .before)) .args .plan .width
+wide c =
+    let h = c .before in
+    let at = start h in
+    omega (
+      arith,
+      h .before .before .low .ensures,
+      span-in (at .args .plan .radius) (at .args .s) (at .args .plan .width) (h .loop .k)
+          (subst (λ (n : ℕ). h .loop .k < n) (h .before .span-of .ensures) (c .loop-test .taken)),
+    )
+
+few : (c : tie.In-loop Inv-loop μ-loop) → c .before .loop .k < 31
+few c =
+    let h = c .before in
+    let at = start h in
+    omega (
+      arith,
+      c .loop-test .taken,
+      span-high (at .args .plan .radius) (at .args .s) (at .args .plan .width)
+          (plan-limits (at .pre .0 .planned) .radius),
+      h .before .span-of .ensures,
+    )
+
+-- the turn, its column, and the list that the column was read into
+abbrev line : tie.After-read Inv-loop μ-loop → tie.After-column-line Inv-loop μ-loop
+line r = r .before .before
+
+abbrev turn : tie.After-read Inv-loop μ-loop → tie.In-loop Inv-loop μ-loop
+turn r = r .before .before .before
+
+abbrev list : tie.After-add-pixels Inv-loop μ-loop → tie.After-read Inv-loop μ-loop
+list e = e .before .before .before .before .before
+
+listed : (r : tie.After-read Inv-loop μ-loop) → let at =
+    start (turn r .before) in LinePixels (at .args .file .now) (at .args .plan) (line r .column-line .result)
+    (take (r .read .result - 0) (drop 0 (r .read .last .1 .1 .1 .0)))
+listed r = line-part (r .read .result) (r .read .last .1 .1 .1 .0) (r .read .ensures .1)
+
+sub-clear : tie.Need-sub-clear Inv-loop μ-loop
+sub-clear c = omega arith
+
+add-clear : tie.Need-add-clear Inv-loop μ-loop
+add-clear c = let at = c .before .before .before .before in omega (arith, levels-high (at .pre .0 .planned))
+
+clear-requires : tie.Need-clear-requires Inv-loop μ-loop
+clear-requires c κs = let at = c .before .before .before .before in omega (arith, facts (at .pre .0 .planned) .levels, at .pre .1)
+
+low-requires : tie.Need-low-requires Inv-loop μ-loop
+low-requires c κs = tt
+
+span-of-requires : tie.Need-span-of-requires Inv-loop μ-loop
+span-of-requires c κs = let at =
+    origin (c .before .before) in (at .pre .0 .column, plan-limits (at .pre .0 .planned) .width, plan-limits (at .pre .0 .planned) .radius)
+
+loop-holds : tie.Need-loop-holds Inv-loop μ-loop
+loop-holds c =
+    let e = c .before .before .before in
+    let at = origin e in
+    (omega arith, columns-start (at .args .file .now) (at .args .plan) (at .args .s) (at .args .t) (c .before .low .result) (cleared e))
+
+add-column-line : tie.Need-add-column-line Inv-loop μ-loop
+add-column-line c = let at = start (c .before) in omega (arith, wide c, plan-limits (at .pre .0 .planned) .width)
+
+column-line-requires : tie.Need-column-line-requires Inv-loop μ-loop
+column-line-requires c κs = let at = start (c .before) in let l =
+    plan-limits (at .pre .0 .planned) in (l, (omega (arith, wide c, l .width), at .pre .0 .row))
+
+slice-aggregate-read : tie.Need-slice-aggregate-read Inv-loop μ-loop
+slice-aggregate-read c = search needs
+
+read-requires : tie.Need-read-requires Inv-loop μ-loop
+read-requires c κs =
+    let at = start (c .before .before .before) in
+    let pl = at .pre .0 .planned in
+    (pl, rw (c .before .column-line .ensures) (column-in (plan-limits pl) _ (at .args .t) (wide (c .before .before))), omega arith)
+
+sub-add-pixels : tie.Need-sub-add-pixels Inv-loop μ-loop
+sub-add-pixels c = search needs
+
+part-add-pixels-start : tie.Need-part-add-pixels-start Inv-loop μ-loop
+part-add-pixels-start c = search needs
+
+part-add-pixels-end : tie.Need-part-add-pixels-end Inv-loop μ-loop
+part-add-pixels-end c = search needs
+
+add-pixels-requires : tie.Need-add-pixels-requires Inv-loop μ-loop
+add-pixels-requires c κs =
+    let r = c .before .before .before .before in
+    let h = turn r .before in
+    list-asks (start h .pre .0) (listed r) (h .loop .inv .1) (room h) (few (turn r))
+
+add-k : tie.Need-add-k Inv-loop μ-loop
+add-k c = omega (arith, few (turn (list (c .before))))
+
+loop-less : tie.Need-loop-less Inv-loop μ-loop
+loop-less c = omega (arith, turn (list (c .before)) .loop-test .taken)
+
+loop-again : tie.Need-loop-again Inv-loop μ-loop
+loop-again c =
+    let e = c .before in
+    let r = list e in
+    let h = turn r .before in (
+      omega (arith, turn r .loop-test .taken),
+      columns-next (start h .pre .0) (listed r) (h .loop .inv .1) (line r .column-line .ensures) (e .add-pixels .ensures),
+    )
+
+same-length : tie.Need-same-length Inv-loop μ-loop
+same-length c = let h = c .before in h .loop .inv .1 .long ∙ cleared (zeros h) .long
+
+returns : tie.Need-returns Inv-loop μ-loop
+returns c =
+    let h = c .before in
+    let at = start h in
+    let done : h .loop .k ≡ h .before .span-of .result = omega (arith, h .loop .inv .0, c .loop-test .left) in
+    columns-all (at .pre .0) (at .pre .1) (cleared (zeros h)) (h .before .before .low .ensures) (done ∙ h .before .span-of .ensures)
+    (h .loop .inv .1)
+
+pub fill-by-spec : {M : Type 1} → statement M
+fill-by-spec =
+    tie.close
+    (tie.spec
+    Inv-loop
+    μ-loop
+    sub-clear
+    add-clear
+    clear-requires
+    low-requires
+    span-of-requires
+    loop-holds
+    add-column-line
+    column-line-requires
+    slice-aggregate-read
+    read-requires
+    sub-add-pixels
+    part-add-pixels-start
+    part-add-pixels-end
+    add-pixels-requires
+    add-k
+    loop-less
+    loop-again
+    same-length
+    returns)

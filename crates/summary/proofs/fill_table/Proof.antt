@@ -1,0 +1,56 @@
+-- `fill_table` meets its contract. Assumes nothing.
+use borrow.Author.Needs.{needs}
+use native.Mathlib.Omega.{arith}
+use Rattle.window.proofs.PixelLaws.{place-small}
+use Rattle.joint_rows.proofs.RowLaws.{centre-place, centre-low, row-weighs}
+use Rattle.balance.proofs.BalanceLaws.{row-formula}
+use Rattle.summary.proofs.fill_table.Statement.{statement}
+use Rattle.summary.proofs.fill_table.Tie as tie
+
+mul-guide-at : tie.Need-mul-guide-at
+mul-guide-at c = let a = c .before .before .pre .0 in omega (arith, place-small (a .0) (centre-place (a .0) (a .2) (a .3)))
+
+add-guide-at : tie.Need-add-guide-at
+add-guide-at c = let a = c .before .before .pre .0 in omega (arith, place-small (a .0) (centre-place (a .0) (a .2) (a .3)))
+
+guide-at-requires : tie.Need-guide-at-requires
+guide-at-requires c κs = let a = c .before .before .pre .0 in (a .0, centre-place (a .0) (a .2) (a .3))
+
+table-row-requires : tie.Need-table-row-requires
+table-row-requires c κs = let a = c .before .before .before .pre .0 in (a .0, centre-low (a .0) (a .2) (a .3) (c .guide-at .ensures))
+
+slice-aggregate-fill-by : tie.Need-slice-aggregate-fill-by
+slice-aggregate-fill-by c = search needs
+
+fill-by-requires : tie.Need-fill-by-requires
+fill-by-requires c κs =
+    let r = c .before .before in
+    let at = r .before .before .before .before in
+    let a = at .pre .0 in (
+      record {
+        planned = a .0;
+        column = a .2;
+        row = a .3;
+        weighs = row-formula (row-weighs (a .0) (a .2) (a .3) (r .before .guide-at .ensures) (a .1) (r .table-row .ensures));
+      },
+      at .pre .1,
+    )
+
+same-length : tie.Need-same-length
+same-length c = search needs
+
+returns : tie.Need-returns
+returns c = search needs
+
+pub fill-table-spec : {M : Type 1} → statement M
+fill-table-spec =
+    tie.close
+    (tie.spec
+    mul-guide-at
+    add-guide-at
+    guide-at-requires
+    table-row-requires
+    slice-aggregate-fill-by
+    fill-by-requires
+    same-length
+    returns)
