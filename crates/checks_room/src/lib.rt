@@ -30,9 +30,11 @@ fn joint_room(plan: Plan, blocks: usize) -> Room
 {
     let l = plan.levels;
     let m = plan.guides;
+    let counts = l * m;
+    let words = l * ((m + 63) / 64);
     Room {
-        counts: l * m,
-        words: l * ((m + 63) / 64),
+        counts,
+        words,
         numbers: 0,
         summary: blocks,
     }
@@ -56,12 +58,15 @@ fn needed(way: Way, plan: Plan) -> Room
     ensures { λ r. ⌜ r ≡ roomOf way (settingsIn plan) ⌝ }
 {
     let l = plan.levels;
+    let columns = 2 * (plan.width * l) + 2 * l;
     let side = 2 * plan.radius + 1;
+    let nodes = 1 + 4 * (side * side);
+    let blocks = (l + 15) / 16;
     match way {
         Way::Joint => joint_room(plan, 0),
-        Way::Columns => numbers_room(2 * (plan.width * l) + 2 * l),
-        Way::Chain => numbers_room(1 + 4 * (side * side)),
-        Way::Coarse => joint_room(plan, (l + 15) / 16),
+        Way::Columns => numbers_room(columns),
+        Way::Chain => numbers_room(nodes),
+        Way::Coarse => joint_room(plan, blocks),
     }
 }
 

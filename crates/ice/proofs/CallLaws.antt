@@ -11,22 +11,21 @@ use Rattle.spec.specs.declared.Settings.{Settings}
 use Rattle.spec.specs.declared.Plan.{Plan}
 use Rattle.spec.specs.declared.Verdict.{Verdict}
 use Rattle.spec.specs.declared.Way.{Way}
-use Rattle.spec.specs.declared.Way.the-variants.{Joint}
 use Rattle.spec.specs.Refusal.{Outcome, accepted, fires, numbered, _▷_}
 use Rattle.spec.specs.Frame.{Frame, settingsOf, pixels, frameOf, settingsIn}
 use Rattle.spec.specs.Checks.{verdict, Planned}
 use Rattle.spec.specs.Walk.{State, walkEnd, walkAnswers}
 use Rattle.spec.specs.Filter.{filtered, filterEnd}
 use Rattle.spec.specs.Median.{balance}
-use Rattle.spec.specs.Calls.{wayOf, roomOf, countsOf, wordsOf, walkOutcome, filterOutcome, balanceOutcome}
+use Rattle.spec.specs.Calls.{wayOf, BothKinds, roomOf, countsOf, wordsOf, walkOutcome, filterOutcome, balanceOutcome}
 use Rattle.spec.proofs.Plans.{facts}
 use Rattle.spec.proofs.Calls.{way-serves, RoomFits, walk-accepted, filter-accepted, balance-accepted}
 use Rattle.frame.specs.declared.plan.Opened.{Opened}
 use Rattle.frame.specs.Plan.{openedPlan}
 use Rattle.ice_step.specs.declared.Walked.{Walked}
 use Rattle.ice.specs.declared.Balanced.{Balanced}
-use Rattle.ways.specs.Visit.{Stores, lent, StoresFit, Serves}
-use Rattle.ice_step.specs.Finished.{Finished}
+use Rattle.ways.specs.Visit.{Serves}
+use Rattle.ice_step.specs.Finished.{Lent, roomIn, LentFits, Finished}
 use Rattle.ice.specs.Result.{Zeroed}
 use Rattle.ice.specs.Contract.{Untouched, Ended, Walks, Filters, Balances}
 use Rattle.ways.proofs.WayLaws.{settings-same}
@@ -50,17 +49,26 @@ own-decides {b} {z} k own =
     ap own (settings-same k ∙ set-of b) ∙ sym (ap (λ (o : Outcome). o ▷ own (settingsOf b)) (k .accepts))
 
 -- ---- refused
-untouched : {v : Verdict} {r : Walked} (a : Stores) (out : List ℕ) → Zeroed v r → Untouched a a out out r
+untouched : {v : Verdict} {r : Walked} (a : Lent) (out : List ℕ) → Zeroed v r → Untouched a a out out r
 untouched a out h =
-    record { shifts = h .shifts; cut = h .cut; balance-box = h .balance-box; counts = refl; words = refl; numbers = refl; answers = refl }
+    record {
+      shifts = h .shifts;
+      cut = h .cut;
+      balance-box = h .balance-box;
+      counts = refl;
+      words = refl;
+      numbers = refl;
+      summary = refl;
+      answers = refl;
+    }
 
-module _ (v : Verdict) (r : Walked) (h : Zeroed v r) (f : fires (numbered v) ≡ true) (a : Stores) (out : List ℕ) where
-  pub walks-refused : (b : List ℕ) (way s t : ℕ) (ms : List ℕ) → numbered v ≡ walkOutcome b way s t (length ms) (lent a) (length out) →
+module _ (v : Verdict) (r : Walked) (h : Zeroed v r) (f : fires (numbered v) ≡ true) (a : Lent) (out : List ℕ) where
+  pub walks-refused : (b : List ℕ) (way s t : ℕ) (ms : List ℕ) → numbered v ≡ walkOutcome b way s t (length ms) (roomIn a) (length out) →
       Walks b way s t ms a a out out r
   walks-refused b way s t ms e =
       record { verdict = ap numbered (h .verdict) ∙ e; refused = λ _. untouched a out h; walked = λ q. absurd (fires-not (numbered v) f (e ∙ q)) }
 
-  pub filters-refused : (b : List ℕ) (way : ℕ) → numbered v ≡ filterOutcome b way (lent a) (length out) → Filters b way a a out out r
+  pub filters-refused : (b : List ℕ) (way : ℕ) → numbered v ≡ filterOutcome b way (roomIn a) (length out) → Filters b way a a out out r
   filters-refused b way e =
       record { verdict = ap numbered (h .verdict) ∙ e; refused = λ _. untouched a out h; filtered = λ q. absurd (fires-not (numbered v) f (e ∙ q)) }
 
@@ -68,75 +76,77 @@ module _ (v : Verdict) (r : Walked) (h : Zeroed v r) (f : fires (numbered v) ≡
 whole : (n : ℕ) (front z a : List ℕ) → take n z ≡ front → drop n z ≡ drop n a → z ≡ front ++ drop n a
 whole n front z a e q = sym (take-append-drop n z) ∙ ap₂ (λ (x y : List ℕ). x ++ y) e q
 
-ended : {way : Way} {p : Frame} {x : State} {a z : Stores} {r : Walked} (due after : List ℕ) → Finished way p x a z r → after ≡ due →
+ended : {way : Way} {p : Frame} {x : State} {a z : Lent} {r : Walked} (due after : List ℕ) → Finished way p x a z r → after ≡ due →
     Ended way p x a z due after r
 ended {way} {p} {x} {a} {z} due after h e =
     record {
-      shifts = h .shifts;
-      cut = h .cut;
-      balance-box = h .holds .balance-box;
+      shifts = h .closed .shifts;
+      cut = h .closed .cut;
+      balance-box = h .closed .balance-box;
       counts =
-          whole (roomOf way (p .set) .counts) (countsOf way p (x .column) (x .row)) (z .counts) (a .counts) (h .holds .counts)
+          whole (roomOf way (p .set) .counts) (countsOf way p (x .column) (x .row)) (z .stores .counts) (a .stores .counts) (h .holds .counts)
           (h .kept .counts .beyond);
       words =
-          whole (roomOf way (p .set) .words) (wordsOf way p (x .column) (x .row)) (z .words) (a .words) (h .holds .words) (h .kept .words .beyond);
+          whole (roomOf way (p .set) .words) (wordsOf way p (x .column) (x .row)) (z .stores .words) (a .stores .words) (h .holds .words)
+          (h .kept .words .beyond);
       numbers = h .holds .numbers;
       numbers-long = h .kept .numbers .long;
       numbers-rest = h .kept .numbers .beyond;
+      summary = h .closed .summary;
       answers = e;
     }
 
-module _ (b : List ℕ) (way : ℕ) (y : Way) (ey : y ≡ wayOf way) (a z : Stores) (before after : List ℕ) (r : Walked) where
-  pub walks-done : (s t : ℕ) (ms : List ℕ) → walkOutcome b way s t (length ms) (lent a) (length before) ≡ accepted
-      → Finished y (frameOf b) (walkEnd (frameOf b) s t ms) a z r → after ≡ walkAnswers (frameOf b) s t ms ++ drop (length ms + 1) before
+module _ (b : List ℕ) (way : ℕ) (y : Way) (ey : y ≡ wayOf way) (a z : Lent) (before after : List ℕ) (r : Walked) where
+  pub walks-done : (s t : ℕ) (ms : List ℕ) → walkOutcome b way s t (length ms) (roomIn a) (length before) ≡ accepted
+      → Finished y (frameOf b) (walkEnd y (frameOf b) s t ms) a z r → after ≡ walkAnswers (frameOf b) s t ms ++ drop (length ms + 1) before
       → Walks b way s t ms a z before after r
   walks-done s t ms o h e =
       record {
-        verdict = ap numbered (h .verdict) ∙ sym o;
+        verdict = ap numbered (h .closed .verdict) ∙ sym o;
         refused = λ n. absurd (n o);
         walked =
             λ _. subst
-            (λ (q : Way). Ended q (frameOf b) (walkEnd (frameOf b) s t ms) a z (walkAnswers (frameOf b) s t ms ++ drop (length ms + 1) before) after
+            (λ (q : Way). Ended q (frameOf b) (walkEnd q (frameOf b) s t ms) a z (walkAnswers (frameOf b) s t ms ++ drop (length ms + 1) before) after
             r) ey (ended _ _ h e);
       }
 
-  pub filters-done : filterOutcome b way (lent a) (length before) ≡ accepted → Finished y (frameOf b) (filterEnd (frameOf b)) a z r
+  pub filters-done : filterOutcome b way (roomIn a) (length before) ≡ accepted → Finished y (frameOf b) (filterEnd y (frameOf b)) a z r
       → after ≡ filtered (frameOf b) ++ drop (pixels (frameOf b .set)) before → Filters b way a z before after r
   filters-done o h e =
       record {
-        verdict = ap numbered (h .verdict) ∙ sym o;
+        verdict = ap numbered (h .closed .verdict) ∙ sym o;
         refused = λ n. absurd (n o);
         filtered =
             λ _. subst
-            (λ (q : Way). Ended q (frameOf b) (filterEnd (frameOf b)) a z (filtered (frameOf b) ++ drop (pixels (frameOf b .set)) before) after r) ey
+            (λ (q : Way). Ended q (frameOf b) (filterEnd q (frameOf b)) a z (filtered (frameOf b) ++ drop (pixels (frameOf b .set)) before) after r) ey
             (ended _ _ h e);
       }
 
 -- ---- what an accepted call hands on
 module _ {b : List ℕ} {z : Plan} (k : Planned b z) (way : ℕ) (y : Way) (ey : y ≡ wayOf way) where
-  serves-by : (wayOf way ≡ Joint) ⊎ (settingsOf b .kind ≡ 2) → Serves y z
-  serves-by (inl e) = inl (ey ∙ e)
+  serves-by : BothKinds (wayOf way) ⊎ (settingsOf b .kind ≡ 2) → Serves y z
+  serves-by (inl e) = inl (subst BothKinds (sym ey) e)
   serves-by (inr e) = inr (facts k .kind ∙ ap (λ (s : Settings). s .kind) (set-of b) ∙ e)
 
-  fits-by : (a : Stores) → RoomFits (roomOf (wayOf way) (settingsOf b)) (lent a) → StoresFit y (settingsIn z) a
+  fits-by : (a : Lent) → RoomFits (roomOf (wayOf way) (settingsOf b)) (roomIn a) → LentFits y (settingsIn z) a
   fits-by a f =
       let e : settingsOf b ≡ settingsIn z = sym (settings-same k ∙ set-of b) in
-      let g : RoomFits (roomOf y (settingsIn z)) (lent a) =
-      subst (λ (q : Way). RoomFits (roomOf q (settingsIn z)) (lent a)) (sym ey)
-      (subst (λ (s : Settings). RoomFits (roomOf (wayOf way) s) (lent a)) e f)
+      let g : RoomFits (roomOf y (settingsIn z)) (roomIn a) =
+      subst (λ (q : Way). RoomFits (roomOf q (settingsIn z)) (roomIn a)) (sym ey)
+      (subst (λ (s : Settings). RoomFits (roomOf (wayOf way) s) (roomIn a)) e f)
       in
-      record { counts = g .counts; words = g .words; numbers = g .numbers }
+      record { stores = record { counts = g .counts; words = g .words; numbers = g .numbers }; summary = g .summary }
 
-  pub record Granted (s t n : ℕ) (a : Stores) (out : ℕ) : Type 0 where
+  pub record Granted (s t n : ℕ) (a : Lent) (out : ℕ) : Type 0 where
     pub serves : Serves y z
     pub pixel : (s < z .width) × (t < z .height)
     pub moves : n ≤ 1048576
-    pub fit : StoresFit y (settingsIn z) a
+    pub fit : LentFits y (settingsIn z) a
     pub answers : n + 1 ≤ out
 
-  pub granted : (s t n : ℕ) (a : Stores) (out : ℕ) → walkOutcome b way s t n (lent a) out ≡ accepted → Granted s t n a out
+  pub granted : (s t n : ℕ) (a : Lent) (out : ℕ) → walkOutcome b way s t n (roomIn a) out ≡ accepted → Granted s t n a out
   granted s t n a out o =
-      let h = walk-accepted b way s t n (lent a) out o in
+      let h = walk-accepted b way s t n (roomIn a) out o in
       let f = facts k in
       record {
         serves = serves-by (way-serves (settingsOf b) way (h .serves));
@@ -146,14 +156,14 @@ module _ {b : List ℕ} {z : Plan} (k : Planned b z) (way : ℕ) (y : Way) (ey :
         answers = h .answers;
       }
 
-  pub record FilterGranted (a : Stores) (out : ℕ) : Type 0 where
+  pub record FilterGranted (a : Lent) (out : ℕ) : Type 0 where
     pub serves : Serves y z
-    pub fit : StoresFit y (settingsIn z) a
+    pub fit : LentFits y (settingsIn z) a
     pub plane : z .width * z .height ≤ out
 
-  pub filter-granted : (a : Stores) (out : ℕ) → filterOutcome b way (lent a) out ≡ accepted → FilterGranted a out
+  pub filter-granted : (a : Lent) (out : ℕ) → filterOutcome b way (roomIn a) out ≡ accepted → FilterGranted a out
   filter-granted a out o =
-      let h = filter-accepted b way (lent a) out o in
+      let h = filter-accepted b way (roomIn a) out o in
       let f = facts k in
       record {
         serves = serves-by (way-serves (settingsOf b) way (h .serves));

@@ -18,5 +18,9 @@ returns-3 : tie.Need-returns-3
 unfolding lacks
 returns-3 c = search (needs, eq-eqb, ne-eqb, lt-ltb, le-ltb)
 
+returns-4 : tie.Need-returns-4
+unfolding lacks
+returns-4 c = search (needs, eq-eqb, ne-eqb, lt-ltb, le-ltb)
+
 pub lacking-spec : {M : Type 1} → statement M
-lacking-spec = tie.close (tie.spec returns returns-2 returns-3)
+lacking-spec = tie.close (tie.spec returns returns-2 returns-3 returns-4)

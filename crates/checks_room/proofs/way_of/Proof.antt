@@ -18,5 +18,9 @@ returns-3 : tie.Need-returns-3
 unfolding wayOf
 returns-3 c = search (needs, eq-eqb, ne-eqb, lt-ltb, le-ltb)
 
+returns-4 : tie.Need-returns-4
+unfolding wayOf
+returns-4 c = search (needs, eq-eqb, ne-eqb, lt-ltb, le-ltb)
+
 pub way-of-spec : {M : Type 1} → statement M
-way-of-spec = tie.close (tie.spec returns returns-2 returns-3)
+way-of-spec = tie.close (tie.spec returns returns-2 returns-3 returns-4)

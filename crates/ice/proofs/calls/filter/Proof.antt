@@ -5,7 +5,7 @@ use Rattle.spec.specs.Refusal.{Outcome, accepted, numbered}
 use Rattle.spec.specs.Frame.{settingsOf}
 use Rattle.spec.specs.Checks.{Planned}
 use Rattle.spec.specs.Calls.{filterChecks, filterOutcome}
-use Rattle.ways.specs.Visit.{Stores, stores, lent}
+use Rattle.ice_step.specs.Finished.{Lent, lent, roomIn}
 use Rattle.checks.proofs.Laws.{known}
 use Rattle.ice.proofs.OutcomeLaws.{quiet}
 use Rattle.ice_step.proofs.Laws.{settings-limits-in}
@@ -22,11 +22,11 @@ use Rattle.ice.proofs.calls.refused.Reads as refused-reads
 use Rattle.checks.proofs.filter_verdict.Reads as filter-verdict-reads
 use Rattle.checks_room.proofs.way_of.Reads as way-of-reads
 
-abbrev held : tie.Start → Stores
-held at = stores (at .args .counts .now) (at .args .words .now) (at .args .numbers .now)
+abbrev held : tie.Start → Lent
+held at = lent (at .args .counts .now) (at .args .words .now) (at .args .numbers .now) (at .args .summary .now)
 
 abbrev own : tie.Start → Settings → Outcome
-own at k = filterChecks k (at .args .way) (lent (held at)) (length (at .args .output .now))
+own at k = filterChecks k (at .args .way) (roomIn (held at)) (length (at .args .output .now))
 
 open-plan-requires : tie.Need-open-plan-requires
 open-plan-requires c κs = search needs
@@ -73,6 +73,10 @@ returns-2 c =
 way-of-requires : tie.Need-way-of-requires
 way-of-requires c κs = search needs
 
+-- from the call back to the start
+abbrev start-of : tie.After-sweep-arg4 → tie.Start
+start-of c = c .before .before .before .before .before .before .before .before .before .before .before .before .before .before .before .before .before
+
 -- where all checks have passed: the plan is the file's, and the outcome is accepted
 plan-at : (c : tie.After-sweep-arg4) →
     Planned
@@ -86,7 +90,7 @@ plan-at c =
 
 outcome-at : (c : tie.After-sweep-arg4) → let at =
     c .before .before .before .before .before .before .before .before .before .before .before .before .before .before .before .before .before in
-    filterOutcome (at .args .file .now) (at .args .way) (lent (held at)) (length (at .args .output .now)) ≡ accepted
+    filterOutcome (at .args .file .now) (at .args .way) (roomIn (held at)) (length (at .args .output .now)) ≡ accepted
 unfolding filterOutcome
 outcome-at c =
     sym
@@ -99,10 +103,9 @@ outcome-at c =
 
 sweep-requires : tie.Need-sweep-requires
 sweep-requires c κs =
-    let at =
-    c .before .before .before .before .before .before .before .before .before .before .before .before .before .before .before .before .before in
-    let k = plan-at c in
-    let g = filter-granted k _ _ (c .before .before .before .before .way-of .ensures) (held at) _ (outcome-at c) in
+    let d = c .before in
+    let k = plan-at d in
+    let g = filter-granted k _ _ (d .before .before .before .before .way-of .ensures) (held (start-of d)) _ (outcome-at d) in
     ((k, g .serves), (g .fit, g .plane))
 
 same-length : tie.Need-same-length
@@ -117,14 +120,16 @@ same-length-3 c = search needs
 same-length-4 : tie.Need-same-length-4
 same-length-4 c = search needs
 
+same-length-5 : tie.Need-same-length-5
+same-length-5 c = search needs
+
 returns-3 : tie.Need-returns-3
 returns-3 c =
-    let d = c .before .before .before .before .before .before .before .before .before in
-    let at =
-    c .before .before .before .before .before .before .before .before .before .before .before .before .before .before .before .before .before
-    .before .before .before .before .before .before .before .before .before in
-    let h = c .before .before .before .before .before .before .before .before .sweep .ensures in
-    filters-done _ _ _ (d .before .before .before .before .way-of .ensures) (held at) _ (at .args .output .now) _ _ (outcome-at d) (h .0) (h .1)
+    let t = c .before .before .before .before .before .before .before .before .before in
+    let d = t .before .before in
+    let at = start-of d in
+    filters-done _ _ _ (d .before .before .before .before .way-of .ensures) (held at) _ (at .args .output .now) _ _ (outcome-at d)
+    (t .sweep .ensures .0) (t .sweep .ensures .1)
 
 pub filter-spec : {M : Type 1} → statement M
 filter-spec =
@@ -144,4 +149,5 @@ filter-spec =
     same-length-2
     same-length-3
     same-length-4
+    same-length-5
     returns-3)

@@ -5,7 +5,7 @@ use Rattle.spec.specs.Refusal.{Outcome, accepted, numbered}
 use Rattle.spec.specs.Frame.{settingsOf}
 use Rattle.spec.specs.Checks.{Planned}
 use Rattle.spec.specs.Calls.{walkChecks, walkOutcome}
-use Rattle.ways.specs.Visit.{Stores, stores, lent}
+use Rattle.ice_step.specs.Finished.{Lent, lent, roomIn}
 use Rattle.checks.proofs.Laws.{known}
 use Rattle.ice.proofs.OutcomeLaws.{quiet}
 use Rattle.ice_step.proofs.Laws.{settings-limits-in}
@@ -22,12 +22,12 @@ use Rattle.ice_walk.proofs.travel.Reads as travel-reads
 use Rattle.checks.proofs.walk_verdict.Reads as walk-verdict-reads
 use Rattle.checks_room.proofs.way_of.Reads as way-of-reads
 
-abbrev held : tie.Start → Stores
-held at = stores (at .args .counts .now) (at .args .words .now) (at .args .numbers .now)
+abbrev held : tie.Start → Lent
+held at = lent (at .args .counts .now) (at .args .words .now) (at .args .numbers .now) (at .args .summary .now)
 
 abbrev own : tie.Start → Settings → Outcome
 own at k =
-    walkChecks k (at .args .way) (at .args .column) (at .args .row) (length (at .args .moves .now)) (lent (held at)) (length (at .args .answers .now))
+    walkChecks k (at .args .way) (at .args .column) (at .args .row) (length (at .args .moves .now)) (roomIn (held at)) (length (at .args .answers .now))
 
 open-plan-requires : tie.Need-open-plan-requires
 open-plan-requires c κs = search needs
@@ -74,6 +74,10 @@ returns-2 c =
 way-of-requires : tie.Need-way-of-requires
 way-of-requires c κs = search needs
 
+-- from the call back to the start
+abbrev start-of : tie.After-travel-arg4 → tie.Start
+start-of c = c .before .before .before .before .before .before .before .before .before .before .before .before .before .before .before .before .before .before
+
 -- where all checks have passed: the plan is the file's, and the outcome is accepted
 plan-at : (c : tie.After-travel-arg4) →
     Planned
@@ -87,7 +91,7 @@ plan-at c =
 
 outcome-at : (c : tie.After-travel-arg4) → let at =
     c .before .before .before .before .before .before .before .before .before .before .before .before .before .before .before .before .before .before
-    in walkOutcome (at .args .file .now) (at .args .way) (at .args .column) (at .args .row) (length (at .args .moves .now)) (lent (held at))
+    in walkOutcome (at .args .file .now) (at .args .way) (at .args .column) (at .args .row) (length (at .args .moves .now)) (roomIn (held at))
     (length (at .args .answers .now)) ≡ accepted
 unfolding walkOutcome
 outcome-at c =
@@ -101,11 +105,10 @@ outcome-at c =
 
 travel-requires : tie.Need-travel-requires
 travel-requires c κs =
-    let at =
-    c .before .before .before .before .before .before .before .before .before .before .before .before .before .before .before .before .before
-    .before in
-    let k = plan-at c in
-    let g = granted k _ _ (c .before .before .before .before .way-of .ensures) _ _ _ (held at) _ (outcome-at c) in
+    let d = c .before in
+    let at = start-of d in
+    let k = plan-at d in
+    let g = granted k _ _ (d .before .before .before .before .way-of .ensures) _ _ _ (held at) _ (outcome-at d) in
     ((k, g .serves), (g .pixel, (g .moves, (g .fit, g .answers))))
 
 same-length : tie.Need-same-length
@@ -120,15 +123,16 @@ same-length-3 c = search needs
 same-length-4 : tie.Need-same-length-4
 same-length-4 c = search needs
 
+same-length-5 : tie.Need-same-length-5
+same-length-5 c = search needs
+
 returns-3 : tie.Need-returns-3
 returns-3 c =
-    let d = c .before .before .before .before .before .before .before .before .before in
-    let at =
-    c .before .before .before .before .before .before .before .before .before .before .before .before .before .before .before .before .before
-    .before .before .before .before .before .before .before .before .before .before in
-    let h = c .before .before .before .before .before .before .before .before .travel .ensures in
+    let t = c .before .before .before .before .before .before .before .before .before in
+    let d = t .before .before in
+    let at = start-of d in
     walks-done _ _ _ (d .before .before .before .before .way-of .ensures) (held at) _ (at .args .answers .now) _ _ _ _ (at .args .moves .now)
-    (outcome-at d) (h .0) (h .1)
+    (outcome-at d) (t .travel .ensures .0) (t .travel .ensures .1)
 
 pub walk-spec : {M : Type 1} → statement M
 walk-spec =
@@ -148,4 +152,5 @@ walk-spec =
     same-length-2
     same-length-3
     same-length-4
+    same-length-5
     returns-3)
