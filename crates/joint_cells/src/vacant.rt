@@ -31,14 +31,11 @@ pub fn vacant(l: usize, m: usize, from: u16, words: &[u64]) -> bool
     clear(words, first, (BLOCK as usize) * k)
 }
 
-// Whether blocks are asked for, and one begins above level i and has no pixel.
-pub fn vacant_above(blocks: bool, l: usize, m: usize, i: u16, words: &[u64]) -> bool
+// Whether a block begins above level i and has no pixel.
+pub fn vacant_above(l: usize, m: usize, i: u16, words: &[u64]) -> bool
     requires { ⌜ (WordsFit l m (now words)) × (i < l) ⌝ }
     ensures { λ r. ⌜ (r ≡ true → Vacant l m (i + 1) (now (words .entry))) ⌝ }
 {
-    if !blocks {
-        return false;
-    }
     let next = i + 1;
     if next % BLOCK != 0 {
         return false;
@@ -50,14 +47,11 @@ pub fn vacant_above(blocks: bool, l: usize, m: usize, i: u16, words: &[u64]) -> 
     vacant(l, m, next, words)
 }
 
-// Whether blocks are asked for, and one that is not the first ends at level i and has no pixel.
-pub fn vacant_below(blocks: bool, l: usize, m: usize, i: u16, words: &[u64]) -> bool
+// Whether a block that is not the first ends at level i and has no pixel.
+pub fn vacant_below(l: usize, m: usize, i: u16, words: &[u64]) -> bool
     requires { ⌜ (WordsFit l m (now words)) × (i < l) ⌝ }
     ensures { λ r. ⌜ (r ≡ true → (16 ≤ i) × (Vacant l m (i - 15) (now (words .entry)))) ⌝ }
 {
-    if !blocks {
-        return false;
-    }
     if i < BLOCK {
         return false;
     }

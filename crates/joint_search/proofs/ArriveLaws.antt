@@ -3,18 +3,12 @@
 use mathlib.Core.Path.{_≡_, ap, ap₂, _∙_}
 use mathlib.Core.Bool.{Bool, true, false}
 use mathlib.Core.List.{List}
-use Prim.Native.Nat.{ℕ, _+_, _/_, _%_, _≤_}
-use native.Mathlib.Omega.{arith}
+use Prim.Native.Nat.{ℕ, _+_}
 use Rattle.spec.specs.Base.{if_then_else_}
 use Rattle.spec.specs.Walk.{shiftsTo}
 use Rattle.joint_search.specs.declared.Sizes.{Sizes}
 use Rattle.joint_search.specs.Search.{weightlessIn, medianIn}
 use Rattle.joint_search.specs.Arrive.{hollowAt, answeredAt, arrivalIn}
-
--- a shift count is no more than the two levels together
-pub shifts-most : (blocks : Bool) (m c : ℕ) → shiftsTo blocks m c ≤ m + c
-shifts-most true m c = omega arith
-shifts-most false m c = omega arith
 
 module _ (blocks : Bool) (sizes : Sizes) (cs row : List ℕ) (c n : ℕ) where
   by-case : {b : Bool} → b ≡ weightlessIn sizes cs row →

@@ -14,9 +14,9 @@ use Rattle.ints.specs.Polynomial.{_⊕_, _⊖_, _⊗_, #_, _≐_, solve2, solve
 use Rattle.ints.specs.Order.{add-parts, diff-parts, ≤-of-eq, ≤-antisymm, ≤-<-trans, <-≤-trans, sub-mono, mul-mono-l, litℤ≤}
 use Rattle.ints.specs.Linear.{ints}
 use Rattle.ints.specs.Bound.{abs-sub-le}
-use Rattle.spec.specs.Base.{fold, sum, sumℤ}
+use Rattle.spec.specs.Base.{fold, sum, sumℤ, distance}
 use Rattle.spec.specs.Median.{isZero}
-use Rattle.spec.proofs.First.{first-is, first-unique}
+use Rattle.spec.proofs.First.{first-unique}
 use Rattle.spec.proofs.Ranges.{fold-parts, fold-both, fold-same, intSums, natSums}
 use Rattle.spec.proofs.Sums.{sum-scale, sum-zeros, sum-nonneg, sum-abs, sum-termℤ}
 use Rattle.spec.proofs.Totals.{le-leZ, lt-leZ}
@@ -175,10 +175,6 @@ module _ (X : ℕ → ℤ) (l : ℕ) where
   unfolding balanceOf
   half-missed i h = omega (arith, ints, diff-parts (pos 2 *ℤ cumulativeOf X i) (totalOf X l))
 
-  pub median-most : medianOf X l ≤ l
-  unfolding medianOf
-  median-most = first-is (λ i. leZ (totalOf X l) (pos 2 *ℤ cumulativeOf X i)) l .within
-
   pub median-is : (r : ℕ) → r < l → pos 0 ≤ℤ balanceOf X l r → ((i : ℕ) → i < r → balanceOf X l i <ℤ pos 0) → r ≡ medianOf X l
   unfolding medianOf
   median-is r h here before =
@@ -198,3 +194,10 @@ module _ {X : ℕ → ℤ} {l : ℕ} (low : (i : ℕ) → i < l → pos 0 ≤ℤ
       let inside : r < l = omega (arith, k .upto) in
       median-is X l r inside (k .here)
       (λ i u. ≤-<-trans (balance-mono low i (r - 1) (omega arith) (omega arith)) (k .below (r - 1) (omega arith)))
+
+-- one shift for each level is the distance
+pub climbed-shifts : (n : ℕ) {B : ℕ → ℤ} {l c r n′ : ℕ} → Climbed B l c r → n′ + c ≡ n + r → n′ ≡ n + distance r c
+climbed-shifts n k e = omega (arith, k .from)
+
+pub descended-shifts : (n : ℕ) {B : ℕ → ℤ} {c r n′ : ℕ} → Descended B c r → n′ + r ≡ n + c → n′ ≡ n + distance r c
+descended-shifts n k e = omega (arith, k .upto)

@@ -1,6 +1,8 @@
 // What the window that the counts hold answers by a row of weights, and the box moved to it. A window without weight keeps cut point, shifts and box.
 use crate::Sizes;
+use crate::blocks;
 use crate::find;
+use crate::find::SearchEnd;
 use joint_box::box_dot;
 use joint_cells::level::level_weight;
 use spec::Level;
@@ -8,7 +10,8 @@ use spec::Way;
 use spec::by_blocks;
 use spec::shifts_to;
 ghost use mathlib.Core.Path.{_≡_};
-ghost use Prim.Native.Nat.{_<_};
+ghost use Prim.Native.Nat.{_+_, _<_};
+ghost use Rattle.spec.specs.Base.{distance};
 ghost use Rattle.spec.specs.Walk.{byBlocks};
 ghost use Rattle.joint_cells.specs.Scan.{RowFits};
 ghost use Rattle.joint_search.specs.Search.{balanceIn, medianIn, weightlessIn, boxIn, Searchable};
@@ -21,27 +24,27 @@ pub struct Arrival {
     pub shifts: u64,
 }
 
-// From the cut point, where the balance is bal, up or down; by blocks where that is asked for.
+// From the cut point, where the balance is bal, up or down.
 pub fn from_cut(
     sizes: Sizes,
     row: &[u16],
-    blocks: bool,
     cut: Level,
     bal: i32,
+    shifts: u64,
     balance_box: &mut [i16; 256],
     counts: &[u16],
     words: &[u64],
-) -> Level
+) -> SearchEnd
     requires { ⌜ (Searchable sizes (now counts) (now words)) × (RowFits (sizes .guides) (now row)) ⌝ }
-    requires { ⌜ (cut .0 < sizes .levels) × (bal ≡ balanceIn sizes (now counts) (now row) (cut .0))
-        × (now «balance_box» ≡ boxIn sizes (now counts) (cut .0)) ⌝ }
-    ensures { λ r. ⌜ (r .0 ≡ medianIn sizes (now (counts .entry)) (now (row .entry)))
-        × (now («balance_box» .exit) ≡ boxIn sizes (now (counts .entry)) (r .0)) ⌝ }
+    requires { ⌜ (cut .0 < sizes .levels) × (bal ≡ balanceIn sizes (now counts) (now row) (cut .0)) × (shifts < 1099511627776) ⌝ }
+    requires { ⌜ now «balance_box» ≡ boxIn sizes (now counts) (cut .0) ⌝ }
+    ensures { λ r. ⌜ (r .level .0 ≡ medianIn sizes (now (counts .entry)) (now (row .entry))) × (r .shifts ≡ shifts + distance (r .level .0) (cut .0))
+        × (now («balance_box» .exit) ≡ boxIn sizes (now (counts .entry)) (r .level .0)) ⌝ }
 {
     if bal < 0 {
-        return find::climb(sizes, row, blocks, cut, bal, balance_box, counts, words);
+        return find::climb(sizes, row, cut, bal, shifts, balance_box, counts, words);
     }
-    find::descend(sizes, row, blocks, cut, bal, balance_box, counts, words)
+    find::descend(sizes, row, cut, bal, shifts, balance_box, counts, words)
 }
 
 // Whether no level weighs anything.
@@ -85,12 +88,20 @@ pub fn arrive(
             shifts: shifts,
         };
     }
-    let blocks = by_blocks(way);
-    let level = from_cut(sizes, row, blocks, cut, bal, balance_box, counts, words);
-    let total = shifts + shifts_to(blocks, level, cut);
+    if by_blocks(way) {
+        let level = blocks::from_cut(sizes, row, cut, bal, balance_box, counts, words);
+        let total = shifts + shifts_to(true, level, cut);
+        return Arrival {
+            hollow: false,
+            cut: level,
+            shifts: total,
+        };
+    }
+    let found = from_cut(sizes, row, cut, bal, shifts, balance_box, counts, words);
+    let answer = found.level;
     Arrival {
         hollow: false,
-        cut: level,
-        shifts: total,
+        cut: answer,
+        shifts: found.shifts,
     }
 }

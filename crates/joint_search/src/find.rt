@@ -1,19 +1,22 @@
-// Kind 1: levels looked through one by one, and the box's cut point moved along with the search, because a level's counts are at hand then. Way 4
-// passes over a block of 16 levels without a pixel at once. Kind 2 finds its level elsewhere: the cut point moved to a level that is known.
+// Way 1, kind 1: levels looked through one by one, a shift counted for each, and the box's cut point moved along with the search, because a level's counts
+// are at hand then. Kind 2 finds its level elsewhere: the cut point moved to a level that is known.
 use crate::Sizes;
 use joint_cells::level::level_weight;
 use joint_cells::raise::raise_level;
 use joint_cells::shift::shift_level;
-use joint_cells::vacant::BLOCK;
-use joint_cells::vacant::vacant_above;
-use joint_cells::vacant::vacant_below;
 use spec::Level;
 ghost use mathlib.Core.Path.{_≡_};
-ghost use Prim.Native.Nat.{_<_, _≤_};
+ghost use Prim.Native.Nat.{_+_, _<_, _≤_};
 ghost use lib.IntN.{pos, natAbs, _+ℤ_, _*ℤ_};
 ghost use lib.Signed.{_≤ℤ_};
 ghost use Rattle.joint_cells.specs.Scan.{RowFits};
 ghost use Rattle.joint_search.specs.Search.{balanceIn, boxIn, Searchable, Climbed, Descended};
+
+// The level at which a search ends, and the shifts counted up to it.
+pub struct SearchEnd {
+    pub level: Level,
+    pub shifts: u64,
+}
 
 // A balance with a level's weight more or less on both sides: by is 2 or -2.
 pub fn step_balance(x: i32, by: i32, y: i32) -> i32
@@ -23,75 +26,79 @@ pub fn step_balance(x: i32, by: i32, y: i32) -> i32
     x + by * y
 }
 
-// Up to the first level from the given one on whose balance is not negative; bal is the balance at the given one. Neither balance nor box changes in a
-// block without a pixel.
+// Up to the first level from the given one on whose balance is not negative; bal is the balance at the given one.
 pub fn climb(
     sizes: Sizes,
     row: &[u16],
-    blocks: bool,
     from: Level,
     bal: i32,
+    shifts: u64,
     balance_box: &mut [i16; 256],
     counts: &[u16],
     words: &[u64],
-) -> Level
+) -> SearchEnd
     requires { ⌜ (Searchable sizes (now counts) (now words)) × (RowFits (sizes .guides) (now row)) ⌝ }
-    requires { ⌜ (from .0 < sizes .levels) × (bal ≡ balanceIn sizes (now counts) (now row) (from .0))
+    requires { ⌜ (from .0 < sizes .levels) × (bal ≡ balanceIn sizes (now counts) (now row) (from .0)) × (shifts < 1099511627776)
         × (now «balance_box» ≡ boxIn sizes (now counts) (from .0)) ⌝ }
-    ensures { λ r. ⌜ (Climbed (balanceIn sizes (now (counts .entry)) (now (row .entry))) (sizes .levels) (from .0) (r .0))
-        × (now («balance_box» .exit) ≡ boxIn sizes (now (counts .entry)) (r .0)) ⌝ }
+    ensures { λ r. ⌜ (Climbed (balanceIn sizes (now (counts .entry)) (now (row .entry))) (sizes .levels) (from .0) (r .level .0))
+        × (r .shifts + from .0 ≡ shifts + r .level .0) × (now («balance_box» .exit) ≡ boxIn sizes (now (counts .entry)) (r .level .0)) ⌝ }
 {
     let mut i = from.0;
     let mut b = bal;
+    let mut n = shifts;
     while b < 0 {
-        if vacant_above(blocks, sizes.levels, sizes.guides, i, words) {
-            i += BLOCK;
-        } else {
-            i += 1;
-            b = step_balance(
-                b,
-                2,
-                raise_level(row, Level(i), sizes.guides, balance_box, counts, words),
-            );
-        }
+        i += 1;
+        n += 1;
+        b = step_balance(
+            b,
+            2,
+            raise_level(row, Level(i), sizes.guides, balance_box, counts, words),
+        );
     }
-    Level(i)
+    SearchEnd {
+        level: Level(i),
+        shifts: n,
+    }
 }
 
 // Down from the given level while the balance below is not negative.
 pub fn descend(
     sizes: Sizes,
     row: &[u16],
-    blocks: bool,
     from: Level,
     bal: i32,
+    shifts: u64,
     balance_box: &mut [i16; 256],
     counts: &[u16],
     words: &[u64],
-) -> Level
+) -> SearchEnd
     requires { ⌜ (Searchable sizes (now counts) (now words)) × (RowFits (sizes .guides) (now row)) ⌝ }
-    requires { ⌜ (from .0 < sizes .levels) × (bal ≡ balanceIn sizes (now counts) (now row) (from .0))
+    requires { ⌜ (from .0 < sizes .levels) × (bal ≡ balanceIn sizes (now counts) (now row) (from .0)) × (shifts < 1099511627776)
         × (pos 0 ≤ℤ bal) × (now «balance_box» ≡ boxIn sizes (now counts) (from .0)) ⌝ }
-    ensures { λ r. ⌜ (Descended (balanceIn sizes (now (counts .entry)) (now (row .entry))) (from .0) (r .0))
-        × (now («balance_box» .exit) ≡ boxIn sizes (now (counts .entry)) (r .0)) ⌝ }
+    ensures { λ r. ⌜ (Descended (balanceIn sizes (now (counts .entry)) (now (row .entry))) (from .0) (r .level .0))
+        × (r .shifts + r .level .0 ≡ shifts + from .0) × (now («balance_box» .exit) ≡ boxIn sizes (now (counts .entry)) (r .level .0)) ⌝ }
 {
     let mut i = from.0;
     let mut b = bal;
+    let mut counted = shifts;
     while 0 < i {
-        if vacant_below(blocks, sizes.levels, sizes.guides, i, words) {
-            i -= BLOCK;
-        } else {
-            let here = Level(i);
-            let lower = step_balance(b, -2, level_weight(row, here, sizes.guides, counts, words));
-            if lower < 0 {
-                return here;
-            }
-            shift_level(here, sizes.guides, -2, balance_box, counts, words);
-            b = lower;
-            i -= 1;
+        let here = Level(i);
+        let lower = step_balance(b, -2, level_weight(row, here, sizes.guides, counts, words));
+        if lower < 0 {
+            return SearchEnd {
+                level: here,
+                shifts: counted,
+            };
         }
+        shift_level(here, sizes.guides, -2, balance_box, counts, words);
+        b = lower;
+        i -= 1;
+        counted += 1;
     }
-    Level(0)
+    SearchEnd {
+        level: Level(0),
+        shifts: counted,
+    }
 }
 
 // The box's cut point raised, level by level.

@@ -61,7 +61,7 @@ first-block {p} {s} {t} k e =
     let m = median p s t in
     let low = median-low k in
     let test : (b : ℕ) → leZ (totalWeight p s t) (pos 2 *ℤ sumℤ (blockWeight p s t) 0 (suc b))
-        ≡ leZ (totalWeight p s t) (pos 2 *ℤ cumulative p s t (16 * b + 15)) =
+    ≡ leZ (totalWeight p s t) (pos 2 *ℤ cumulative p s t (16 * b + 15)) =
     λ b. ap (λ (q : ℤ). leZ (totalWeight p s t) (pos 2 *ℤ q)) (sym (block-cumulative p s t b)) in
     first-unique (λ b. leZ (totalWeight p s t) (pos 2 *ℤ sumℤ (blockWeight p s t) 0 (suc b))) (blockCount (p .set)) (m / 16)
     (record {

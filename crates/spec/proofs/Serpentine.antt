@@ -197,7 +197,7 @@ at-turn p x i pos h a =
     let w = p .set .width in
     let m : move (p .set) (x .column) (x .row) (turn w i) ≡ To (columnAfter w (i + 1)) ((i + 1) / w) =
     rw (a .column, a .row) (turn-moves (p .set) pos i h) in
-    subst (λ (y : State). At p y (columnAfter w (i + 1)) ((i + 1) / w)) (sym (step-to p x (turn w i) _ _ m)) 
+    subst (λ (y : State). At p y (columnAfter w (i + 1)) ((i + 1) / w)) (sym (step-to p x (turn w i) _ _ m))
     (at-arrive (x .way) p _ _ (x .cut) (x .shifts))
 
 -- it begins at the first pixel

@@ -4,16 +4,19 @@
 use Prim.Native.Nat.{ℕ, _*_, _/_, _%_, _≤_, _<_}
 use mathlib.Core.Path.{_≡_, refl, sym, ap, ap₂, subst, _∙_}
 use mathlib.Core.Logic.{_⊎_, inl, inr}
-use mathlib.Core.List.{List, _++_}
+use mathlib.Core.List.{List, [], _∷_, _++_}
 use native.Mathlib.Omega.{arith}
 use lib.ListN.{length, take, drop, length-append, length-drop, take-append-drop}
 use lib.IntN.{ℤ}
 use lib.Seq.{take-at, drop-at}
+use denote.Enum.Declared.{tagOf}
+use types.Run.{OneOf}
+use Rattle.spec.proofs.Way.{the-type}
 use Rattle.spec.specs.declared.Settings.{Settings}
 use Rattle.spec.specs.declared.Plan.{Plan}
 use Rattle.spec.specs.declared.Room.{Room}
 use Rattle.spec.specs.declared.Way.{Way}
-use Rattle.spec.specs.declared.Way.the-variants.{Columns, Chain}
+use Rattle.spec.specs.declared.Way.the-variants.{Joint, Columns, Chain, Coarse}
 use Rattle.spec.specs.Frame.{Frame, frameOf, settingsIn}
 use Rattle.spec.specs.Checks.{Planned}
 use Rattle.spec.specs.Window.{count}
@@ -126,6 +129,15 @@ joint-stores way (inr e) =
       carried = λ b s t c m hs r g. g;
       carries = λ b s t c m hs r g. g;
     })
+
+-- the two ways' arm of a match: keys 0 and 3
+pub joint-key : (way : Way) → OneOf (0 ∷ 3 ∷ []) (tagOf the-type way) → joint.JointWay way
+joint-key Joint h = inl refl
+joint-key Columns (inl e) = let z : _≡_ {A = ℕ} 1 0 = e in absurd (omega arith)
+joint-key Columns (inr e) = let z : _≡_ {A = ℕ} 1 3 = e in absurd (omega arith)
+joint-key Chain (inl e) = let z : _≡_ {A = ℕ} 2 0 = e in absurd (omega arith)
+joint-key Chain (inr e) = let z : _≡_ {A = ℕ} 2 3 = e in absurd (omega arith)
+joint-key Coarse h = inr refl
 
 -- ---- what is asked, and what is left
 module _ (way : Way) {b : List ℕ} {z : Plan} (k : Planned b z) (cs ws ns : List ℕ) (f : StoresFit way (settingsIn z) (stores cs ws ns)) where

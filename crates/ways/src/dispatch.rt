@@ -38,7 +38,7 @@ pub fn enter(
         (now (histogram .exit)) (now («balance_box» .exit)) r ⌝ }
 {
     match way {
-        Way::Joint => joint_visit::enter(
+        Way::Joint | Way::Coarse => joint_visit::enter(
             file,
             plan,
             way,
@@ -52,18 +52,6 @@ pub fn enter(
         ),
         Way::Columns => columns_visit::enter(file, plan, column, row, numbers),
         Way::Chain => chain_visit::enter(file, plan, column, row, numbers),
-        Way::Coarse => joint_visit::enter(
-            file,
-            plan,
-            way,
-            weights,
-            column,
-            row,
-            balance_box,
-            counts,
-            words,
-            histogram,
-        ),
     }
 }
 
@@ -93,7 +81,7 @@ pub fn slide(
         (now (histogram .exit)) (now («balance_box» .exit)) r ⌝ }
 {
     match way {
-        Way::Joint => joint_visit::slide(
+        Way::Joint | Way::Coarse => joint_visit::slide(
             file,
             plan,
             way,
@@ -108,18 +96,5 @@ pub fn slide(
         ),
         Way::Columns => columns_visit::slide(file, plan, from, column, row, numbers),
         Way::Chain => chain_visit::slide(file, plan, from, column, row, numbers),
-        Way::Coarse => joint_visit::slide(
-            file,
-            plan,
-            way,
-            weights,
-            from,
-            column,
-            row,
-            balance_box,
-            counts,
-            words,
-            histogram,
-        ),
     }
 }

@@ -54,7 +54,7 @@ part-answer-end-2 c =
 answer-requires : tie.Need-answer-requires
 answer-requires c κs =
     let x = c .before .before .before .before .args in
-    lent-blocks (x .plan) (x .blocks .now) 
+    lent-blocks (x .plan) (x .blocks .now)
     (λ (counts sums : List ℕ). Answerable (x .coefficients) (x .plan .guides) (x .monotone) (x .shifts) counts sums
     × FromCut (x .monotone) (x .cut .0) (x .below) counts sums)
     (c .before .before .before .before .pre .1)

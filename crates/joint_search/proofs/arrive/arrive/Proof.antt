@@ -1,19 +1,19 @@
 -- `arrive` meets its contract: no weight, or from the cut point. Assumes nothing.
 use borrow.Author.Needs.{needs}
-use mathlib.Core.Path.{_≡_, sym, ap, _∙_, subst}
+use mathlib.Core.Path.{_≡_, sym, ap, _∙_}
 use mathlib.Core.Bool.{Bool, false}
 use mathlib.Core.Logic.{⊎-elim}
 use native.Mathlib.Omega.{arith}
-use Prim.Native.Nat.{ℕ, _+_, _≤_, _<_}
+use Prim.Native.Nat.{ℕ, _+_, _<_}
 use lib.IntN.{pos}
 use lib.Signed.{_≤ℤ_}
 use mir.Syntax.{w32}
 use mir.Val.{ofZ}
 use Rattle.spec.specs.Walk.{byBlocks, shiftsTo}
 use Rattle.joint_search.specs.Search.{levelWeightIn, balanceIn, weightlessIn}
-use Rattle.joint_search.proofs.LevelsLaws.{weightless-off, median-most}
+use Rattle.joint_search.proofs.LevelsLaws.{weightless-off}
 use Rattle.joint_search.proofs.SearchLaws.{box-bounds, box-balance, balance-back, level-low}
-use Rattle.joint_search.proofs.ArriveLaws.{shifts-most, arrival-hollow, arrival-answered}
+use Rattle.joint_search.proofs.ArriveLaws.{arrival-hollow, arrival-answered}
 use Rattle.joint_search.proofs.arrive.arrive.Statement.{statement}
 use Rattle.joint_search.proofs.arrive.arrive.Tie as tie
 
@@ -59,9 +59,10 @@ returns c =
 by-blocks-requires : tie.Need-by-blocks-requires
 by-blocks-requires c κs = search needs
 
+-- way 4
 from-cut-requires : tie.Need-from-cut-requires
 from-cut-requires c κs =
-    let r = c .before .before .before in
+    let r = c .before .before .before .before in
     let at = start r in
     let p = at .pre .0 in
     (p, (at .pre .1 .0, balance-back (p .0) (p .1) (at .args .cut .0) (r .box-dot .result) (at .pre .1 .0) (here r), at .pre .1 .2))
@@ -69,30 +70,42 @@ from-cut-requires c κs =
 shifts-to-requires : tie.Need-shifts-to-requires
 shifts-to-requires c κs = search needs
 
--- a level is at most 1,024 away, and so are its blocks and levels
 add-total : tie.Need-add-total
-add-total c =
-    let at = start (c .before .before .before .before .before) in
-    let level : c .before .from-cut .result .0 ≤ at .args .sizes .levels = subst (λ (m : ℕ). m ≤ at .args .sizes .levels)
-    (sym (c .before .from-cut .ensures .0)) (median-most _ _) in
-    omega (
-      arith,
-      c .shifts-to .ensures,
-      shifts-most (c .before .before .before .by-blocks .result) (c .before .from-cut .result .0) (at .args .cut .0),
-      level,
-      at .pre .0 .0 .levels,
-      at .pre .1 .0,
-      at .pre .1 .1,
-    )
+add-total c = search needs
 
 returns-2 : tie.Need-returns-2
 returns-2 c =
     let f = c .before .from-cut .ensures in
-    let at = start (c .before .before .before .before .before) in
+    let i = c .before .before .before in
+    let j = i .before .before in
+    let at = start (j .before) in
     let level = c .before .from-cut .result .0 in
     let counted : c .shifts-to .result ≡ shiftsTo (byBlocks (at .args .way)) level (at .args .cut .0) =
-    c .shifts-to .ensures ∙ ap (λ (b : Bool). shiftsTo b level (at .args .cut .0)) (c .before .before .before .by-blocks .ensures) in
-    (arrival-answered _ _ _ _ _ _ (weighs (c .before .before .before .before)) (f .0) (ap (λ (n : ℕ). at .args .shifts + n) counted), f .1)
+    c .shifts-to .ensures ∙ ap (λ (b : Bool). shiftsTo b level (at .args .cut .0)) (sym (i .if3 .taken) ∙ i .before .by-blocks .ensures) in
+    (arrival-answered _ _ _ _ _ _ (weighs j) (f .0) (ap (λ (n : ℕ). at .args .shifts + n) counted), f .1)
+
+-- way 1
+from-cut-requires-2 : tie.Need-from-cut-requires-2
+from-cut-requires-2 c κs =
+    let r = c .before .before .before .before in
+    let at = start r in
+    let p = at .pre .0 in (
+      p,
+      (
+        (at .pre .1 .0, balance-back (p .0) (p .1) (at .args .cut .0) (r .box-dot .result) (at .pre .1 .0) (here r), at .pre .1 .1),
+        at .pre .1 .2,
+      ),
+    )
+
+returns-3 : tie.Need-returns-3
+returns-3 c =
+    let f = c .before .from-cut2 .ensures in
+    let i = c .before .before .before in
+    let j = i .before .before in
+    let at = start (j .before) in
+    let level = c .before .from-cut2 .result .level .0 in
+    let counted = f .1 ∙ ap (λ (b : Bool). at .args .shifts + shiftsTo b level (at .args .cut .0)) (sym (i .if3 .left) ∙ i .before .by-blocks .ensures) in
+    (arrival-answered _ _ _ _ _ _ (weighs j) (f .0) counted, f .2)
 
 pub arrive-spec : {M : Type 1} → statement M
 arrive-spec =
@@ -105,4 +118,6 @@ arrive-spec =
     from-cut-requires
     shifts-to-requires
     add-total
-    returns-2)
+    returns-2
+    from-cut-requires-2
+    returns-3)

@@ -40,9 +40,10 @@ returns c =
 ascend-requires-2 : tie.Need-ascend-requires-2
 ascend-requires-2 c κs =
     let h = c .before in
-    let p = start h .pre in
-    ((p .search, handed-on (p .heaviest _ (h .heaviest .ensures))),
-    ((omega (arith, p .search .some), omega (arith, p .shifts)), (tally-none, fail-none)))
+    let p = start h .pre in (
+      (p .search, handed-on (p .heaviest _ (h .heaviest .ensures))),
+      ((omega (arith, p .search .some), omega (arith, p .shifts)), (tally-none, fail-none)),
+    )
 
 returns-2 : tie.Need-returns-2
 returns-2 c = rw (c .before .if1 .left) ((c .ascend2 .ensures .0, omega (arith, c .ascend2 .ensures .1)))

@@ -1,45 +1,32 @@
 -- `ways::dispatch::enter` meets its contract: each way's own promise is the common one. Assumes nothing.
 use borrow.Author.Needs.{needs}
-use mathlib.Core.Logic.{inl, inr}
-use Rattle.ways.proofs.WayLaws.{guided-columns, guided-chain, fit-joint, fit-columns, fit-chain, joint-visited, columns-visited, chain-visited}
+use Rattle.ways.proofs.WayLaws.{guided-columns, guided-chain, fit-joint, fit-columns, fit-chain, joint-key, joint-visited, columns-visited, chain-visited}
 use Rattle.ways.proofs.dispatch.enter.Statement.{statement}
 use Rattle.ways.proofs.dispatch.enter.Tie as tie
+
+enter-requires : tie.Need-enter-requires
+enter-requires c κs =
+    let at = c .before .before .before .before .before .before .before .before .before .before in
+    let w = joint-key (at .args .way) (c .before .before .before .before .match .keys1) in
+    ((fit-joint _ (at .pre .0 .0) _ _ _ (at .pre .1 .1 .0) _ _ w (at .pre .1 .0), at .pre .1 .1 .1 .1), (at .pre .0 .1, w))
 
 enum-told : tie.Need-enum-told
 enum-told c = search needs
 
-enter-requires : tie.Need-enter-requires
-enter-requires c κs =
-    let at = c .before .before .before .before .before .before .before .before .before .before .before in
-    let e = c .before .before .before .before .enum-told .given .1 in
-    ((fit-joint _ (at .pre .0 .0) _ _ _ (at .pre .1 .1 .0) _ _ (inl e) (at .pre .1 .0), at .pre .1 .1 .1 .1), (at .pre .0 .1, inl e))
+enter-requires-2 : tie.Need-enter-requires-2
+enter-requires-2 c κs =
+    let at = c .before .before .before .before .before .before .before .before in
+    let e = c .before .enum-told .given .1 in
+    ((at .pre .0 .0, guided-columns _ (at .args .plan) (at .pre .0 .2) e), (at .pre .1 .0, fit-columns _ (at .pre .0 .0) _ _ _ (at .pre .1 .1 .0) e))
 
 enum-told-2 : tie.Need-enum-told-2
 enum-told-2 c = search needs
 
-enter-requires-2 : tie.Need-enter-requires-2
-enter-requires-2 c κs =
-    let at = c .before .before .before .before .before .before .before .before in
-    let e = c .before .enum-told2 .given .1 in
-    ((at .pre .0 .0, guided-columns _ (at .args .plan) (at .pre .0 .2) e), (at .pre .1 .0, fit-columns _ (at .pre .0 .0) _ _ _ (at .pre .1 .1 .0) e))
-
-enum-told-3 : tie.Need-enum-told-3
-enum-told-3 c = search needs
-
 enter-requires-3 : tie.Need-enter-requires-3
 enter-requires-3 c κs =
     let at = c .before .before .before .before .before .before .before .before in
-    let e = c .before .enum-told3 .given .1 in
+    let e = c .before .enum-told2 .given .1 in
     ((at .pre .0 .0, guided-chain _ (at .args .plan) (at .pre .0 .2) e), (at .pre .1 .0, fit-chain _ (at .pre .0 .0) _ _ _ (at .pre .1 .1 .0) e))
-
-enum-told-4 : tie.Need-enum-told-4
-enum-told-4 c = search needs
-
-enter-requires-4 : tie.Need-enter-requires-4
-enter-requires-4 c κs =
-    let at = c .before .before .before .before .before .before .before .before .before .before .before in
-    let e = c .before .before .before .before .enum-told4 .given .1 in
-    ((fit-joint _ (at .pre .0 .0) _ _ _ (at .pre .1 .1 .0) _ _ (inr e) (at .pre .1 .0), at .pre .1 .1 .1 .1), (at .pre .0 .1, inr e))
 
 same-length : tie.Need-same-length
 same-length c = search needs
@@ -49,9 +36,8 @@ same-length-2 c = search needs
 
 returns : tie.Need-returns
 returns c =
-    let at = c .before .before .before .before .before .before .before .before .before .before .before .before .before .before .before .before in
-    joint-visited _ (at .pre .0 .0) _ _ _ (at .pre .1 .1 .0) _ _ _ _ _ _
-    (inl (c .before .before .before .before .before .before .before .before .before .enum-told .given .1))
+    let at = c .before .before .before .before .before .before .before .before .before .before .before .before .before .before .before in
+    joint-visited _ (at .pre .0 .0) _ _ _ (at .pre .1 .1 .0) _ _ _ _ _ _ (joint-key (at .args .way) (c .before .before .before .before .before .before .before .before .before .match .keys1))
     (c .before .before .before .before .enter .ensures)
 
 same-length-3 : tie.Need-same-length-3
@@ -60,7 +46,7 @@ same-length-3 c = search needs
 returns-2 : tie.Need-returns-2
 returns-2 c =
     let at = c .before .before .before .before .before .before .before .before .before .before .before in
-    let e = c .before .before .before .before .enum-told2 .given .1 in
+    let e = c .before .before .before .before .enum-told .given .1 in
     columns-visited _ (at .pre .0 .0) _ _ _ (at .pre .1 .1 .0) _ _ _ (at .args .column) (at .args .row) 0 0 _ e
     (c .before .before .enter2 .ensures) (at .pre .1 .1 .1 .0)
 
@@ -70,42 +56,23 @@ same-length-4 c = search needs
 returns-3 : tie.Need-returns-3
 returns-3 c =
     let at = c .before .before .before .before .before .before .before .before .before .before .before in
-    let e = c .before .before .before .before .enum-told3 .given .1 in
+    let e = c .before .before .before .before .enum-told2 .given .1 in
     chain-visited _ (at .pre .0 .0) _ _ _ (at .pre .1 .1 .0) _ _ _ (at .args .column) (at .args .row) 0 0 _ e
     (c .before .before .enter3 .ensures) (at .pre .1 .1 .1 .0)
-
-same-length-5 : tie.Need-same-length-5
-same-length-5 c = search needs
-
-same-length-6 : tie.Need-same-length-6
-same-length-6 c = search needs
-
-returns-4 : tie.Need-returns-4
-returns-4 c =
-    let at = c .before .before .before .before .before .before .before .before .before .before .before .before .before .before .before .before in
-    joint-visited _ (at .pre .0 .0) _ _ _ (at .pre .1 .1 .0) _ _ _ _ _ _
-    (inr (c .before .before .before .before .before .before .before .before .before .enum-told4 .given .1))
-    (c .before .before .before .before .enter4 .ensures)
 
 pub enter-spec : {M : Type 1} → statement M
 enter-spec =
     tie.close
     (tie.spec
-    enum-told
     enter-requires
-    enum-told-2
+    enum-told
     enter-requires-2
-    enum-told-3
+    enum-told-2
     enter-requires-3
-    enum-told-4
-    enter-requires-4
     same-length
     same-length-2
     returns
     same-length-3
     returns-2
     same-length-4
-    returns-3
-    same-length-5
-    same-length-6
-    returns-4)
+    returns-3)

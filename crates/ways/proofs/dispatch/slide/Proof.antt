@@ -1,51 +1,37 @@
 -- `ways::dispatch::slide` meets its contract: each way's own promise is the common one. Assumes nothing.
 use borrow.Author.Needs.{needs}
-use mathlib.Core.Logic.{inl, inr}
-use Rattle.ways.proofs.WayLaws.{guided-columns, guided-chain, joint-at, joint-visited, columns-at, columns-visited, chain-at, chain-visited}
+use Rattle.ways.proofs.WayLaws.{guided-columns, guided-chain, joint-at, joint-key, joint-visited, columns-at, columns-visited, chain-at, chain-visited}
 use Rattle.ways.proofs.dispatch.slide.Statement.{statement}
 use Rattle.ways.proofs.dispatch.slide.Tie as tie
+
+slide-requires : tie.Need-slide-requires
+slide-requires c κs =
+    let at = c .before .before .before .before .before .before .before .before .before .before in
+    let w = joint-key (at .args .way) (c .before .before .before .before .match .keys1) in
+    let h = joint-at _ (at .pre .0 .0) _ _ _ (at .pre .1 .1 .1 .0) _ _ _ w (at .pre .1 .1 .1 .1) (at .pre .1 .0) in
+    ((h .0, at .pre .1 .1 .0, h .1), (at .pre .0 .1, at .pre .1 .0, w))
 
 enum-told : tie.Need-enum-told
 enum-told c = search needs
 
-slide-requires : tie.Need-slide-requires
-slide-requires c κs =
-    let at = c .before .before .before .before .before .before .before .before .before .before .before in
-    let e = c .before .before .before .before .enum-told .given .1 in
-    let h = joint-at _ (at .pre .0 .0) _ _ _ (at .pre .1 .1 .1 .0) _ _ _ (inl e) (at .pre .1 .1 .1 .1) (at .pre .1 .0) in
-    ((h .0, at .pre .1 .1 .0, h .1), (at .pre .0 .1, at .pre .1 .0, inl e))
-
-enum-told-2 : tie.Need-enum-told-2
-enum-told-2 c = search needs
-
 slide-requires-2 : tie.Need-slide-requires-2
 slide-requires-2 c κs =
     let at = c .before .before .before .before .before .before .before .before in
-    let e = c .before .enum-told2 .given .1 in (
+    let e = c .before .enum-told .given .1 in (
       (at .pre .0 .0, guided-columns _ (at .args .plan) (at .pre .0 .2) e),
       ((at .pre .1 .0, at .pre .1 .1 .0), columns-at _ (at .pre .0 .0) _ _ _ (at .pre .1 .1 .1 .0) _ _ _ e (at .pre .1 .1 .1 .1) .0),
     )
 
-enum-told-3 : tie.Need-enum-told-3
-enum-told-3 c = search needs
+enum-told-2 : tie.Need-enum-told-2
+enum-told-2 c = search needs
 
 slide-requires-3 : tie.Need-slide-requires-3
 slide-requires-3 c κs =
     let at = c .before .before .before .before .before .before .before .before in
-    let e = c .before .enum-told3 .given .1 in (
+    let e = c .before .enum-told2 .given .1 in (
       (at .pre .0 .0, guided-chain _ (at .args .plan) (at .pre .0 .2) e),
       ((at .pre .1 .0, at .pre .1 .1 .0), chain-at _ (at .pre .0 .0) _ _ _ (at .pre .1 .1 .1 .0) _ _ _ e (at .pre .1 .1 .1 .1) .0),
     )
-
-enum-told-4 : tie.Need-enum-told-4
-enum-told-4 c = search needs
-
-slide-requires-4 : tie.Need-slide-requires-4
-slide-requires-4 c κs =
-    let at = c .before .before .before .before .before .before .before .before .before .before .before in
-    let e = c .before .before .before .before .enum-told4 .given .1 in
-    let h = joint-at _ (at .pre .0 .0) _ _ _ (at .pre .1 .1 .1 .0) _ _ _ (inr e) (at .pre .1 .1 .1 .1) (at .pre .1 .0) in
-    ((h .0, at .pre .1 .1 .0, h .1), (at .pre .0 .1, at .pre .1 .0, inr e))
 
 same-length : tie.Need-same-length
 same-length c = search needs
@@ -55,9 +41,8 @@ same-length-2 c = search needs
 
 returns : tie.Need-returns
 returns c =
-    let at = c .before .before .before .before .before .before .before .before .before .before .before .before .before .before .before .before in
-    joint-visited _ (at .pre .0 .0) _ _ _ (at .pre .1 .1 .1 .0) _ _ _ _ _ _
-    (inl (c .before .before .before .before .before .before .before .before .before .enum-told .given .1))
+    let at = c .before .before .before .before .before .before .before .before .before .before .before .before .before .before .before in
+    joint-visited _ (at .pre .0 .0) _ _ _ (at .pre .1 .1 .1 .0) _ _ _ _ _ _ (joint-key (at .args .way) (c .before .before .before .before .before .before .before .before .before .match .keys1))
     (c .before .before .before .before .slide .ensures)
 
 same-length-3 : tie.Need-same-length-3
@@ -66,7 +51,7 @@ same-length-3 c = search needs
 returns-2 : tie.Need-returns-2
 returns-2 c =
     let at = c .before .before .before .before .before .before .before .before .before .before .before in
-    let e = c .before .before .before .before .enum-told2 .given .1 in
+    let e = c .before .before .before .before .enum-told .given .1 in
     columns-visited _ (at .pre .0 .0) _ _ _ (at .pre .1 .1 .1 .0) _ _ _ (at .args .column) (at .args .row) (at .args .from .cut .0) (at .args .from .shifts) _ e
     (c .before .before .slide2 .ensures)
     (columns-at _ (at .pre .0 .0) _ _ _ (at .pre .1 .1 .1 .0) _ _ _ e (at .pre .1 .1 .1 .1) .1)
@@ -77,43 +62,24 @@ same-length-4 c = search needs
 returns-3 : tie.Need-returns-3
 returns-3 c =
     let at = c .before .before .before .before .before .before .before .before .before .before .before in
-    let e = c .before .before .before .before .enum-told3 .given .1 in
+    let e = c .before .before .before .before .enum-told2 .given .1 in
     chain-visited _ (at .pre .0 .0) _ _ _ (at .pre .1 .1 .1 .0) _ _ _ (at .args .column) (at .args .row) (at .args .from .cut .0) (at .args .from .shifts) _ e
     (c .before .before .slide3 .ensures)
     (chain-at _ (at .pre .0 .0) _ _ _ (at .pre .1 .1 .1 .0) _ _ _ e (at .pre .1 .1 .1 .1) .1)
-
-same-length-5 : tie.Need-same-length-5
-same-length-5 c = search needs
-
-same-length-6 : tie.Need-same-length-6
-same-length-6 c = search needs
-
-returns-4 : tie.Need-returns-4
-returns-4 c =
-    let at = c .before .before .before .before .before .before .before .before .before .before .before .before .before .before .before .before in
-    joint-visited _ (at .pre .0 .0) _ _ _ (at .pre .1 .1 .1 .0) _ _ _ _ _ _
-    (inr (c .before .before .before .before .before .before .before .before .before .enum-told4 .given .1))
-    (c .before .before .before .before .slide4 .ensures)
 
 pub slide-spec : {M : Type 1} → statement M
 slide-spec =
     tie.close
     (tie.spec
-    enum-told
     slide-requires
-    enum-told-2
+    enum-told
     slide-requires-2
-    enum-told-3
+    enum-told-2
     slide-requires-3
-    enum-told-4
-    slide-requires-4
     same-length
     same-length-2
     returns
     same-length-3
     returns-2
     same-length-4
-    returns-3
-    same-length-5
-    same-length-6
-    returns-4)
+    returns-3)
