@@ -10,38 +10,44 @@ use native.Mathlib.Numerals.{add-one}
 use lib.Arith.{digits-div, digits-mod}
 use lib.ListN.{length, getD, take, drop, List·getD-append}
 use lib.Seq.{take-at}
-use lib.IntN.{ℤ, pos, _*ℤ_}
-use lib.Signed.{_≤ℤ_, _<ℤ_}
-use Rattle.spec.specs.declared.Settings.{Settings}
-use Rattle.spec.specs.declared.Move.{Move}
+use lib.IntN.{pos}
 use Rattle.spec.specs.declared.Move.the-variants.{To}
 use Rattle.spec.specs.declared.Verdict.{Verdict}
 use Rattle.spec.specs.declared.Verdict.the-variants.{Accepted, Refused}
-use Rattle.spec.specs.Base.{if_then_else_}
 use Rattle.spec.specs.Refusal.{Outcome, accepted, refused, numbered}
-use Rattle.spec.specs.Frame.{Frame, level, pixels, frameOf, settingsOf}
-use Rattle.spec.specs.Checks.{verdict}
-use Rattle.spec.specs.Median.{totalWeight, cumulative, balance, weightless, median, answer, differences}
-use Rattle.spec.specs.Walk.{State, arrive, move, start, step, walkEnd, walkAnswers}
+use Rattle.spec.specs.Frame.{Frame, pixels, frameOf}
+use Rattle.spec.specs.Median.{totalWeight, balance, weightless, median, answer}
+use Rattle.spec.specs.Walk.{State, move, step, walkEnd, walkAnswers}
 use Rattle.spec.specs.Filter.{filtered, filterEnd}
 use Rattle.spec.specs.Calls.{wayOf, walkOutcome, filterOutcome, balanceOutcome}
 use Rattle.spec.specs.Writer.{written, writtenSize, writerOutcome, stored}
 use Rattle.spec.proofs.Checks.{not-refused}
 use Rattle.spec.proofs.Limits.{FrameLimits, Pixel, limits-of, in-plane}
-use Rattle.spec.proofs.Calls.{WalkAccepted, walk-accepted, FilterAccepted, filter-accepted}
+use Rattle.spec.proofs.Calls.{walk-accepted, filter-accepted}
 use Rattle.spec.proofs.Totals.{weightless-total, total-weightless, median-at, median-before, balance-le, balance-lt, answer-low}
 use Rattle.spec.proofs.Minimum.{minimum, answer-median, answer-weightless}
-use Rattle.spec.proofs.Walks.{StateBounded, Marks, marks, walk-first, walk-next, walk-bounded, walk-length, walk-shifts, step-level, Fine, move-fine}
+use Rattle.spec.proofs.Walks.{
+  StateBounded,
+  marks,
+  walk-first,
+  walk-next,
+  walk-bounded,
+  walk-length,
+  walk-shifts,
+  walk-same,
+  step-level,
+  Fine,
+  move-fine,
+}
 use Rattle.spec.proofs.First.{length-tabulate}
 use Rattle.spec.proofs.Serpentine.{filtered-at}
 use Rattle.ice_step.specs.declared.Walked.{Walked}
-use Rattle.ice.specs.declared.Balanced.{Balanced}
+use Rattle.ice_step.specs.Finished.{Lent, roomIn}
 use Rattle.frame_write.specs.declared.Written.{Written}
 use Rattle.frame_write.specs.declared.Written.the-variants.{Length, Refused as Declined}
-use Rattle.frame_write.specs.Write.{Report, wrote, declined, reported, reportOf, Writes}
+use Rattle.frame_write.specs.Write.{Report, wrote, declined, reported, reportOf}
 use Rattle.frame_write.proofs.Reopening.{wrote-returned}
-use Rattle.ways.specs.Visit.{Stores, lent}
-use Rattle.ice.specs.Contract.{Untouched, Ended, Walks, Filters, Balances}
+use Rattle.ice.specs.Contract.{Untouched, Ended, Walks, Filters}
 use Rattle.demands.proofs.Table.{walk-table, filter-table, balance-table, writer-table}
 use Rattle.demands.specs.Demands.{
   WalkedOrRefused,
@@ -54,8 +60,8 @@ use Rattle.demands.specs.Demands.{
   Demand2,
   Minimises,
   ByteAnswered,
-  Agreed,
   AllWaysAgree,
+  OneRule,
   FilterMinimises,
   Demand3,
 }
@@ -67,27 +73,27 @@ accepted-verdict (Refused r) e = absurd (not-refused e)
 
 -- ---- demand 1
 walked-or-refused : WalkedOrRefused
-walked-or-refused b way s t moves a z before after r h = by (walkOutcome b way s t (length moves) (lent a) (length before)) refl
+walked-or-refused b way s t moves a z before after r h = by (walkOutcome b way s t (length moves) (roomIn a) (length before)) refl
   where
-    by : (o : Outcome) → walkOutcome b way s t (length moves) (lent a) (length before) ≡ o
+    by : (o : Outcome) → walkOutcome b way s t (length moves) (roomIn a) (length before) ≡ o
         → ((r .verdict ≡ Accepted)
-        × Ended (wayOf way) (frameOf b) (walkEnd (frameOf b) s t moves) a z (walkAnswers (frameOf b) s t moves ++ drop (length moves + 1) before)
-        after r)
+        × Ended (wayOf way) (frameOf b) (walkEnd (wayOf way) (frameOf b) s t moves) a z
+        (walkAnswers (frameOf b) s t moves ++ drop (length moves + 1) before) after r)
         ⊎
         ((n : ℕ) × (l : List ℕ) × (numbered (r .verdict) ≡ refused n l) ×
-        (walkOutcome b way s t (length moves) (lent a) (length before) ≡ refused n l)
+        (walkOutcome b way s t (length moves) (roomIn a) (length before) ≡ refused n l)
         × Untouched a z before after r)
     by accepted e = inl (accepted-verdict (r .verdict) (h .verdict ∙ e), h .walked e)
     by (refused n l) e = inr (n, l, h .verdict ∙ e, e, h .refused (λ q. not-refused (sym e ∙ q)))
 
 filtered-or-refused : FilteredOrRefused
-filtered-or-refused b way a z before after r h = by (filterOutcome b way (lent a) (length before)) refl
+filtered-or-refused b way a z before after r h = by (filterOutcome b way (roomIn a) (length before)) refl
   where
-    by : (o : Outcome) → filterOutcome b way (lent a) (length before) ≡ o
+    by : (o : Outcome) → filterOutcome b way (roomIn a) (length before) ≡ o
         →
-        ((r .verdict ≡ Accepted) × Ended (wayOf way) (frameOf b) (filterEnd (frameOf b)) a z
+        ((r .verdict ≡ Accepted) × Ended (wayOf way) (frameOf b) (filterEnd (wayOf way) (frameOf b)) a z
         (filtered (frameOf b) ++ drop (pixels (frameOf b .set)) before) after r)
-        ⊎ ((n : ℕ) × (l : List ℕ) × (numbered (r .verdict) ≡ refused n l) × (filterOutcome b way (lent a) (length before) ≡ refused n l)
+        ⊎ ((n : ℕ) × (l : List ℕ) × (numbered (r .verdict) ≡ refused n l) × (filterOutcome b way (roomIn a) (length before) ≡ refused n l)
         × Untouched a z before after r)
     by accepted e = inl (accepted-verdict (r .verdict) (h .verdict ∙ e), h .filtered e)
     by (refused n l) e = inr (n, l, h .verdict ∙ e, e, h .refused (λ q. not-refused (sym e ∙ q)))
@@ -159,13 +165,13 @@ lowest-answer {p} {s} {t} k = by (weightless p s t) refl
           lowest = λ _ i l. balance-lt p s t i (median-before p s t i (rw q at l));
         }
 
-module _ (b : List ℕ) (way : ℕ) (a z : Stores) (before after : List ℕ) (r : Walked) (h : Filters b way a z before after r)
+module _ (b : List ℕ) (way : ℕ) (a z : Lent) (before after : List ℕ) (r : Walked) (h : Filters b way a z before after r)
     (ok : r .verdict ≡ Accepted) where
-  filter-passes : filterOutcome b way (lent a) (length before) ≡ accepted
+  filter-passes : filterOutcome b way (roomIn a) (length before) ≡ accepted
   filter-passes = sym (h .verdict) ∙ ap numbered ok
 
   filter-limits : FrameLimits (frameOf b)
-  filter-limits = limits-of b (filter-accepted b way (lent a) (length before) filter-passes .file)
+  filter-limits = limits-of b (filter-accepted b way (roomIn a) (length before) filter-passes .file)
 
   -- the number at a pixel's place is the answer there
   plane-at : (s t : ℕ) → s < frameOf b .set .width → t < frameOf b .set .height →
@@ -188,14 +194,14 @@ pub demand-2 : Demand2
 demand-2 = record { filter = every-pixel; writer = λ k v g a old n new w. wrote-returned k v g a old n new w }
 
 -- ---- demand 3
-module _ (b : List ℕ) (s t : ℕ) (moves : List ℕ) (way : ℕ) (a z : Stores) (before after : List ℕ) (r : Walked)
+module _ (b : List ℕ) (s t : ℕ) (moves : List ℕ) (way : ℕ) (a z : Lent) (before after : List ℕ) (r : Walked)
     (h : Walks b way s t moves a z before after r)
     (ok : r .verdict ≡ Accepted) where
-  walk-passes : walkOutcome b way s t (length moves) (lent a) (length before) ≡ accepted
+  walk-passes : walkOutcome b way s t (length moves) (roomIn a) (length before) ≡ accepted
   walk-passes = sym (h .verdict) ∙ ap numbered ok
 
   walk-pixel : Pixel (frameOf b) s t
-  walk-pixel = walk-accepted b way s t (length moves) (lent a) (length before) walk-passes .pixel
+  walk-pixel = walk-accepted b way s t (length moves) (roomIn a) (length before) walk-passes .pixel
 
   -- the answers are the definition's, place by place
   answer-is : (j : ℕ) → j ≤ length moves → getD after j 0 ≡ getD (walkAnswers (frameOf b) s t moves) j 0
@@ -211,7 +217,7 @@ module _ (b : List ℕ) (s t : ℕ) (moves : List ℕ) (way : ℕ) (a z : Stores
       ∙ take-at (walkAnswers (frameOf b) s t moves) (drop (length moves + 1) before) (length moves + 1)
       (omega (arith, walk-length (frameOf b) s t moves))
 
-  shifts-are : r .shifts ≡ walkEnd (frameOf b) s t moves .shifts
+  shifts-are : r .shifts ≡ walkEnd (wayOf way) (frameOf b) s t moves .shifts
   shifts-are = h .walked walk-passes .shifts
 
 -- the answer minimises
@@ -242,17 +248,21 @@ answered {p} {x} {n} k byte =
 all-ways-agree : AllWaysAgree
 all-ways-agree b s t moves way way′ a z a′ z′ before after before′ after′ r r′ h h′ ok ok′ =
     let p = frameOf b in
+    let y = wayOf way in
+    let y′ = wayOf way′ in
     let w = walk-pixel b s t moves way a z before after r h ok in
     let one = answer-is b s t moves way a z before after r h ok in
     let count = shifts-are b s t moves way a z before after r h ok in
+    let count′ = shifts-are b s t moves way′ a′ z′ before′ after′ r′ h′ ok′ in
     record {
-      shifts = count ∙ sym (shifts-are b s t moves way′ a′ z′ before′ after′ r′ h′ ok′);
       answers = answers-are b s t moves way a z before after r h ok ∙ sym (answers-are b s t moves way′ a′ z′ before′ after′ r′ h′ ok′);
       first = subst (λ (m : ℕ). LowestLevel p s t m × Minimises p s t m) (sym (one 0 (omega arith) ∙ walk-first p s t moves)) (both-answer w);
-      next = λ j l. subst (ByteAnswered p (walkEnd p s t (take j moves)) (getD moves j 0))
-          (sym (ap (λ (q : ℕ). getD after q 0) (add-one j) ∙ one (suc j) l ∙ walk-next p s t moves j l))
-          (answered (walk-bounded w (take j moves)) (getD moves j 0));
-      distances = count ∙ walk-shifts p s t moves;
+      next = λ j l. subst (ByteAnswered p (walkEnd y p s t (take j moves)) (getD moves j 0))
+          (sym (ap (λ (q : ℕ). getD after q 0) (add-one j) ∙ one (suc j) l ∙ walk-next y p s t moves j l))
+          (answered (walk-bounded w y (take j moves)) (getD moves j 0));
+      shifts = λ e. count ∙ walk-same y y′ e p s t moves ∙ sym count′;
+      distances = count ∙ walk-shifts y p s t moves;
+      distances′ = count′ ∙ walk-shifts y′ p s t moves;
     }
 
 filter-minimises : FilterMinimises
@@ -260,5 +270,13 @@ filter-minimises b way a z before after r h ok s t hs ht =
     subst (Minimises (frameOf b) s t) (sym (plane-at b way a z before after r h ok s t hs ht))
     (least-answer (record { good = filter-limits b way a z before after r h ok; in-column = hs; in-row = ht }))
 
+one-rule : OneRule
+unfolding wayOf
+one-rule zero l h = absurd (omega arith)
+one-rule (suc zero) l h = refl
+one-rule (suc (suc zero)) l h = refl
+one-rule (suc (suc (suc zero))) l h = refl
+one-rule (suc (suc (suc (suc n)))) l h = absurd (omega arith)
+
 pub demand-3 : Demand3
-demand-3 = record { agree = all-ways-agree; minimum = filter-minimises }
+demand-3 = record { agree = all-ways-agree; rule = one-rule; minimum = filter-minimises }

@@ -1,31 +1,33 @@
 -- The three demands, as statements about the promises of the calls. A reader starts here; proofs/Demands.antt proves each.
 -- b are a file's bytes, before and after the stores around a call, old and new its answers or output, r its result.
 -- Assumes nothing.
-use Prim.Native.Nat.{ℕ, _+_, _*_, _<_}
+use Prim.Native.Nat.{ℕ, _+_, _*_, _≤_, _<_}
 use mathlib.Core.Path.{_≡_}
+use mathlib.Core.Bool.{false}
 use mathlib.Core.Logic.{_⊎_, _↔_}
 use mathlib.Core.List.{List, _++_}
 use lib.ListN.{length, getD, take, drop}
-use lib.IntN.{ℤ, pos, _*ℤ_}
+use lib.IntN.{pos, _*ℤ_}
 use lib.Signed.{_≤ℤ_, _<ℤ_}
 use Rattle.spec.specs.declared.Settings.{Settings}
 use Rattle.spec.specs.declared.Room.{Room}
+use Rattle.spec.specs.declared.Way.{Way}
 use Rattle.spec.specs.declared.Move.the-variants.{To, Nowhere}
 use Rattle.spec.specs.declared.Verdict.the-variants.{Accepted}
 use Rattle.spec.specs.Base.{sum}
 use Rattle.spec.specs.Refusal.{accepted, refused, numbered}
 use Rattle.spec.specs.Frame.{Frame, level, pixels, frameOf}
 use Rattle.spec.specs.Median.{totalWeight, cumulative, balance, differences, NoneNegative, NotAllZero}
-use Rattle.spec.specs.Walk.{State, move, start, walkEnd, walkAnswers, adds, addedAt}
+use Rattle.spec.specs.Walk.{State, byBlocks, adds, move, start, walkEnd, walkAnswers, addedAt}
 use Rattle.spec.specs.Filter.{filtered, filterEnd}
 use Rattle.spec.specs.Calls.{wayOf, walkOutcome, filterOutcome, balanceOutcome}
 use Rattle.spec.specs.Writer.{written, writtenSize, writerOutcome}
 use Rattle.ice_step.specs.declared.Walked.{Walked}
+use Rattle.ice_step.specs.Finished.{Lent, roomIn}
 use Rattle.ice.specs.declared.Balanced.{Balanced}
 use Rattle.frame_write.specs.declared.Written.{Written}
 use Rattle.frame_write.specs.declared.Written.the-variants.{Length}
 use Rattle.frame_write.specs.Write.{declined, reported, Writes, Returned}
-use Rattle.ways.specs.Visit.{Stores, lent}
 use Rattle.ice.specs.Contract.{Untouched, Ended, Walks, Filters, Balances}
 use Rattle.demands.specs.Table.{walkRows, filterRows, balanceRows, writerRows, ByTable}
 
@@ -34,20 +36,21 @@ use Rattle.demands.specs.Table.{walkRows, filterRows, balanceRows, write
 -- a walk is refused by the outcome's number and values, with every buffer as it was, or it is walked to the end
 abbrev pub WalkedOrRefused : Type 0
 WalkedOrRefused =
-    (b : List ℕ) (way s t : ℕ) (moves : List ℕ) (before after : Stores) (old new : List ℕ) (r : Walked) → Walks b way s t moves before after old new r
+    (b : List ℕ) (way s t : ℕ) (moves : List ℕ) (before after : Lent) (old new : List ℕ) (r : Walked)
+    → Walks b way s t moves before after old new r
     → ((r .verdict ≡ Accepted)
-    × Ended (wayOf way) (frameOf b) (walkEnd (frameOf b) s t moves) before after
+    × Ended (wayOf way) (frameOf b) (walkEnd (wayOf way) (frameOf b) s t moves) before after
     (walkAnswers (frameOf b) s t moves ++ drop (length moves + 1) old) new r)
     ⊎ ((n : ℕ) × (l : List ℕ) × (numbered (r .verdict) ≡ refused n l)
-    × (walkOutcome b way s t (length moves) (lent before) (length old) ≡ refused n l)
+    × (walkOutcome b way s t (length moves) (roomIn before) (length old) ≡ refused n l)
     × Untouched before after old new r)
 
 abbrev pub FilteredOrRefused : Type 0
 FilteredOrRefused =
-    (b : List ℕ) (way : ℕ) (before after : Stores) (old new : List ℕ) (r : Walked) → Filters b way before after old new r
-    → ((r .verdict ≡ Accepted) × Ended (wayOf way) (frameOf b) (filterEnd (frameOf b)) before after (filtered (frameOf b)
+    (b : List ℕ) (way : ℕ) (before after : Lent) (old new : List ℕ) (r : Walked) → Filters b way before after old new r
+    → ((r .verdict ≡ Accepted) × Ended (wayOf way) (frameOf b) (filterEnd (wayOf way) (frameOf b)) before after (filtered (frameOf b)
     ++ drop (pixels (frameOf b .set)) old) new r)
-    ⊎ ((n : ℕ) × (l : List ℕ) × (numbered (r .verdict) ≡ refused n l) × (filterOutcome b way (lent before) (length old) ≡ refused n l)
+    ⊎ ((n : ℕ) × (l : List ℕ) × (numbered (r .verdict) ≡ refused n l) × (filterOutcome b way (roomIn before) (length old) ≡ refused n l)
     × Untouched before after old new r)
 
 -- a balance, which is lent nothing
@@ -94,7 +97,8 @@ atPixel p plane s t = getD plane (t * p .set .width + s) 0
 -- every pixel of a filtered frame
 abbrev pub EveryPixel : Type 0
 EveryPixel =
-    (b : List ℕ) (way : ℕ) (before after : Stores) (old new : List ℕ) (r : Walked) → Filters b way before after old new r → r .verdict ≡ Accepted
+    (b : List ℕ) (way : ℕ) (before after : Lent) (old new : List ℕ) (r : Walked) → Filters b way before after old new r
+    → r .verdict ≡ Accepted
     → (s t : ℕ) → s < frameOf b .set .width → t < frameOf b .set .height → LowestLevel (frameOf b) s t (atPixel (frameOf b) new s t)
 
 -- the first n bytes of the output of a writer that answers n: accepted, and the settings, planes and table as given
@@ -123,27 +127,36 @@ pub record ByteAnswered (p : Frame) (x : State) (byte m : ℕ) : Type 0 where
   pub made : (m < 1024) ↔ ((s : ℕ) × (t : ℕ) × (move (p .set) (x .column) (x .row) byte ≡ To s t))
 
 -- what two walks on the same file, start and list have, whatever their ways and stores: one answer for the start and one for each byte, the same
--- in both
-pub record Agreed (p : Frame) (s t : ℕ) (moves new new′ : List ℕ) (r r′ : Walked) : Type 0 where
-  pub shifts : r .shifts ≡ r′ .shifts
+-- in both; and shift counts, each the sum of what the start window and each byte add by the rule of its way
+pub record Agreed (way way′ : Way) (p : Frame) (s t : ℕ) (moves new new′ : List ℕ) (r r′ : Walked) : Type 0 where
   pub answers : take (length moves + 1) new ≡ take (length moves + 1) new′
   pub first : LowestLevel p s t (getD new 0 0) × Minimises p s t (getD new 0 0)
-  pub next : (j : ℕ) → j < length moves → ByteAnswered p (walkEnd p s t (take j moves)) (getD moves j 0) (getD new (j + 1) 0)
-  pub distances : r .shifts ≡ adds p s t 0 + sum (addedAt p (start p s t) moves) 0 (length moves)
+  pub next : (j : ℕ) → j < length moves → ByteAnswered p (walkEnd way p s t (take j moves)) (getD moves j 0) (getD new (j + 1) 0)
+  -- ways 1 to 3 count by one rule, and two walks by way 4 by another
+  pub shifts : byBlocks way ≡ byBlocks way′ → r .shifts ≡ r′ .shifts
+  pub distances : r .shifts ≡ adds way p s t 0 + sum (addedAt p (start way p s t) moves) 0 (length moves)
+  pub distances′ : r′ .shifts ≡ adds way′ p s t 0 + sum (addedAt p (start way′ p s t) moves) 0 (length moves)
 
 abbrev pub AllWaysAgree : Type 0
 AllWaysAgree =
-    (b : List ℕ) (s t : ℕ) (moves : List ℕ) (way way′ : ℕ) (before after before′ after′ : Stores) (old new old′ new′ : List ℕ) (r r′ : Walked)
+    (b : List ℕ) (s t : ℕ) (moves : List ℕ) (way way′ : ℕ) (before after before′ after′ : Lent)
+    (old new old′ new′ : List ℕ) (r r′ : Walked)
     → Walks b way s t moves before after old new r → Walks b way′ s t moves before′ after′ old′ new′ r′
     → r .verdict ≡ Accepted → r′ .verdict ≡ Accepted
-    → Agreed (frameOf b) s t moves new new′ r r′
+    → Agreed (wayOf way) (wayOf way′) (frameOf b) s t moves new new′ r r′
+
+-- ways 1 to 3, by their numbers, count by one rule: so any two of them agree on the shift count
+abbrev pub OneRule : Type 0
+OneRule = (n : ℕ) → 1 ≤ n → n ≤ 3 → byBlocks (wayOf n) ≡ false
 
 -- every pixel of a filtered frame
 abbrev pub FilterMinimises : Type 0
 FilterMinimises =
-    (b : List ℕ) (way : ℕ) (before after : Stores) (old new : List ℕ) (r : Walked) → Filters b way before after old new r → r .verdict ≡ Accepted
+    (b : List ℕ) (way : ℕ) (before after : Lent) (old new : List ℕ) (r : Walked) → Filters b way before after old new r
+    → r .verdict ≡ Accepted
     → (s t : ℕ) → s < frameOf b .set .width → t < frameOf b .set .height → Minimises (frameOf b) s t (atPixel (frameOf b) new s t)
 
 pub record Demand3 : Type 0 where
   pub agree : AllWaysAgree
+  pub rule : OneRule
   pub minimum : FilterMinimises

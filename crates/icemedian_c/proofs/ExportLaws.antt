@@ -16,8 +16,8 @@ use Rattle.spec.specs.Checks.{settingsOutcome}
 use Rattle.spec.specs.Frame.{Frame}
 use Rattle.spec.specs.Walk.{State}
 use Rattle.spec.specs.Writer.{writerOutcome}
-use Rattle.ways.specs.Visit.{Stores, stores}
 use Rattle.ice_step.specs.declared.Walked.{Walked}
+use Rattle.ice_step.specs.Finished.{Lent, lent}
 use Rattle.ice.specs.declared.Balanced.{Balanced}
 use Rattle.ice.specs.Contract.{Untouched, Ended, Walks, Filters, Balances}
 use Rattle.frame_write.specs.declared.Written.{Written}
@@ -55,7 +55,7 @@ gained : {A : Type 0} (o : Outcome) (new old : A) → o ≡ accepted → new ≡
 gained o new old e = rw e refl
 
 -- ---- walk and filter: the lent results, refused and accepted
-module _ {o : Outcome} {way : Way} {p : Frame} {x : State} {a z : Stores} {due before after : List ℕ} {r : Walked}
+module _ {o : Outcome} {way : Way} {p : Frame} {x : State} {a z : Lent} {due before after : List ℕ} {r : Walked}
     (untouched : (o ≡ accepted → ⊥) → Untouched a z before after r) (ended : o ≡ accepted → Ended way p x a z due after r) where
   buffers-kept : (o ≡ accepted → ⊥) → (z ≡ a) × (after ≡ before)
   buffers-kept n =
@@ -63,7 +63,11 @@ module _ {o : Outcome} {way : Way} {p : Frame} {x : State} {a z : Stores} {due b
       let e1 = u .counts in
       let e2 = u .words in
       let e3 = u .numbers in
-      let e : stores (z .counts) (z .words) (z .numbers) ≡ stores (a .counts) (a .words) (a .numbers) = cc in
+      let e4 = u .summary in
+      let e
+      : lent (z .stores .counts) (z .stores .words) (z .stores .numbers) (z .summary)
+      ≡ lent (a .stores .counts) (a .stores .words) (a .stores .numbers) (a .summary) = cc
+      in
       (e, u .answers)
 
   buffers-ended : o ≡ accepted → Ended way p x a z due after (resultAt way p x)
@@ -78,13 +82,14 @@ module _ {o : Outcome} {way : Way} {p : Frame} {x : State} {a z : Stores} {due b
         numbers = h .numbers;
         numbers-long = h .numbers-long;
         numbers-rest = h .numbers-rest;
+        summary = h .summary;
         answers = h .answers;
       }
 
   called : {old new : ℕ} → new ≡ given o (x .shifts) old → Called o way p x a z due before after old new
   called is = record { shifts-is = is; refused-keeps = buffers-kept; accepted-ends = buffers-ended }
 
-module _ {b : List ℕ} {way s t : ℕ} {moves : List ℕ} {a z : Stores} {before after : List ℕ} {w : Walked}
+module _ {b : List ℕ} {way s t : ℕ} {moves : List ℕ} {a z : Lent} {before after : List ℕ} {w : Walked}
     (h : Walks b way s t moves a z before after w) {r offset₀ offset : ℕ} (q : Reported (numbered (w .verdict)) r offset₀ offset)
     {shifts₀ cut₀ : ℕ} {box₀ : List ℤ} where
   pub walk-called : {shifts cut : ℕ} {box : List ℤ} → shifts ≡ given (numbered (w .verdict)) (w .shifts) shifts₀
@@ -98,7 +103,7 @@ module _ {b : List ℕ} {way s t : ℕ} {moves : List ℕ} {a z : Stores} {befor
         box-is = lends _ (h .verdict) eb (λ e. h .walked e .balance-box);
       }
 
-module _ {b : List ℕ} {way : ℕ} {a z : Stores} {before after : List ℕ} {w : Walked} (h : Filters b way a z before after w)
+module _ {b : List ℕ} {way : ℕ} {a z : Lent} {before after : List ℕ} {w : Walked} (h : Filters b way a z before after w)
     {r offset₀ offset : ℕ} (q : Reported (numbered (w .verdict)) r offset₀ offset) {shifts₀ : ℕ} where
   pub filter-stopped : 0 < r → FilterCall b way a z before after r shifts₀ shifts₀ offset₀ offset
   filter-stopped l =

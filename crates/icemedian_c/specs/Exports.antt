@@ -27,8 +27,9 @@ abbrev pub resultAt : Way → Frame → State → Walked
 resultAt way p x =
     record { verdict = Accepted; shifts = x .shifts; cut = record { 0 = x .cut }; «balance_box» = boxOf way p (x .column) (x .row) (x .cut) }
 
--- of an outcome o and the state x at the end: the stores a and z, the answers or the output, and the shift count, each before and after
-pub record Called (o : Outcome) (way : Way) (p : Frame) (x : State) (before after : Lent) (due old new : List ℕ) (shifts₀ shifts : ℕ) : Type 0 where
+-- of an outcome o and the state x at the end: the stores, the answers or the output, and the shift count, each before and after
+pub record Called (o : Outcome) (way : Way) (p : Frame) (x : State) (before after : Lent) (due old new : List ℕ) (shifts₀ shifts : ℕ)
+    : Type 0 where
   pub shifts-is : shifts ≡ given o (x .shifts) shifts₀
   pub refused-keeps : (o ≡ accepted → ⊥) → (after ≡ before) × (new ≡ old)
   pub accepted-ends : o ≡ accepted → Ended way p x before after due new (resultAt way p x)
@@ -39,13 +40,14 @@ module _ (b : List ℕ) (way s t : ℕ) (moves : List ℕ) where
   walkVerdict before old = walkOutcome b way s t (length moves) (roomIn before) (length old)
 
   -- the results: the shift count, the cut and the balance box, each before and after
-  pub record WalkCall (before after : Lent) (old new : List ℕ) (r shifts₀ shifts cut₀ cut : ℕ) (box₀ box : List ℤ) (offset₀ offset : ℕ)
-      : Type 0 where
+  pub record WalkCall (before after : Lent) (old new : List ℕ) (r shifts₀ shifts cut₀ cut : ℕ) (box₀ box : List ℤ)
+      (offset₀ offset : ℕ) : Type 0 where
     pub reported : Reported (walkVerdict before old) r offset₀ offset
     pub called : Called (walkVerdict before old) (wayOf way) (frameOf b) (walkEnd (wayOf way) (frameOf b) s t moves) before after
         (walkAnswers (frameOf b) s t moves ++ drop (length moves + 1) old) old new shifts₀ shifts
     pub cut-is : cut ≡ given (walkVerdict before old) (walkEnd (wayOf way) (frameOf b) s t moves .cut) cut₀
-    pub box-is : box ≡ given (walkVerdict before old) (resultAt (wayOf way) (frameOf b) (walkEnd (wayOf way) (frameOf b) s t moves) .«balance_box») box₀
+    pub box-is : box ≡ given (walkVerdict before old)
+        (resultAt (wayOf way) (frameOf b) (walkEnd (wayOf way) (frameOf b) s t moves) .«balance_box») box₀
 
 pub record FilterCall (b : List ℕ) (way : ℕ) (before after : Lent) (old new : List ℕ) (r shifts₀ shifts offset₀ offset : ℕ) : Type 0 where
   pub reported : Reported (filterOutcome b way (roomIn before) (length old)) r offset₀ offset

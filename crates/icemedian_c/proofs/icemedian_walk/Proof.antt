@@ -24,10 +24,13 @@ same-length-3 c = search needs
 same-length-4 : tie.Need-same-length-4
 same-length-4 c = search needs
 
+same-length-5 : tie.Need-same-length-5
+same-length-5 c = search needs
+
 returns : tie.Need-returns
 returns c =
     let reported = c .before .before .before .before .before in
-    let walked = reported .before .before .before .before .before .before .before .before .before .before in
+    let walked = reported .before .before .before .before .before .before .before .before .before .before .before in
     walk-called (walked .walk .ensures) (reported .report .ensures) (c .give-walk .ensures .0) (c .give-walk .ensures .1) (c .give-walk .ensures .2)
 
 pub icemedian-walk-spec : {M : Type 1} → statement M
@@ -41,4 +44,5 @@ icemedian-walk-spec =
     same-length-2
     same-length-3
     same-length-4
+    same-length-5
     returns)
