@@ -15,6 +15,7 @@ use window_weights::coefficients;
 ghost use mathlib.Core.Path.{_≡_};
 ghost use Prim.Native.Nat.{_<_, _≤_};
 ghost use lib.IntN.{pos, natAbs, _+ℤ_, _*ℤ_};
+ghost use lib.ListN.{length};
 ghost use Rattle.spec.specs.Frame.{frameOf};
 ghost use Rattle.spec.specs.Checks.{Planned};
 ghost use Rattle.spec.specs.Median.{balance};
@@ -94,19 +95,17 @@ pub fn window_balance(
 }
 
 // The table's row of the centre's guide.
-pub fn table_row(file: &[u8], plan: Plan, f: Guide) -> [u16; 256]
-    requires { ⌜ (Planned (now file) plan) × (f .0 < plan .guides) ⌝ }
-    ensures { λ r. ⌜ TableRow (frameOf (now (file .entry))) (plan .guides) (f .0) r ⌝ }
+pub fn table_row(file: &[u8], plan: Plan, f: Guide, row: &mut [u16; 256])
+    requires { ⌜ (Planned (now file) plan) × (f .0 < plan .guides) × (length (now row) ≡ 256) ⌝ }
+    ensures { λ _. ⌜ TableRow (frameOf (now (file .entry))) (plan .guides) (f .0) (now (row .exit)) ⌝ }
 {
     let built = frame_weights::constants();
     let m = plan.guides;
-    let mut out = [0u16; 256];
     let mut k = 0;
     while k < m {
-        out[k] = table::weight_at(&built, file, plan, f, Guide(k as u16));
+        row[k] = table::weight_at(&built, file, plan, f, Guide(k as u16));
         k += 1;
     }
-    out
 }
 
 // Kind 1.
@@ -115,7 +114,8 @@ pub fn table_balance(file: &[u8], plan: Plan, s: usize, t: usize, top: Level) ->
     ensures { λ r. ⌜ r ≡ balance (frameOf (now (file .entry))) s t (top .0) ⌝ }
 {
     let centre = pixel::guide_at(file, plan, t * plan.width + s);
-    let row = table_row(file, plan, centre);
+    let mut row = [0u16; 256];
+    table_row(file, plan, centre, &mut row);
     let w = Formula {
         slope: 1,
         offset: 0,

@@ -105,8 +105,8 @@ module _ {b : List ℕ} {z : Plan} (pl : Planned b z) where
           (λ i. record { way = Chain; column = ec i; row = er i; cut = (eu ∙ em) i; shifts = added i; answer = (ea ∙ em) i }) ∙ sym (arrive-is c n)
 
 -- the visit's window is the one that it came to, and what ran along was handed in
-pub chain-visited : (b : List ℕ) (z : Plan) (s t c n : ℕ) (v : Visit) (g : Running) (m m′ : List ℕ) → stateOf Chain v ≡ arrive Chain (frameOf b) s t c n →
-    v .running ≡ g
+pub chain-visited : (b : List ℕ) (z : Plan) (s t c n : ℕ) (v : Visit) (g : Running) (m m′ : List ℕ)
+    → stateOf Chain v ≡ arrive Chain (frameOf b) s t c n → v .running ≡ g
     → SumsAt (frameOf b) s t (g .sums) → Stored b z s t m (g .free) m′ → ChainVisited b z (arrive Chain (frameOf b) s t c n) m v m′
 chain-visited b z s t c n v g m m′ e same sums stored =
     record {

@@ -7,6 +7,8 @@ ghost use Rattle.spec.specs.Calls.{wayOf, jointRoom, numbersRoom, roomOf, lacks
 ghost use Rattle.spec.specs.Checks.{SettingsLimits};
 ghost use Rattle.spec.specs.Frame.{settingsIn};
 
+const BLOCK: usize = spec::BLOCK as usize;
+
 // The way that a number names, where check 8 lets it pass.
 pub fn way_of(way: u32) -> Way
     ensures { λ r. ⌜ r ≡ wayOf way ⌝ }
@@ -61,7 +63,7 @@ fn needed(way: Way, plan: Plan) -> Room
     let columns = 2 * (plan.width * l) + 2 * l;
     let side = 2 * plan.radius + 1;
     let nodes = 1 + 4 * (side * side);
-    let blocks = (l + 15) / 16;
+    let blocks = (l + (BLOCK - 1)) / BLOCK;
     match way {
         Way::Joint => joint_room(plan, 0),
         Way::Columns => numbers_room(columns),

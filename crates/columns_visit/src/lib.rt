@@ -99,8 +99,8 @@ pub fn enter(file: &[u8], plan: Plan, column: usize, row: usize, blocks: &mut [u
     requires { ⌜ (Planned (now file) plan) × (plan .kind ≡ 2) ⌝ }
     requires { ⌜ (column < plan .width) × (row < plan .height) ⌝ }
     requires { ⌜ roomOf Columns (frameOf (now file) .set) .numbers ≤ length (now blocks) ⌝ }
-    ensures { λ r. ⌜ ColumnsVisited (frameOf (now (file .entry))) (arrive Columns (frameOf (now (file .entry))) column row 0 0) (now (blocks .entry)) r
-        (now (blocks .exit)) ⌝ }
+    ensures { λ r. ⌜ ColumnsVisited (frameOf (now (file .entry))) (arrive Columns (frameOf (now (file .entry))) column row 0 0)
+        (now (blocks .entry)) r (now (blocks .exit)) ⌝ }
 {
     store::start(file, plan, blocks, column, row);
     let sums = sums::start(file, plan, column, row);
@@ -126,8 +126,8 @@ pub fn slide(
     requires { ⌜ (Planned (now file) plan) × (plan .kind ≡ 2) ⌝ }
     requires { ⌜ (Within plan from) × (Adjacent plan (from .column) (from .row) column row) ⌝ }
     requires { ⌜ ColumnsAt (frameOf (now file)) from (now blocks) ⌝ }
-    ensures { λ r. ⌜ ColumnsVisited (frameOf (now (file .entry))) (arrive Columns (frameOf (now (file .entry))) column row (from .cut .0) (from .shifts))
-        (now (blocks .entry)) r (now (blocks .exit)) ⌝ }
+    ensures { λ r. ⌜ ColumnsVisited (frameOf (now (file .entry)))
+        (arrive Columns (frameOf (now (file .entry))) column row (from .cut .0) (from .shifts)) (now (blocks .entry)) r (now (blocks .exit)) ⌝ }
 {
     let step = line::step_to(plan, from.column, from.row, column, row);
     let known = from.running;

@@ -82,7 +82,7 @@ ended {way} {p} {x} {a} {z} due after h e =
     record {
       shifts = h .closed .shifts;
       cut = h .closed .cut;
-      balance-box = h .closed .balance-box;
+      balance-box = h .closed .handed-back .balance-box;
       counts =
           whole (roomOf way (p .set) .counts) (countsOf way p (x .column) (x .row)) (z .stores .counts) (a .stores .counts) (h .holds .counts)
           (h .kept .counts .beyond);
@@ -92,7 +92,7 @@ ended {way} {p} {x} {a} {z} due after h e =
       numbers = h .holds .numbers;
       numbers-long = h .kept .numbers .long;
       numbers-rest = h .kept .numbers .beyond;
-      summary = h .closed .summary;
+      summary = h .closed .handed-back .summary;
       answers = e;
     }
 
@@ -118,8 +118,8 @@ module _ (b : List ℕ) (way : ℕ) (y : Way) (ey : y ≡ wayOf way) (a z : Lent
         refused = λ n. absurd (n o);
         filtered =
             λ _. subst
-            (λ (q : Way). Ended q (frameOf b) (filterEnd q (frameOf b)) a z (filtered (frameOf b) ++ drop (pixels (frameOf b .set)) before) after r) ey
-            (ended _ _ h e);
+            (λ (q : Way). Ended q (frameOf b) (filterEnd q (frameOf b)) a z (filtered (frameOf b) ++ drop (pixels (frameOf b .set)) before) after r)
+            ey (ended _ _ h e);
       }
 
 -- ---- what an accepted call hands on

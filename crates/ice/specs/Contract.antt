@@ -56,7 +56,8 @@ pub record Filters (b : List ℕ) (way : ℕ) (before after : Lent) (old new : L
   pub verdict : numbered (r .verdict) ≡ filterOutcome b way (roomIn before) (length old)
   pub refused : (filterOutcome b way (roomIn before) (length old) ≡ accepted → ⊥) → Untouched before after old new r
   pub filtered : filterOutcome b way (roomIn before) (length old) ≡ accepted
-      → Ended (wayOf way) (frameOf b) (filterEnd (wayOf way) (frameOf b)) before after (filtered (frameOf b) ++ drop (pixels (frameOf b .set)) old) new r
+      → Ended (wayOf way) (frameOf b) (filterEnd (wayOf way) (frameOf b)) before after
+      (filtered (frameOf b) ++ drop (pixels (frameOf b .set)) old) new r
 
 -- balance
 pub record Balances (b : List ℕ) (s t i : ℕ) (r : Balanced) : Type 0 where

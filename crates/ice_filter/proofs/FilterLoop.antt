@@ -111,7 +111,8 @@ module _ (way : Way) (b : List ℕ) (g : FrameLimits (frameOf b)) where
   pub sweep-goes : (x : State) (a : Stores) (O₀ : List ℕ) (z : Stores) (O hs : List ℕ) (d : List ℤ) (v : Visit) (i : ℕ) →
       Sweeping way b x a O₀ z O hs d v i
       → i + 1 < pixels (p .set) → (byte : ℕ) → byte ≡ turn (p .set .width) i → (z′ : Stores) (hs′ : List ℕ) (d′ : List ℤ) (v′ : Visit)
-      → Visited way b (step p (stateOf way v) byte) z z′ hs′ d′ v′ → At p (stateOf way v′) (columnAfter (p .set .width) (i + 1)) ((i + 1) / p .set .width)
+      → Visited way b (step p (stateOf way v) byte) z z′ hs′ d′ v′
+      → At p (stateOf way v′) (columnAfter (p .set .width) (i + 1)) ((i + 1) / p .set .width)
   sweep-goes x a O₀ z O hs d v i w l byte eb z′ hs′ d′ v′ h =
       subst (λ (q : State). At p q (columnAfter (p .set .width) (i + 1)) ((i + 1) / p .set .width)) (sym (h .state))
       (subst (λ (n : ℕ). At p (step p (stateOf way v) n) (columnAfter (p .set .width) (i + 1)) ((i + 1) / p .set .width)) (sym eb)
@@ -127,7 +128,8 @@ module _ (way : Way) (b : List ℕ) (g : FrameLimits (frameOf b)) where
 
   pub sweep-start : (z : Stores) (O hs : List ℕ) (d : List ℤ) (v : Visit) → pixels (p .set) ≤ length O → stateOf way v ≡ start way p 0 0 →
       AtWindow way b z hs d v
-      → StateBounded p (stateOf way v) 1 → (m : ℕ) → m ≡ answerNumber (v .answer) → Sweeping way b (stateOf way v) z (set O 0 m) z (set O 0 m) hs d v 0
+      → StateBounded p (stateOf way v) 1 → (m : ℕ) → m ≡ answerNumber (v .answer)
+      → Sweeping way b (stateOf way v) z (set O 0 m) z (set O 0 m) hs d v 0
   sweep-start z O hs d v long e h on m em =
       let k : At p (stateOf way v) (columnAfter (p .set .width) 0) (0 / p .set .width) =
       subst (λ (q : State). At p q (columnAfter (p .set .width) 0) (0 / p .set .width)) (sym e) (serpentine-begins way g) in

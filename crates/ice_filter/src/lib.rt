@@ -5,6 +5,7 @@ use ice_step::finish;
 use ice_step::step;
 use joint_rows::rows;
 use spec::Plan;
+use spec::Verdict;
 use spec::Way;
 use spec::answer_number;
 use ways::dispatch;
@@ -80,5 +81,13 @@ pub fn sweep(
         let answer = then.answer;
         output[at] = answer_number(answer);
     }
-    finish(file, plan, way, visit, balance_box, summary)
+    finish(file, plan, way, visit, &mut balance_box, summary);
+    let cut = visit.cut;
+    let shifts = visit.shifts;
+    Walked {
+        verdict: Verdict::Accepted,
+        shifts,
+        cut,
+        balance_box,
+    }
 }

@@ -33,7 +33,7 @@ use Rattle.visit.specs.Visit.{stateOf, Within}
 use Rattle.ways.specs.Visit.{Stores, StoresFit, KeptBeyond, RestKept, ownBox, AtWindow, Visited}
 use Rattle.ways.proofs.WayLaws.{settings-same, beyond-same}
 use Rattle.ice_step.specs.declared.Walked.{Walked}
-use Rattle.ice_step.specs.Finished.{Closed, Finished}
+use Rattle.ice_step.specs.Finished.{HandedBack, Finished}
 
 -- ---- the plan's settings are within document 01's limits
 pub settings-limits-in : {b : List ℕ} {z : Plan} → Planned b z → SettingsLimits (settingsIn z)
@@ -110,7 +110,8 @@ module _ (way : Way) {b : List ℕ} {z : Plan} (k : Planned b z) (x : Visit) (by
       record { state = q ∙ sym (step-nowhere (frameOf b) (stateOf way x) byte mark m); here = h; kept = kept-same way (frameOf b .set) s }
 
 -- ---- a walk's state is within the plan
-pub within-of : (way : Way) {b : List ℕ} {z : Plan} → Planned b z → (v : Visit) (n : ℕ) → StateBounded (frameOf b) (stateOf way v) n → n ≤ 1048577 → Within z v
+pub within-of : (way : Way) {b : List ℕ} {z : Plan} → Planned b z → (v : Visit) (n : ℕ)
+    → StateBounded (frameOf b) (stateOf way v) n → n ≤ 1048577 → Within z v
 within-of way {b} {z} k v n h l =
     let f = facts k in
     record {
@@ -125,24 +126,23 @@ pub held-first : (way : Way) {b : List ℕ} {z : Plan} → Planned b z → (s t 
     → stateOf way v ≡ start way (frameOf b) s t → StateBounded (frameOf b) (stateOf way v) 1
 held-first way {b} k s t v hs ht e = subst (λ (q : State). StateBounded (frameOf b) q 1) (sym e) (bounded-start (pixel-of k hs ht) way)
 
--- ---- the end of a loop: the result and the summary, by the rule that the way counts by
-module _ (p : Frame) (x : State) (before after : List ℤ) (r : Walked) (told : r .verdict ≡ Accepted) (shifts : r .shifts ≡ x .shifts)
-    (cut : r .cut .0 ≡ x .cut) where
-  pub closed-blocks : (way : Way) → byBlocks way ≡ true → r .«balance_box» ≡ zeros
-      → after ≡ summary p (x .column) (x .row) ++ drop (blockCount (p .set)) before → Closed way p x before after r
+-- ---- the end of a loop: the summary and the box, by the rule that the way counts by
+module _ (p : Frame) (x : State) (before after : List ℤ) (box : List ℤ) where
+  pub back-blocks : (way : Way) → byBlocks way ≡ true → box ≡ zeros
+      → after ≡ summary p (x .column) (x .row) ++ drop (blockCount (p .set)) before → HandedBack way p x before after box
   unfolding roomOf boxOf summaryOf
-  closed-blocks Joint e q m = absurd (true≢false (sym e))
-  closed-blocks Columns e q m = absurd (true≢false (sym e))
-  closed-blocks Chain e q m = absurd (true≢false (sym e))
-  closed-blocks Coarse e q m = record { verdict = told; shifts = shifts; cut = cut; balance-box = q; summary = m }
+  back-blocks Joint e q m = absurd (true≢false (sym e))
+  back-blocks Columns e q m = absurd (true≢false (sym e))
+  back-blocks Chain e q m = absurd (true≢false (sym e))
+  back-blocks Coarse e q m = record { balance-box = q; summary = m }
 
-  pub closed-levels : (way : Way) → byBlocks way ≡ false → r .«balance_box» ≡ ownBox way p (x .column) (x .row) (x .cut) → after ≡ before
-      → Closed way p x before after r
+  pub back-levels : (way : Way) → byBlocks way ≡ false → box ≡ ownBox way p (x .column) (x .row) (x .cut) → after ≡ before
+      → HandedBack way p x before after box
   unfolding roomOf boxOf summaryOf ownBox
-  closed-levels Joint e q m = record { verdict = told; shifts = shifts; cut = cut; balance-box = q; summary = m }
-  closed-levels Columns e q m = record { verdict = told; shifts = shifts; cut = cut; balance-box = q; summary = m }
-  closed-levels Chain e q m = record { verdict = told; shifts = shifts; cut = cut; balance-box = q; summary = m }
-  closed-levels Coarse e q m = absurd (true≢false e)
+  back-levels Joint e q m = record { balance-box = q; summary = m }
+  back-levels Columns e q m = record { balance-box = q; summary = m }
+  back-levels Chain e q m = record { balance-box = q; summary = m }
+  back-levels Coarse e q m = absurd (true≢false e)
 
 -- the room that the summary needs
 pub blocks-fit : (way : Way) → byBlocks way ≡ true → {b : List ℕ} {z : Plan} → Planned b z → (n : ℕ) → roomOf way (settingsIn z) .summary ≤ n
@@ -155,11 +155,16 @@ blocks-fit Coarse e k n h = subst (λ (q : Settings). blockCount q ≤ n) (setti
 
 -- what a visit leaves, and the end made of it
 pub finished : {way : Way} {b : List ℕ} {x : State} {a z : Stores} {hs : List ℕ} {d s s′ : List ℤ} (v : Visit) (r : Walked)
-    → Visited way b x a z hs d v → Closed way (frameOf b) (stateOf way v) s s′ r
+    → r .verdict ≡ Accepted → r .shifts ≡ v .shifts → r .cut .0 ≡ v .cut .0
+    → Visited way b x a z hs d v → HandedBack way (frameOf b) (stateOf way v) s s′ (r .«balance_box»)
     → Finished way (frameOf b) x (record { stores = a; summary = s }) (record { stores = z; summary = s′ }) r
-finished {way} {b} {x} {a} {z} {hs} {d} {s} {s′} v r h c =
+finished {way} {b} {x} {a} {z} {hs} {d} {s} {s′} v r told shifts cut h back =
     subst (λ (w : State). Finished way (frameOf b) w (record { stores = a; summary = s }) (record { stores = z; summary = s′ }) r) (h .state)
-    (record { closed = c; holds = h .here .holds; kept = h .kept })
+    (record {
+      closed = record { verdict = told; shifts = shifts; cut = cut; handed-back = back };
+      holds = h .here .holds;
+      kept = h .kept;
+    })
 
 -- ---- a list with one more byte
 pub answers-one : (p : Frame) (x : State) (bs : List ℕ) (b : ℕ) →

@@ -38,13 +38,17 @@ pub record LentFits (way : Way) (settings : Settings) (held : Lent) : Type 0 whe
   pub stores : StoresFit way settings (held .stores)
   pub summary : roomOf way settings .summary ≤ length (held .summary)
 
+-- at the end in the state x: the summary, and the box for the result
+pub record HandedBack (way : Way) (p : Frame) (x : State) (before after : List ℤ) (box : List ℤ) : Type 0 where
+  pub balance-box : box ≡ boxOf way p (x .column) (x .row) (x .cut)
+  pub summary : after ≡ summaryOf way p (x .column) (x .row) ++ drop (roomOf way (p .set) .summary) before
+
 -- the result of a loop that ended in the state x, and the summary
 pub record Closed (way : Way) (p : Frame) (x : State) (before after : List ℤ) (r : Walked) : Type 0 where
   pub verdict : r .verdict ≡ Accepted
   pub shifts : r .shifts ≡ x .shifts
   pub cut : r .cut .0 ≡ x .cut
-  pub balance-box : r .«balance_box» ≡ boxOf way p (x .column) (x .row) (x .cut)
-  pub summary : after ≡ summaryOf way p (x .column) (x .row) ++ drop (roomOf way (p .set) .summary) before
+  pub handed-back : HandedBack way p x before after (r .«balance_box»)
 
 -- and the stores of its last window
 pub record Finished (way : Way) (p : Frame) (x : State) (before after : Lent) (r : Walked) : Type 0 where

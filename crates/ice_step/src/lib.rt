@@ -19,7 +19,7 @@ ghost use Rattle.spec.specs.Calls.{roomOf};
 ghost use Rattle.joint_rows.specs.Rows.{WeightRows};
 ghost use Rattle.visit.specs.Visit.{stateOf, Within};
 ghost use Rattle.ways.specs.Visit.{stores, StoresFit, Serves, ownBox, AtWindow, Visited};
-ghost use Rattle.ice_step.specs.Finished.{Closed};
+ghost use Rattle.ice_step.specs.Finished.{HandedBack};
 
 // What walk and filter give back beside the buffers: the verdict; the shift count, the last cut point and, for the joint way, the balance box (zeros
 // for the other ways; all zeros where refused).
@@ -84,37 +84,24 @@ pub fn step(
     }
 }
 
-// The end of a loop, at its last window: the result, and way 4's summary. A pixel's weight depends on the window's centre, so that no sum of weights
-// could be carried along; and the box that way 4 searched by is the walk's own.
+// The end of a loop, at its last window: way 4's summary. A pixel's weight depends on the window's centre, so that no sum of weights could be
+// carried along. The box that way 4 searched by is the walk's own, and is handed back as zeros.
 pub fn finish(
     file: &[u8],
     plan: Plan,
     way: Way,
     visit: Visit,
-    balance_box: [i16; 256],
+    balance_box: &mut [i16; 256],
     summary: &mut [i64],
-) -> Walked
+)
     requires { ⌜ (Planned (now file) plan) × (Within plan visit) ⌝ }
-    requires { ⌜ («balance_box» ≡ ownBox way (frameOf (now file)) (visit .column) (visit .row) (visit .cut .0))
+    requires { ⌜ (now «balance_box» ≡ ownBox way (frameOf (now file)) (visit .column) (visit .row) (visit .cut .0))
         × (roomOf way (settingsIn plan) .summary ≤ length (now summary)) ⌝ }
-    ensures { λ r. ⌜ Closed way (frameOf (now (file .entry))) (stateOf way visit) (now (summary .entry)) (now (summary .exit)) r ⌝ }
+    ensures { λ _. ⌜ HandedBack way (frameOf (now (file .entry))) (stateOf way visit) (now (summary .entry)) (now (summary .exit))
+        (now («balance_box» .exit)) ⌝ }
 {
-    let cut = visit.cut;
-    let shifts = visit.shifts;
     if by_blocks(way) {
         summary::fill(file, plan, visit.column, visit.row, summary);
-        let none = [0i16; 256];
-        return Walked {
-            verdict: Verdict::Accepted,
-            shifts,
-            cut,
-            balance_box: none,
-        };
-    }
-    Walked {
-        verdict: Verdict::Accepted,
-        shifts,
-        cut,
-        balance_box,
+        *balance_box = [0i16; 256];
     }
 }

@@ -4,6 +4,7 @@ use ice_step::finish;
 use ice_step::step;
 use joint_rows::rows;
 use spec::Plan;
+use spec::Verdict;
 use spec::Way;
 use spec::answer_number;
 use ways::dispatch;
@@ -36,7 +37,8 @@ pub fn travel(
     requires { ⌜ length (now moves) ≤ 1048576 ⌝ }
     requires { ⌜ LentFits way (settingsIn plan) (lent (now counts) (now words) (now numbers) (now summary)) ⌝ }
     requires { ⌜ length (now moves) + 1 ≤ length (now answers) ⌝ }
-    ensures { λ r. ⌜ Finished way (frameOf (now (file .entry))) (definitions.walkEnd way (frameOf (now (file .entry))) column row (now (moves .entry)))
+    ensures { λ r. ⌜ Finished way (frameOf (now (file .entry)))
+        (definitions.walkEnd way (frameOf (now (file .entry))) column row (now (moves .entry)))
         (lent (now (counts .entry)) (now (words .entry)) (now (numbers .entry)) (now (summary .entry)))
         (lent (now (counts .exit)) (now (words .exit)) (now (numbers .exit)) (now (summary .exit))) r ⌝ }
     ensures { λ _. ⌜ now (answers .exit) ≡ definitions.walkAnswers (frameOf (now (file .entry))) column row (now (moves .entry))
@@ -81,5 +83,13 @@ pub fn travel(
         i += 1;
         answers[i] = answer_number(answer);
     }
-    finish(file, plan, way, visit, balance_box, summary)
+    finish(file, plan, way, visit, &mut balance_box, summary);
+    let cut = visit.cut;
+    let shifts = visit.shifts;
+    Walked {
+        verdict: Verdict::Accepted,
+        shifts,
+        cut,
+        balance_box,
+    }
 }

@@ -5,7 +5,7 @@ ghost use Prim.Native.Nat.{_+_, _-_, _≤_, _<_};
 ghost use lib.ListN.{length};
 ghost use Rattle.joint_cells.specs.Vacant.{Clear, WordsFit, Vacant};
 
-pub const BLOCK: u16 = 16;
+pub const BLOCK: u16 = spec::BLOCK;
 
 // Whether n words from the first are all 0: one pass without a branch, many words at a time.
 pub fn clear(words: &[u64], first: usize, n: usize) -> bool

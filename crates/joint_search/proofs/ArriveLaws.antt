@@ -12,7 +12,8 @@ use Rattle.joint_search.specs.Arrive.{hollowAt, answeredAt, arrivalIn}
 
 module _ (blocks : Bool) (sizes : Sizes) (cs row : List ℕ) (c n : ℕ) where
   by-case : {b : Bool} → b ≡ weightlessIn sizes cs row →
-      (if b then hollowAt c n else answeredAt (medianIn sizes cs row) (n + shiftsTo blocks (medianIn sizes cs row) c)) ≡ arrivalIn blocks sizes cs row c n
+      (if b then hollowAt c n else answeredAt (medianIn sizes cs row) (n + shiftsTo blocks (medianIn sizes cs row) c))
+      ≡ arrivalIn blocks sizes cs row c n
   unfolding arrivalIn
   by-case e = ap (λ (b : Bool). if b then hollowAt c n else answeredAt (medianIn sizes cs row) (n + shiftsTo blocks (medianIn sizes cs row) c)) e
 

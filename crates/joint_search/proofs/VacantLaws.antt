@@ -106,7 +106,8 @@ module _ {sizes : Sizes} {cs ws : List ℕ} (st : Searchable sizes cs ws) (i : �
       (lt-or-le j i)
 
 -- ---- the same from the block's last level
-module _ {sizes : Sizes} {cs ws : List ℕ} (st : Searchable sizes cs ws) (i : ℕ) (h : 16 ≤ i) (v : Vacant (sizes .levels) (sizes .guides) (i - 15) ws) where
+module _ {sizes : Sizes} {cs ws : List ℕ} (st : Searchable sizes cs ws) (i : ℕ) (h : 16 ≤ i)
+    (v : Vacant (sizes .levels) (sizes .guides) (i - 15) ws) where
   turned : Vacant (sizes .levels) (sizes .guides) (i - 16 + 1) ws
   turned = let e : i - 15 ≡ i - 16 + 1 = omega arith in subst (λ (q : ℕ). Vacant (sizes .levels) (sizes .guides) q ws) e v
 

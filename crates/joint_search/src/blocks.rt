@@ -1,5 +1,5 @@
-// Way 4: the search of kind 1 by blocks of 16 levels, from the cut point. A block without a pixel is passed at once; the others are looked through level
-// by level, the box's cut point moved along. The loops stand beside way 1's, which would be an eighth slower with the test of a block in it.
+// Way 4: the search of kind 1 by blocks of 16 levels, from the cut point. A block without a pixel is passed at once; the others are looked through
+// level by level, the box's cut point moved along. The loops stand beside way 1's, which would be an eighth slower with the test of a block in it.
 use crate::Sizes;
 use crate::find::step_balance;
 use joint_cells::level::level_weight;
@@ -16,8 +16,8 @@ ghost use lib.Signed.{_≤ℤ_};
 ghost use Rattle.joint_cells.specs.Scan.{RowFits};
 ghost use Rattle.joint_search.specs.Search.{balanceIn, medianIn, boxIn, Searchable, Climbed, Descended};
 
-// Up to the first level from the given one on whose balance is not negative; bal is the balance at the given one. Neither balance nor box changes in a
-// block without a pixel.
+// Up to the first level from the given one on whose balance is not negative; bal is the balance at the given one. Neither balance nor box changes
+// in a block without a pixel.
 pub fn climb(
     sizes: Sizes,
     row: &[u16],

@@ -1,5 +1,5 @@
-// Way 1, kind 1: levels looked through one by one, a shift counted for each, and the box's cut point moved along with the search, because a level's counts
-// are at hand then. Kind 2 finds its level elsewhere: the cut point moved to a level that is known.
+// Way 1, kind 1: levels looked through one by one, a shift counted for each, and the box's cut point moved along with the search, because a level's
+// counts are at hand then. Kind 2 finds its level elsewhere: the cut point moved to a level that is known.
 use crate::Sizes;
 use joint_cells::level::level_weight;
 use joint_cells::raise::raise_level;

@@ -1,5 +1,5 @@
-// Ways 1 and 4, joint and coarse, in kind 1: a window's part in a walk, its stores and its box being made. A window without weight answers its centre's own level and
-// keeps cut point and shifts.
+// Ways 1 and 4, joint and coarse, in kind 1: a window's part in a walk, its stores and its box being made. A window without weight answers its
+// centre's own level and keeps cut point and shifts.
 use chain_nodes::FreeList;
 use joint_rows::rows;
 use joint_search::Sizes;

@@ -78,7 +78,8 @@ joint-visited way p s t c n v xs ws xs′ ws′ bx ns e j k =
     }
 
 -- ---- by kind and way, from stores that were made or moved with the box at the kept level
-module _ {b : List ℕ} {z : Plan} (pl : Planned b z) (way : Way) (c n : ℕ) {s t : ℕ} {v : Visit} {xs ws xs′ ws′ : List ℕ} {bx : List ℤ} {ns : List ℕ} where
+module _ {b : List ℕ} {z : Plan} (pl : Planned b z) (way : Way) (c n : ℕ) {s t : ℕ} {v : Visit}
+    {xs ws xs′ ws′ : List ℕ} {bx : List ℤ} {ns : List ℕ} where
   -- kind 1
   pub table-visited : {d : ℕ} {bx₀ : List ℤ} → z .kind ≡ 1 → JointAt (frameOf b) s t d xs ws xs′ ws′ bx₀
       → (stateOf way v ≡ arrive way (frameOf b) s t c n) × (bx ≡ balanceBox (frameOf b) s t (v .cut .0))

@@ -1,6 +1,6 @@
-// Ways 1 and 4, joint and coarse, at a window of a walk: the stores made or moved, its answer, the cut point moved to it, and the shifts counted. The
-// walk lends file, rows, box, stores and histogram, and hands the visit on. Way 4's box is the walk's own: kind 1 searches by it, and in kind 2, which
-// has no use for it, it stays at level 0.
+// Ways 1 and 4, joint and coarse, at a window of a walk: the stores made or moved, its answer, the cut point moved to it, and the shifts counted.
+// The walk lends file, rows, box, stores and histogram, and hands the visit on. Way 4's box is the walk's own: kind 1 searches by it, and in kind 2,
+// which has no use for it, it stays at level 0.
 use joint::list;
 use joint::start as store_start;
 use pixels::sums;
@@ -112,8 +112,8 @@ pub fn slide(
         (now histogram)) ⌝ }
     requires { ⌜ (WeightRows plan (now weights)) × (Within plan from) × (JointWay way) ⌝ }
     ensures { λ r. ⌜ JointVisited way (frameOf (now (file .entry)))
-        (arrive way (frameOf (now (file .entry))) column row (from .cut .0) (from .shifts)) r (now (counts .entry)) (now (words .entry)) (now (counts .exit)) (now (words .exit))
-        (now («balance_box» .exit)) (now (histogram .exit)) ⌝ }
+        (arrive way (frameOf (now (file .entry))) column row (from .cut .0) (from .shifts)) r
+        (now (counts .entry)) (now (words .entry)) (now (counts .exit)) (now (words .exit)) (now («balance_box» .exit)) (now (histogram .exit)) ⌝ }
 {
     let step = line::step_to(plan, from.column, from.row, column, row);
     let mut entering = [0u16; 62];

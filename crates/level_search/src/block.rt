@@ -12,7 +12,7 @@ ghost use Rattle.window_weights.specs.Coefficients.{CoefficientsSmall};
 ghost use Rattle.level_search.specs.Search.{sumTo};
 ghost use Rattle.level_search.specs.Block.{EndsBelow, Light};
 
-pub const BLOCK: usize = 16;
+pub const BLOCK: usize = spec::BLOCK as usize;
 
 pub fn larger(a: i64, b: i64) -> i64
     requires { ⌜ (natAbs a ≤ 240207812100) × (natAbs b ≤ 240207812100) ⌝ }

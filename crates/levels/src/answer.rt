@@ -23,7 +23,8 @@ pub fn answer(
     cut: Level,
     shifts: u64,
 ) -> Found
-    requires { ⌜ (Answerable coefficients guides monotone shifts (now counts) (now sums)) × (FromCut monotone (cut .0) below (now counts) (now sums)) ⌝ }
+    requires { ⌜ (Answerable coefficients guides monotone shifts (now counts) (now sums))
+        × (FromCut monotone (cut .0) below (now counts) (now sums)) ⌝ }
     ensures { λ f. ⌜ (FoundAt coefficients (now (counts .entry)) (now (sums .entry)) f)
         × (f .shifts ≡ shifts + (if monotone then distance (f .level .0) (cut .0) else f .level .0)) ⌝ }
 {

@@ -1,5 +1,5 @@
-// The answer by blocks of 16 levels: where the window is monotone, the cumulative weight never falls, so that the first block whose end reaches half has
-// the answer. No cut point enters the search.
+// The answer by blocks of 16 levels: where the window is monotone, the cumulative weight never falls, so that the first block whose end reaches half
+// has the answer. No cut point enters the search.
 use level_search::Tally;
 use level_search::block;
 use level_search::block::BLOCK;

@@ -118,7 +118,8 @@ unfolding arrive adds
 arrive-full way p s t c n e = rw (e, answer-median p s t e) refl
 
 -- ---- one byte
-pub step-to : (p : Frame) (x : State) (b s t : ℕ) → move (p .set) (x .column) (x .row) b ≡ To s t → step p x b ≡ arrive (x .way) p s t (x .cut) (x .shifts)
+pub step-to : (p : Frame) (x : State) (b s t : ℕ) → move (p .set) (x .column) (x .row) b ≡ To s t
+    → step p x b ≡ arrive (x .way) p s t (x .cut) (x .shifts)
 unfolding step follow
 step-to p x b s t e = rw e refl
 

@@ -96,6 +96,11 @@ pub enum Way {
     Coarse,
 }
 
+// The levels of a block: way 4 counts and adds up by blocks, and the searches pass over them.
+pub const BLOCK: u16 = 16;
+
+const BLOCK_OF_SHIFTS: u64 = BLOCK as u64;
+
 // How many numbers of each store: 16-bit counts, 64-bit occupancy words, 32-bit numbers, and the signed 64-bit weight sums of the summary.
 pub struct Room {
     pub counts: usize,
@@ -135,7 +140,7 @@ pub fn shifts_to(blocks: bool, level: Level, cut: Level) -> u64
     let m = level.0 as u64;
     let c = cut.0 as u64;
     if blocks {
-        return m / 16 + m % 16;
+        return m / BLOCK_OF_SHIFTS + m % BLOCK_OF_SHIFTS;
     }
     if m < c {
         return c - m;

@@ -23,7 +23,7 @@ ghost use Rattle.pixels.specs.Pixels.{countOf};
 ghost use Rattle.balance.specs.Balance.{PixelsWeighed, Weighed};
 ghost use Rattle.summary.specs.Summary.{LineBlocks, BlocksAdded, Cleared};
 
-pub const BLOCK: usize = 16;
+const BLOCK: usize = spec::BLOCK as usize;
 
 // 0 in the first n places.
 pub fn clear(summary: &mut [i64], n: usize)
@@ -93,7 +93,8 @@ pub fn fill_table(file: &[u8], plan: Plan, s: usize, t: usize, summary: &mut [i6
         ++ drop (definitions.blockCount (frameOf (now (file .entry)) .set)) (now (summary .entry)) ⌝ }
 {
     let centre = pixel::guide_at(file, plan, t * plan.width + s);
-    let row = table_row(file, plan, centre);
+    let mut row = [0u16; 256];
+    table_row(file, plan, centre, &mut row);
     let w = Formula {
         slope: 1,
         offset: 0,

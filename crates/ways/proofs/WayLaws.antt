@@ -168,8 +168,8 @@ module _ (way : Way) {b : List ℕ} {z : Plan} (k : Planned b z) (cs ws ns : Lis
   module _ (hs : List ℕ) (d : List ℤ) (v : Visit) where
     pub joint-at : joint.JointWay way → AtWindow way b (stores cs ws ns) hs d v → Within z v
         →
-        Held b z (v .column) (v .row) (joint.boxCut (byBlocks way) (z .kind) (v .cut .0)) cs ws d × joint.GuidedCarried (frameOf b) (v .column) (v .row)
-        (v .cut .0) (v .running .sums) (v .running .below) hs
+        Held b z (v .column) (v .row) (joint.boxCut (byBlocks way) (z .kind) (v .cut .0)) cs ws d
+        × joint.GuidedCarried (frameOf b) (v .column) (v .row) (v .cut .0) (v .running .sums) (v .running .below) hs
     joint-at w g q =
         let j = joint-stores way w in
         let p = frameOf b in
@@ -204,7 +204,8 @@ module _ (way : Way) {b : List ℕ} {z : Plan} (k : Planned b z) (cs ws ns : Lis
         let t = v .row in
         let cells : length (countsOf way p s t) ≡ roomOf way (p .set) .counts =
         ap length (j .counts p s t)
-        ∙ length-tabulate (p .set .levels * p .set .guides) (λ q. count p s t (q / p .set .guides) (q % p .set .guides)) ∙ sym (j .counts-room (p .set)) in
+        ∙ length-tabulate (p .set .levels * p .set .guides) (λ q. count p s t (q / p .set .guides) (q % p .set .guides))
+        ∙ sym (j .counts-room (p .set)) in
         let words : length (wordsOf way p s t) ≡ roomOf way (p .set) .words =
         ap length (j .words p s t)
         ∙ length-tabulate (p .set .levels * wordsPerLevel (p .set))

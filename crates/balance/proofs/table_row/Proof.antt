@@ -3,7 +3,7 @@ use native.Mathlib.Omega.{arith}
 use borrow.Author.Needs.{needs}
 use Prim.Native.Nat.{ℕ, _-_, _≤_, _<_}
 use mathlib.Core.Path.{_≡_, refl}
-use lib.ListN.{length, length-replicate}
+use lib.ListN.{length}
 use Rattle.spec.specs.Frame.{table, heaviest, frameOf}
 use Rattle.window.proofs.PixelLaws.{guides-high}
 use Rattle.joint_rows.specs.Rows.{Made}
@@ -13,11 +13,11 @@ use Rattle.balance.proofs.table_row.Statement.{statement}
 use Rattle.balance.proofs.table_row.Tie as tie
 
 abbrev Inv-loop : tie.InvT-loop
-Inv-loop file plan f built m out₀ k₀ out k =
-    (k ≤ m) × Made (table (frameOf file) (f .0)) 0 k out₀ out × ((g : ℕ) → g < k → table (frameOf file) (f .0) g ≤ heaviest) × (length out₀ ≡ 256)
+Inv-loop file plan f row₀ built m k₀ row k =
+    (k ≤ m) × Made (table (frameOf file) (f .0)) 0 k row₀ row × ((g : ℕ) → g < k → table (frameOf file) (f .0) g ≤ heaviest) × (length row₀ ≡ 256)
 
 abbrev μ-loop : tie.MeasureT-loop
-μ-loop file plan f built m out₀ k₀ out k = m - k
+μ-loop file plan f row₀ built m k₀ row k = m - k
 
 abbrev start : tie.At-loop Inv-loop μ-loop → tie.Start Inv-loop μ-loop
 start h = h .before .before .before
@@ -26,7 +26,7 @@ constants-requires : tie.Need-constants-requires Inv-loop μ-loop
 constants-requires c κs = search needs
 
 loop-holds : tie.Need-loop-holds Inv-loop μ-loop
-loop-holds c = (omega arith, made-start _ _ _, (λ g h. absurd (omega arith)), length-replicate {A = ℕ} 256 0)
+loop-holds c = (omega arith, made-start _ _ _, (λ g h. absurd (omega arith)), c .before .before .pre .2)
 
 cast-t12 : tie.Need-cast-t12 Inv-loop μ-loop
 cast-t12 c = let t = c .before in omega (arith, t .loop-test .taken, guides-high (start (t .before) .pre .0))
@@ -37,12 +37,12 @@ weight-at-requires c κs =
     let h = start (t .before) .pre in
     (t .before .before .constants .ensures, h .0, h .1, t .loop-test .taken)
 
-mul-out : tie.Need-mul-out Inv-loop μ-loop
-mul-out c = let t = c .before .before in let at =
+mul-row : tie.Need-mul-row Inv-loop μ-loop
+mul-row c = let t = c .before .before in let at =
     start (t .before) in omega (arith, t .loop-test .taken, guides-high (at .pre .0), t .before .loop .inv .1 .long, t .before .loop .inv .3)
 
-array-write-out : tie.Need-array-write-out Inv-loop μ-loop
-array-write-out c = let t = c .before .before in let at =
+element-write-row : tie.Need-element-write-row Inv-loop μ-loop
+element-write-row c = let t = c .before .before in let at =
     start (t .before) in omega (arith, t .loop-test .taken, guides-high (at .pre .0), t .before .loop .inv .1 .long, t .before .loop .inv .3)
 
 add-k : tie.Need-add-k Inv-loop μ-loop
@@ -80,8 +80,8 @@ table-row-spec =
     loop-holds
     cast-t12
     weight-at-requires
-    mul-out
-    array-write-out
+    mul-row
+    element-write-row
     add-k
     loop-less
     loop-again

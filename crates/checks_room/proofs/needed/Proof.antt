@@ -33,6 +33,9 @@ mul-nodes-2 c = omega (arith, products (c .before .before .args .plan) (c .befor
 add-nodes : tie.Need-add-nodes
 add-nodes c = omega (arith, products (c .before .before .args .plan) (c .before .before .pre) .nodes)
 
+sub-blocks : tie.Need-sub-blocks
+sub-blocks c = omega arith
+
 add-blocks : tie.Need-add-blocks
 add-blocks c = search needs
 
@@ -89,6 +92,7 @@ needed-spec =
     mul-nodes
     mul-nodes-2
     add-nodes
+    sub-blocks
     add-blocks
     enum-told
     joint-room-requires

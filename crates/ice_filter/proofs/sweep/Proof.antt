@@ -217,7 +217,7 @@ loop-again c =
 finish-requires : tie.Need-finish-requires Inv-loop μ-loop
 unfolding entry
 finish-requires c κs =
-    let l = c .before .before in
+    let l = c .before .before .before in
     let w = l .loop .inv .going in
     let at = entry (l .before) in (
       (
@@ -228,10 +228,10 @@ finish-requires c κs =
     )
 
 -- from the end back to the loop, and to the first window
-abbrev looped : tie.After-summary Inv-loop μ-loop → tie.At-loop Inv-loop μ-loop
-looped c = c .before .before .before .before
+abbrev looped : tie.After-cut Inv-loop μ-loop → tie.At-loop Inv-loop μ-loop
+looped c = c .before .before .before .before .before .before
 
-abbrev entered : tie.After-summary Inv-loop μ-loop → tie.After-enter Inv-loop μ-loop
+abbrev entered : tie.After-cut Inv-loop μ-loop → tie.After-enter Inv-loop μ-loop
 entered c = looped c .before .before .before .before .before .before .before .before
 
 same-length : tie.Need-same-length Inv-loop μ-loop
@@ -257,8 +257,8 @@ returns c =
     let v = entered c .enter .ensures in
     let q =
     sweeping-end _ (at .pre .0 .0) _ _ _ _ _ _ _ (l .loop .visit) (l .loop .i) (l .loop .inv) _ (at .args .output .now)
-    (omega (arith, c .before .before .before .loop-test .left)) (simp length-set (room (l .before))) (v .state) (v .kept) _ refl in
-    (finished (l .loop .visit) _ (q .0) (c .before .finish .ensures), q .1)
+    (omega (arith, c .before .before .before .before .before .loop-test .left)) (simp length-set (room (l .before))) (v .state) (v .kept) _ refl in
+    (finished (l .loop .visit) _ refl refl refl (q .0) (c .before .before .finish .ensures), q .1)
 
 pub sweep-spec : {M : Type 1} → statement M
 sweep-spec =

@@ -89,7 +89,8 @@ step-requires c κs =
       (
         within-of _ (at .pre .0 .0) _ _ (w .held) (omega (arith, w .most, at .pre .1 .1 .0)),
         (
-          fit-going _ (at .pre .0 .0) _ _ _ (at .pre .1 .1 .1 .0 .stores) (b .before .before .before .before .before .before .before .enter .ensures .kept)
+          fit-going _ (at .pre .0 .0) _ _ _ (at .pre .1 .1 .1 .0 .stores)
+              (b .before .before .before .before .before .before .before .enter .ensures .kept)
               (w .visited .kept),
           w .visited .here,
         ),
@@ -156,7 +157,7 @@ loop-again c =
 finish-requires : tie.Need-finish-requires Inv-loop μ-loop
 unfolding entry
 finish-requires c κs =
-    let l = c .before .before in
+    let l = c .before .before .before in
     let w = l .loop .inv .going in
     let at = entry (l .before) in (
       (at .pre .0 .0, within-of _ (at .pre .0 .0) _ _ (w .held) (omega (arith, w .most, at .pre .1 .1 .0))),
@@ -164,10 +165,10 @@ finish-requires c κs =
     )
 
 -- from the end back to the loop, and to the first window
-abbrev looped : tie.After-summary Inv-loop μ-loop → tie.At-loop Inv-loop μ-loop
-looped c = c .before .before .before .before
+abbrev looped : tie.After-cut Inv-loop μ-loop → tie.At-loop Inv-loop μ-loop
+looped c = c .before .before .before .before .before .before
 
-abbrev entered : tie.After-summary Inv-loop μ-loop → tie.After-enter Inv-loop μ-loop
+abbrev entered : tie.After-cut Inv-loop μ-loop → tie.After-enter Inv-loop μ-loop
 entered c = looped c .before .before .before .before .before .before .before .before
 
 same-length : tie.Need-same-length Inv-loop μ-loop
@@ -196,8 +197,8 @@ returns c =
     let v = entered c .enter .ensures in
     let q =
     walking-end _ (at .args .file .now) (at .args .moves .now) _ _ _ _ _ (at .args .answers .now) _ _ _ _ _ (l .loop .visit) (l .loop .i)
-    (l .loop .inv) (omega (arith, c .before .before .before .loop-test .left)) (v .state) (v .kept) _ refl in
-    (finished (l .loop .visit) _ (q .0) (c .before .finish .ensures), q .1)
+    (l .loop .inv) (omega (arith, c .before .before .before .before .before .loop-test .left)) (v .state) (v .kept) _ refl in
+    (finished (l .loop .visit) _ refl refl refl (q .0) (c .before .before .finish .ensures), q .1)
 
 pub travel-spec : {M : Type 1} → statement M
 travel-spec =

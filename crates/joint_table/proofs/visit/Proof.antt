@@ -52,9 +52,10 @@ returns c =
     let t = at .args .row in
     let v = r .arrive .ensures in
     let z : weightless p s t ≡ true = sym (v .hollow) ∙ d .before .if1 .taken in
-    let own = c .level-at .ensures ∙ facts (at .pre .0 .0 .planned) .level-at s t ∙ own-answer (at .args .way) p s t (at .args .cut .0) (at .args .shifts) z in (
-      state-is (at .args .way) p s t (at .args .cut .0) (at .args .shifts) (r .arrive .result .cut) (r .arrive .result .shifts) (c .level-at .result) none (v .cut)
-          (v .shifts) own,
+    let read = c .level-at .ensures ∙ facts (at .pre .0 .0 .planned) .level-at s t in
+    let own = read ∙ own-answer (at .args .way) p s t (at .args .cut .0) (at .args .shifts) z in (
+      state-is (at .args .way) p s t (at .args .cut .0) (at .args .shifts) (r .arrive .result .cut) (r .arrive .result .shifts) (c .level-at .result)
+          none (v .cut) (v .shifts) own,
       v .box,
     )
 
@@ -72,8 +73,8 @@ returns-2 c =
     let v = r .arrive .ensures in
     let z : weightless p s t ≡ false = sym (v .hollow) ∙ e .if1 .left in
     rw (c .answered .ensures) (
-      state-is (at .args .way) p s t (at .args .cut .0) (at .args .shifts) (r .arrive .result .cut) (r .arrive .result .shifts) (r .arrive .result .cut) none (v .cut)
-          (v .shifts) (v .cut ∙ cut-answer (at .args .way) p s t (at .args .cut .0) (at .args .shifts) z),
+      state-is (at .args .way) p s t (at .args .cut .0) (at .args .shifts) (r .arrive .result .cut) (r .arrive .result .shifts)
+          (r .arrive .result .cut) none (v .cut) (v .shifts) (v .cut ∙ cut-answer (at .args .way) p s t (at .args .cut .0) (at .args .shifts) z),
       v .box,
     )
 

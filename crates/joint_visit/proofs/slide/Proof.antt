@@ -329,10 +329,12 @@ arrive-requires c κs =
     )
 
 same-length-4 : tie.Need-same-length-4
-same-length-4 c = exchanged (c .before .before .before .before .before .before .before .before .before .before .before .before) .exchange .kept .1 .1 .1 .1 .1 .0
+same-length-4 c =
+    exchanged (c .before .before .before .before .before .before .before .before .before .before .before .before) .exchange .kept .1 .1 .1 .1 .1 .0
 
 same-length-5 : tie.Need-same-length-5
-same-length-5 c = exchanged (c .before .before .before .before .before .before .before .before .before .before .before .before) .exchange .kept .1 .1 .1 .1 .1 .1 .0
+same-length-5 c =
+    exchanged (c .before .before .before .before .before .before .before .before .before .before .before .before) .exchange .kept .1 .1 .1 .1 .1 .1 .0
 
 same-length-6 : tie.Need-same-length-6
 same-length-6 c = search needs

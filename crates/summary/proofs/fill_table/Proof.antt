@@ -1,6 +1,8 @@
 -- `fill_table` meets its contract. Assumes nothing.
 use borrow.Author.Needs.{needs}
 use native.Mathlib.Omega.{arith}
+use Prim.Native.Nat.{ℕ}
+use lib.ListN.{length-replicate}
 use Rattle.window.proofs.PixelLaws.{place-small}
 use Rattle.joint_rows.proofs.RowLaws.{centre-place, centre-low, row-weighs}
 use Rattle.balance.proofs.BalanceLaws.{row-formula}
@@ -17,7 +19,9 @@ guide-at-requires : tie.Need-guide-at-requires
 guide-at-requires c κs = let a = c .before .before .pre .0 in (a .0, centre-place (a .0) (a .2) (a .3))
 
 table-row-requires : tie.Need-table-row-requires
-table-row-requires c κs = let a = c .before .before .before .pre .0 in (a .0, centre-low (a .0) (a .2) (a .3) (c .guide-at .ensures))
+table-row-requires c κs =
+    let a = c .before .before .before .before .pre .0 in
+    (a .0, centre-low (a .0) (a .2) (a .3) (c .before .guide-at .ensures), length-replicate {A = ℕ} 256 0)
 
 slice-aggregate-fill-by : tie.Need-slice-aggregate-fill-by
 slice-aggregate-fill-by c = search needs
@@ -25,13 +29,13 @@ slice-aggregate-fill-by c = search needs
 fill-by-requires : tie.Need-fill-by-requires
 fill-by-requires c κs =
     let r = c .before .before in
-    let at = r .before .before .before .before in
+    let at = r .before .before .before .before .before in
     let a = at .pre .0 in (
       record {
         planned = a .0;
         column = a .2;
         row = a .3;
-        weighs = row-formula (row-weighs (a .0) (a .2) (a .3) (r .before .guide-at .ensures) (a .1) (r .table-row .ensures));
+        weighs = row-formula (row-weighs (a .0) (a .2) (a .3) (r .before .before .guide-at .ensures) (a .1) (r .table-row .ensures));
       },
       at .pre .1,
     )

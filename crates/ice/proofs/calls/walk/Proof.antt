@@ -27,7 +27,8 @@ held at = lent (at .args .counts .now) (at .args .words .now) (at .args .numbers
 
 abbrev own : tie.Start → Settings → Outcome
 own at k =
-    walkChecks k (at .args .way) (at .args .column) (at .args .row) (length (at .args .moves .now)) (roomIn (held at)) (length (at .args .answers .now))
+    walkChecks k (at .args .way) (at .args .column) (at .args .row) (length (at .args .moves .now)) (roomIn (held at))
+    (length (at .args .answers .now))
 
 open-plan-requires : tie.Need-open-plan-requires
 open-plan-requires c κs = search needs
@@ -76,7 +77,9 @@ way-of-requires c κs = search needs
 
 -- from the call back to the start
 abbrev start-of : tie.After-travel-arg4 → tie.Start
-start-of c = c .before .before .before .before .before .before .before .before .before .before .before .before .before .before .before .before .before .before
+start-of c =
+    let arg = c .before .before .before .before .before .before .before .before .before in
+    arg .before .before .before .before .before .before .before .before .before
 
 -- where all checks have passed: the plan is the file's, and the outcome is accepted
 plan-at : (c : tie.After-travel-arg4) →

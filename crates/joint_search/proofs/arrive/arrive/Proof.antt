@@ -104,7 +104,8 @@ returns-3 c =
     let j = i .before .before in
     let at = start (j .before) in
     let level = c .before .from-cut2 .result .level .0 in
-    let counted = f .1 ∙ ap (λ (b : Bool). at .args .shifts + shiftsTo b level (at .args .cut .0)) (sym (i .if3 .left) ∙ i .before .by-blocks .ensures) in
+    let rule = sym (i .if3 .left) ∙ i .before .by-blocks .ensures in
+    let counted = f .1 ∙ ap (λ (b : Bool). at .args .shifts + shiftsTo b level (at .args .cut .0)) rule in
     (arrival-answered _ _ _ _ _ _ (weighs j) (f .0) counted, f .2)
 
 pub arrive-spec : {M : Type 1} → statement M

@@ -1,6 +1,16 @@
 -- `ways::dispatch::enter` meets its contract: each way's own promise is the common one. Assumes nothing.
 use borrow.Author.Needs.{needs}
-use Rattle.ways.proofs.WayLaws.{guided-columns, guided-chain, fit-joint, fit-columns, fit-chain, joint-key, joint-visited, columns-visited, chain-visited}
+use Rattle.ways.proofs.WayLaws.{
+  guided-columns,
+  guided-chain,
+  fit-joint,
+  fit-columns,
+  fit-chain,
+  joint-key,
+  joint-visited,
+  columns-visited,
+  chain-visited,
+}
 use Rattle.ways.proofs.dispatch.enter.Statement.{statement}
 use Rattle.ways.proofs.dispatch.enter.Tie as tie
 
@@ -37,7 +47,8 @@ same-length-2 c = search needs
 returns : tie.Need-returns
 returns c =
     let at = c .before .before .before .before .before .before .before .before .before .before .before .before .before .before .before in
-    joint-visited _ (at .pre .0 .0) _ _ _ (at .pre .1 .1 .0) _ _ _ _ _ _ (joint-key (at .args .way) (c .before .before .before .before .before .before .before .before .before .match .keys1))
+    let keys = c .before .before .before .before .before .before .before .before .before .match .keys1 in
+    joint-visited _ (at .pre .0 .0) _ _ _ (at .pre .1 .1 .0) _ _ _ _ _ _ (joint-key (at .args .way) keys)
     (c .before .before .before .before .enter .ensures)
 
 same-length-3 : tie.Need-same-length-3

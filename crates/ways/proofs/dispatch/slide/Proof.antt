@@ -1,6 +1,16 @@
 -- `ways::dispatch::slide` meets its contract: each way's own promise is the common one. Assumes nothing.
 use borrow.Author.Needs.{needs}
-use Rattle.ways.proofs.WayLaws.{guided-columns, guided-chain, joint-at, joint-key, joint-visited, columns-at, columns-visited, chain-at, chain-visited}
+use Rattle.ways.proofs.WayLaws.{
+  guided-columns,
+  guided-chain,
+  joint-at,
+  joint-key,
+  joint-visited,
+  columns-at,
+  columns-visited,
+  chain-at,
+  chain-visited,
+}
 use Rattle.ways.proofs.dispatch.slide.Statement.{statement}
 use Rattle.ways.proofs.dispatch.slide.Tie as tie
 
@@ -42,7 +52,8 @@ same-length-2 c = search needs
 returns : tie.Need-returns
 returns c =
     let at = c .before .before .before .before .before .before .before .before .before .before .before .before .before .before .before in
-    joint-visited _ (at .pre .0 .0) _ _ _ (at .pre .1 .1 .1 .0) _ _ _ _ _ _ (joint-key (at .args .way) (c .before .before .before .before .before .before .before .before .before .match .keys1))
+    let keys = c .before .before .before .before .before .before .before .before .before .match .keys1 in
+    joint-visited _ (at .pre .0 .0) _ _ _ (at .pre .1 .1 .1 .0) _ _ _ _ _ _ (joint-key (at .args .way) keys)
     (c .before .before .before .before .slide .ensures)
 
 same-length-3 : tie.Need-same-length-3
@@ -52,8 +63,8 @@ returns-2 : tie.Need-returns-2
 returns-2 c =
     let at = c .before .before .before .before .before .before .before .before .before .before .before in
     let e = c .before .before .before .before .enum-told .given .1 in
-    columns-visited _ (at .pre .0 .0) _ _ _ (at .pre .1 .1 .1 .0) _ _ _ (at .args .column) (at .args .row) (at .args .from .cut .0) (at .args .from .shifts) _ e
-    (c .before .before .slide2 .ensures)
+    columns-visited _ (at .pre .0 .0) _ _ _ (at .pre .1 .1 .1 .0) _ _ _ (at .args .column) (at .args .row) (at .args .from .cut .0)
+    (at .args .from .shifts) _ e (c .before .before .slide2 .ensures)
     (columns-at _ (at .pre .0 .0) _ _ _ (at .pre .1 .1 .1 .0) _ _ _ e (at .pre .1 .1 .1 .1) .1)
 
 same-length-4 : tie.Need-same-length-4
@@ -63,8 +74,8 @@ returns-3 : tie.Need-returns-3
 returns-3 c =
     let at = c .before .before .before .before .before .before .before .before .before .before .before in
     let e = c .before .before .before .before .enum-told2 .given .1 in
-    chain-visited _ (at .pre .0 .0) _ _ _ (at .pre .1 .1 .1 .0) _ _ _ (at .args .column) (at .args .row) (at .args .from .cut .0) (at .args .from .shifts) _ e
-    (c .before .before .slide3 .ensures)
+    chain-visited _ (at .pre .0 .0) _ _ _ (at .pre .1 .1 .1 .0) _ _ _ (at .args .column) (at .args .row) (at .args .from .cut .0)
+    (at .args .from .shifts) _ e (c .before .before .slide3 .ensures)
     (chain-at _ (at .pre .0 .0) _ _ _ (at .pre .1 .1 .1 .0) _ _ _ e (at .pre .1 .1 .1 .1) .1)
 
 pub slide-spec : {M : Type 1} → statement M
