@@ -2,12 +2,14 @@
 -- Assumes nothing.
 use mathlib.Core.Path.{_≡_, refl, sym, ap, ap₂, _∙_, subst}
 use mathlib.Core.Logic.{⊎-elim}
+use mathlib.Core.Bool.{Bool, true, false}
 use mathlib.Core.List.{List}
 use Prim.Native.Nat.{ℕ, _+_, _-_, _*_, _^_, _≤_, _<_}
 use native.Mathlib.Nat.{le-trans}
 use native.Mathlib.Omega.{arith}
+use lib.Dec.{leb}
 use lib.ListN.{getD}
-use lib.IntN.{ℤ, pos, natAbs, _+ℤ_, _-ℤ_, _*ℤ_, +ℤ-idr}
+use lib.IntN.{ℤ, pos, negsuc, natAbs, _+ℤ_, _-ℤ_, _*ℤ_, +ℤ-idr, *ℤ-zero}
 use lib.Signed.{mag}
 use mir.Syntax.{w64}
 use mir.Val.{hbits, toZ, ofZ}
@@ -18,14 +20,18 @@ use Rattle.ints.specs.Machine.{read-bounded}
 use Rattle.ints.specs.Polynomial.{_⊕_, _⊖_, _⊗_, opposite, #_, _≐_, solve2}
 use Rattle.ints.specs.Ring.{one-mul}
 use Rattle.spec.specs.declared.Plan.{Plan}
-use Rattle.spec.specs.Frame.{Frame, heaviest, frameOf}
+use Rattle.spec.specs.Base.{if_then_else_}
+use Rattle.spec.specs.Frame.{Frame, level, guide, heaviest, frameOf}
 use Rattle.spec.specs.Checks.{Planned}
-use Rattle.spec.specs.Window.{span}
-use Rattle.spec.specs.Weight.{weight}
+use Rattle.spec.specs.Window.{span, pixelCount, InWindow}
+use Rattle.spec.specs.Weight.{ownWeight, ownTotal, weightless, weight}
 use Rattle.spec.specs.Median.{balance}
 use Rattle.spec.proofs.Plans.{facts, pixel-of}
-use Rattle.spec.proofs.Ranges.{intSums, fold-same}
-use Rattle.spec.proofs.Levels.{balance-signed, weight-linear}
+use Rattle.spec.proofs.Ranges.{intSums}
+use Rattle.spec.proofs.Sums.{over-inWindow, over-constantℤ}
+use Rattle.spec.proofs.Limits.{FrameLimits, Pixel}
+use Rattle.spec.proofs.Own.{weight-own, table-light, weightless-zero, weight-linear}
+use Rattle.spec.proofs.Levels.{balance-signed}
 use Rattle.spec.proofs.Bounds.{guided-abs}
 use Rattle.window.specs.declared.line.Line.{Line}
 use Rattle.window.specs.Line.{columnLine}
@@ -36,9 +42,9 @@ use Rattle.pixels.proofs.AdditiveLaws.{pixels-more, high-abs, columns-more, col
 use Rattle.joint_pixel.specs.Side.{side}
 use Rattle.joint_pixel.proofs.SideLaws.{side-low, side-high}
 use Rattle.balance.specs.declared.formula.Formula.{Formula}
-use Rattle.balance.specs.Formula.{weightBy, Weighs, Ramp}
-use Rattle.joint_search.specs.Window.{RowWeighs}
-use Rattle.balance.specs.Balance.{signedWeight, signedBy, PixelsWeighed, Weighed}
+use Rattle.balance.specs.Formula.{weightBy, Gives, WeighsOwn, Weighs, Ramp}
+use Rattle.joint_search.specs.Window.{RowGives}
+use Rattle.balance.specs.Balance.{signedBy, balanceBy, PixelsWeighed, Weighed}
 
 side-abs : (c i : ℕ) → natAbs (side c i) ≤ 1
 side-abs c i = ⊎-elim (λ h. rw (side-high c i h) (omega arith)) (λ h. rw (side-low c i h) (omega arith)) (lt-or-le c i)
@@ -101,7 +107,7 @@ module _ {p row : List ℕ} {w : Formula} (v : PixelsWeighed p row w) (c : ℕ) 
           ∙ sym (pixels-more _+ℤ_ (pos 0) p (signedBy row w c) k)
 
 module _ {b : List ℕ} {z : Plan} {s t : ℕ} {row : List ℕ} {w : Formula} (wd : Weighed b z s t row w) where
-  -- ---- a line's list is weighed by the row, and adds what the line adds
+  -- ---- a line's list is weighed by the row
   module _ {d : Line} {p : List ℕ} (v : LinePixels b z d p) where
     row-in : (k : ℕ) → k < countOf p → guideIn p k < frameOf b .set .guides
     row-in k h = let l = v .below .guide k h in rw (facts (wd .planned) .guides) at l
@@ -109,16 +115,10 @@ module _ {b : List ℕ} {z : Plan} {s t : ℕ} {row : List ℕ} {w : Formula} (w
     pub pixels-weighed : PixelsWeighed p row w
     pixels-weighed = record {
       few = v .below .few;
-      small = wd .weighs .small;
-      inside = λ k h. omega (arith, wd .weighs .inside, row-in k h);
-      low = λ k h. wd .weighs .low (guideIn p k) (row-in k h);
+      small = wd .fits .small;
+      inside = λ k h. omega (arith, wd .fits .inside, row-in k h);
+      low = λ k h. wd .fits .low (guideIn p k) (row-in k h);
     }
-
-    list-adds : (c : ℕ) → pixelFold _+ℤ_ (pos 0) p (signedBy row w c) ≡ pixelFold _+ℤ_ (pos 0) p (signedWeight (frameOf b) s t c)
-    unfolding pixelFoldTo signedBy signedWeight
-    list-adds c =
-        fold-same _+ℤ_ (pos 0) intSums _ _ 0 _
-        (λ k x y. ap (λ (q : ℤ). side c (levelIn p k) *ℤ q) (sym (wd .weighs .is (guideIn p k) (row-in k (omega arith)))))
 
     -- ---- one column more, whose list adds y
     module _ (c : ℕ) {y : ℤ} (ey : y ≡ pixelFold _+ℤ_ (pos 0) p (signedBy row w c)) where
@@ -132,25 +132,66 @@ module _ {b : List ℕ} {z : Plan} {s t : ℕ} {row : List ℕ} {w : Formula} (w
         pub column-asks : k < 31 → (natAbs a ≤ 173129780571075) × (natAbs (toZ w64 (ofZ w64 y)) ≤ 173129780571075)
         column-asks h = (omega (arith, low), rw handed-on (omega (arith, small)))
 
-        pub column-again : (x : ℕ) → d ≡ columnLine z (x + k) t → a ≡ columnsFold _+ℤ_ (pos 0) b z x t (signedWeight (frameOf b) s t c) k
+        pub column-again : (x : ℕ) → d ≡ columnLine z (x + k) t → a ≡ columnsFold _+ℤ_ (pos 0) b z x t (signedBy row w c) k
             → {r : ℤ} → mag r < 2 ^ hbits w64 → r ≡ a +ℤ toZ w64 (ofZ w64 y)
             →
-            (toZ w64 (ofZ w64 r) ≡ columnsFold _+ℤ_ (pos 0) b z x t (signedWeight (frameOf b) s t c) (k + 1)) ×
+            (toZ w64 (ofZ w64 r) ≡ columnsFold _+ℤ_ (pos 0) b z x t (signedBy row w c) (k + 1)) ×
             (natAbs (toZ w64 (ofZ w64 r)) ≤ (k + 1) * 5584831631325)
         column-again x ed ea m e =
-            let h = signedWeight (frameOf b) s t c in
+            let h = signedBy row w c in
             let q = toZ-ofZ (record { sfits = m }) ∙ e ∙ ap (λ (u : ℤ). a +ℤ u) handed-on in (
-              q ∙ ap₂ _+ℤ_ ea (list-adds c) ∙ sym (columns-more _+ℤ_ (pos 0) b z x t h k p ed (v .sumℤ h)),
+              q ∙ ap (λ (u : ℤ). u +ℤ pixelFold _+ℤ_ (pos 0) p h) ea ∙ sym (columns-more _+ℤ_ (pos 0) b z x t h k p ed (v .sumℤ h)),
               rw q
                   (omega (arith, abs-add a (pixelFold _+ℤ_ (pos 0) p (signedBy row w c)), low, small)),
             )
 
   -- all columns
-  pub columns-balance : (c : ℕ) {x n : ℕ} → x ≡ s - z .radius → n ≡ span (z .radius) s (z .width)
-      → columnsFold _+ℤ_ (pos 0) b z x t (signedWeight (frameOf b) s t c) n ≡ balance (frameOf b) s t c
-  unfolding signedWeight side
-  columns-balance c {x} ex en =
-      columns-window _+ℤ_ (pos 0) b z x t (signedWeight (frameOf b) s t c) (wd .planned) s ex en ∙ sym (balance-signed (frameOf b) s t c)
+  pub columns-by : (c : ℕ) {x n : ℕ} → x ≡ s - z .radius → n ≡ span (z .radius) s (z .width)
+      → columnsFold _+ℤ_ (pos 0) b z x t (signedBy row w c) n ≡ balanceBy (frameOf b) s t row w c
+  unfolding balanceBy
+  columns-by c {x} ex en = columns-window _+ℤ_ (pos 0) b z x t (signedBy row w c) (wd .planned) s ex en
+
+-- ---- what the sums mean: by the weights that the window is counted with they are its balance; by its own ones their sum at the last level, and at
+-- every level 0 where it is hollow
+guide-in : {p : Frame} {s t x y : ℕ} → Pixel p s t → InWindow p s t x y → guide p x y < p .set .guides
+guide-in {x = x} {y} k h = k .good .guide-low x y (h .wide) (h .high)
+
+module _ {p : Frame} {s t : ℕ} (k : Pixel p s t) {row : List ℕ} {w : Formula} where
+  pub by-balance : Weighs p s t row w → (c : ℕ) → balanceBy p s t row w c ≡ balance p s t c
+  unfolding balanceBy signedBy side
+  by-balance g c =
+      over-inWindow _+ℤ_ (pos 0) intSums p s t _ _
+      (λ x y h. ap (λ (q : ℤ). (if leb (level p x y) c then pos 1 else negsuc 0) *ℤ q) (sym (g .is (guide p x y) (guide-in k h))))
+      ∙ sym (balance-signed p s t c)
+
+  module _ (g : WeighsOwn p s t row w) where
+    pub by-total : (c : ℕ) → c ≡ p .set .levels - 1 → balanceBy p s t row w c ≡ ownTotal p s t
+    unfolding balanceBy signedBy ownTotal
+    by-total c e =
+        over-inWindow _+ℤ_ (pos 0) intSums p s t _ _
+        (λ x y h. ap₂ (λ (u v : ℤ). u *ℤ v)
+        (side-low c (level p x y) (omega (arith, k .good .level-low x y (h .wide) (h .high))))
+        (sym (g .is (guide p x y) (guide-in k h))) ∙ one-mul (ownWeight p s t (guide p x y)))
+
+    pub by-none : p .set .kind ≡ 1 → weightless p s t ≡ true → (c : ℕ) → balanceBy p s t row w c ≡ pos 0
+    unfolding balanceBy signedBy
+    by-none one e c =
+        over-inWindow _+ℤ_ (pos 0) intSums p s t _ (λ x y. pos 0)
+        (λ x y h. ap (λ (q : ℤ). side c (level p x y) *ℤ q)
+        (sym (g .is (guide p x y) (guide-in k h)) ∙ weightless-zero p s t (table-light p s t one) e x y h)
+        ∙ *ℤ-zero (side c (level p x y)))
+        ∙ over-constantℤ p s t (pos 0) ∙ *ℤ-zero (pos (pixelCount p s t))
+
+    -- so where they are not 0 the window is not hollow, and where it is not they are its balance
+    pub by-some : p .set .kind ≡ 1 → (c : ℕ) → (balanceBy p s t row w c ≡ pos 0 → ⊥) → weightless p s t ≡ false
+    by-some one c n = go (weightless p s t) refl
+      where
+        go : (b : Bool) → weightless p s t ≡ b → b ≡ false
+        go true e = absurd (n (by-none one e c))
+        go false e = refl
+
+    pub by-own : weightless p s t ≡ false → (c : ℕ) → balanceBy p s t row w c ≡ balance p s t c
+    by-own e c = by-balance (record { fits = g .fits; is = λ f h. weight-own p s t f e ∙ g .is f h }) c
 
 -- ---- one weight more that is not too large
 pub low-next : {rule : ℕ → ℕ} {k v : ℕ} → v ≡ rule k → v ≤ heaviest → ((g : ℕ) → g < k → rule g ≤ heaviest) →
@@ -158,12 +199,14 @@ pub low-next : {rule : ℕ → ℕ} {k v : ℕ} → v ≡ rule k → v ≤ heavi
 low-next {rule} {k} {v} e u low g h = ⊎-elim (λ q. rw q (subst (λ (n : ℕ). n ≤ heaviest) e u)) (λ n. low g (omega arith)) (eq-or-ne g k)
 
 -- ---- kind 1: a row of weights with slope 1 and offset 0
-pub row-formula : {p : Frame} {s t : ℕ} {row : List ℕ} → RowWeighs p s t row → Weighs p s t row (record { slope = pos 1; offset = pos 0 })
+pub row-formula : {weigh : ℕ → ℤ} {m : ℕ} {row : List ℕ} → RowGives weigh m row → Gives weigh m row (record { slope = pos 1; offset = pos 0 })
 row-formula {row = row} r = record {
-  inside = r .in-row .inside;
-  small = record { slope = omega arith; offset = omega arith };
+  fits = record {
+    inside = r .in-row .inside;
+    small = record { slope = omega arith; offset = omega arith };
+    low = λ g l. subst (λ (q : ℤ). natAbs q ≤ 180155859075) (sym (by-one g)) (omega (arith, r .in-row .low g l));
+  };
   is = λ g l. r .is g l ∙ sym (by-one g);
-  low = λ g l. subst (λ (q : ℤ). natAbs q ≤ 180155859075) (sym (by-one g)) (omega (arith, r .in-row .low g l));
 }
   where
     by-one : (g : ℕ) → weightBy row (record { slope = pos 1; offset = pos 0 }) g ≡ pos (getD row g 0)
@@ -177,11 +220,13 @@ ramp-weighs {b} {s = s} {t} {row} {a = a} {d} pl two hs ht ra w small ea ed =
     let f = facts pl in
     let guided = sym (f .kind) ∙ two in
     let by : (h : ℕ) → h < frameOf b .set .guides → weight (frameOf b) s t h ≡ weightBy row (record { slope = a; offset = d }) h =
-    λ h l. weight-linear (frameOf b) s t h guided ∙ ap₂ (λ (x y : ℤ). x *ℤ pos h +ℤ y) (sym (ea ∙ w .slope))
+    λ h l. weight-linear (pixel-of pl hs ht) h guided ∙ ap₂ (λ (x y : ℤ). x *ℤ pos h +ℤ y) (sym (ea ∙ w .slope))
     (sym (ed ∙ w .offset)) ∙ ap (λ (x : ℕ). a *ℤ pos x +ℤ d) (sym (ra .is h (rw (f .guides) l))) in
     record {
-      inside = omega (arith, ra .long, f .guides);
-      small = record { slope = rw ea (small .slope); offset = rw ed (small .offset) };
+      fits = record {
+        inside = omega (arith, ra .long, f .guides);
+        small = record { slope = rw ea (small .slope); offset = rw ed (small .offset) };
+        low = λ h l. subst (λ (q : ℤ). natAbs q ≤ 180155859075) (by h l) (guided-abs (pixel-of pl hs ht) guided h l);
+      };
       is = by;
-      low = λ h l. subst (λ (q : ℤ). natAbs q ≤ 180155859075) (by h l) (guided-abs (pixel-of pl hs ht) guided h l);
     }

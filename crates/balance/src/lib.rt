@@ -18,11 +18,13 @@ ghost use lib.IntN.{pos, natAbs, _+ℤ_, _*ℤ_};
 ghost use lib.ListN.{length};
 ghost use Rattle.spec.specs.Frame.{frameOf};
 ghost use Rattle.spec.specs.Checks.{Planned};
+ghost use Rattle.spec.specs.Weight.{weightless};
 ghost use Rattle.spec.specs.Median.{balance};
 ghost use Rattle.pixels.specs.Pixels.{pixelFold};
 ghost use Rattle.joint_pixel.specs.Side.{side};
+ghost use Rattle.joint_search.specs.Window.{RowOwn, RowWeighs};
 ghost use Rattle.joint_rows.specs.Rows.{TableRow};
-ghost use Rattle.balance.specs.Balance.{signedBy, PixelsWeighed, Weighed};
+ghost use Rattle.balance.specs.Balance.{signedBy, balanceBy, PixelsWeighed, Weighed};
 
 // A sum with a pixel's weight more, or less where the pixel's level is above the given one.
 pub fn add_signed(sum: i64, weight: i64, level: Level, top: Level) -> i64
@@ -67,7 +69,7 @@ pub fn line_balance(p: &[u16], weights: &[u16], formula: Formula, top: Level) ->
     sum
 }
 
-// The window's columns, one after the other.
+// The window's columns, one after the other, by a row of weights.
 pub fn window_balance(
     file: &[u8],
     plan: Plan,
@@ -78,7 +80,7 @@ pub fn window_balance(
     top: Level,
 ) -> i64
     requires { ⌜ Weighed (now file) plan s t (now weights) formula ⌝ }
-    ensures { λ r. ⌜ r ≡ balance (frameOf (now (file .entry))) s t (top .0) ⌝ }
+    ensures { λ r. ⌜ r ≡ balanceBy (frameOf (now (file .entry))) s t (now (weights .entry)) formula (top .0) ⌝ }
 {
     let x = low(s, plan.radius);
     let n = span_of(s, plan.radius, plan.width);
@@ -108,7 +110,31 @@ pub fn table_row(file: &[u8], plan: Plan, f: Guide, row: &mut [u16; 256])
     }
 }
 
-// Kind 1.
+// A row of the window's own weights turned into ones where their sum over the window is 0 (document 01: hollow), because each pixel is counted as 1
+// there (document 02); and whether it is. The built-in weights are above 0.
+pub fn ones_if_hollow(file: &[u8], plan: Plan, s: usize, t: usize, row: &mut [u16; 256]) -> bool
+    requires { ⌜ (Planned (now file) plan) × (plan .kind ≡ 1) × (s < plan .width) × (t < plan .height) ⌝ }
+    requires { ⌜ (RowOwn (frameOf (now file)) s t (now row)) × (length (now row) ≡ 256) ⌝ }
+    ensures { λ r. ⌜ (r ≡ weightless (frameOf (now (file .entry))) s t)
+        × (RowWeighs (frameOf (now (file .entry))) s t (now (row .exit))) × (length (now (row .exit)) ≡ 256) ⌝ }
+{
+    if plan.weights == 0 {
+        return false;
+    }
+    let w = Formula {
+        slope: 1,
+        offset: 0,
+    };
+    let last = Level((plan.levels - 1) as u16);
+    let total = window_balance(file, plan, row, w, s, t, last);
+    if total != 0 {
+        return false;
+    }
+    *row = [1u16; 256];
+    true
+}
+
+// Kind 1. The own weights of a hollow window balance at every level, so that only there the window is looked at once more.
 pub fn table_balance(file: &[u8], plan: Plan, s: usize, t: usize, top: Level) -> i64
     requires { ⌜ (Planned (now file) plan) × (plan .kind ≡ 1) × (s < plan .width) × (t < plan .height) ⌝ }
     ensures { λ r. ⌜ r ≡ balance (frameOf (now (file .entry))) s t (top .0) ⌝ }
@@ -120,7 +146,14 @@ pub fn table_balance(file: &[u8], plan: Plan, s: usize, t: usize, top: Level) ->
         slope: 1,
         offset: 0,
     };
-    window_balance(file, plan, &row, w, s, t, top)
+    let own = window_balance(file, plan, &row, w, s, t, top);
+    if own != 0 {
+        return own;
+    }
+    if ones_if_hollow(file, plan, s, t, &mut row) {
+        return window_balance(file, plan, &row, w, s, t, top);
+    }
+    own
 }
 
 // Kind 2.

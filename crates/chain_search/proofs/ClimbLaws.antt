@@ -17,6 +17,7 @@ use Rattle.spec.specs.Window.{levelSum}
 use Rattle.spec.specs.Median.{totalWeight, cumulative, median}
 use Rattle.spec.proofs.First.{first-is, first-unique}
 use Rattle.spec.specs.Weight.{slope, offset}
+use Rattle.spec.proofs.Limits.{Pixel}
 use Rattle.spec.proofs.Levels.{cumulative-linear}
 use Rattle.spec.proofs.Totals.{lt-leZ, median-first}
 use Rattle.spec.proofs.Sums.{sum-none, sum-suc}
@@ -245,7 +246,7 @@ module _ {l : ℕ} {m : List ℕ} {w : Coefficients} {a : Climbs l w m} where
           node-less most h = rw g (ahead-less l m w a _ _ _ after (climb-goes l m w a _ _ _ after) most h)
 
 -- ---- the weight of the levels up to i, by their count and their guide sum
-module _ (p : Frame) (s t : ℕ) (two : p .set .kind ≡ 2) where
+module _ {p : Frame} {s t : ℕ} (q : Pixel p s t) (two : p .set .kind ≡ 2) where
   abbrev cnt : ℕ → ℕ
   cnt = levelSum p s t (λ x y. 1)
 
@@ -254,7 +255,7 @@ module _ (p : Frame) (s t : ℕ) (two : p .set .kind ≡ 2) where
 
   same-test : (w : Coefficients) → WeighsAt p s t w → (i : ℕ) → leZ (totalWeight p s t) (pos 2 *ℤ cumulative p s t i) ≡ reachesAt cnt sm w i
   unfolding reachesHalf
-  same-test w v i = rw (v .total, v .slope, v .offset) (ap (λ (u : ℤ). leZ (totalWeight p s t) (pos 2 *ℤ u)) (cumulative-linear p s t two i))
+  same-test w v i = rw (v .total, v .slope, v .offset) (ap (λ (u : ℤ). leZ (totalWeight p s t) (pos 2 *ℤ u)) (cumulative-linear q two i))
 
   -- where the climb ends is the median
   pub climb-median : (w : Coefficients) → WeighsAt p s t w → first (reachesAt cnt sm w) (p .set .levels) ≡ median p s t

@@ -13,13 +13,12 @@ use Rattle.spec.specs.Frame.{guide, frameOf}
 use Rattle.spec.specs.Checks.{Planned}
 use Rattle.spec.specs.Weight.{monotone}
 use Rattle.spec.specs.Window.{pixelCount, guideSum}
-use Rattle.spec.specs.Median.{median}
+use Rattle.spec.specs.Median.{median, answer}
 use Rattle.spec.specs.declared.Way.the-variants.{Chain}
-use Rattle.spec.specs.Walk.{answerNumber, arrive}
-use Rattle.spec.proofs.Walks.{arrive-full}
+use Rattle.spec.specs.Walk.{answerNumber, adds, arrive}
 use Rattle.spec.proofs.Plans.{facts, pixel-of}
 use Rattle.spec.proofs.Totals.{median-low}
-use Rattle.spec.proofs.Climb.{guided-full}
+use Rattle.spec.proofs.Own.{total-pos as above-zero}
 use Rattle.spec.proofs.Bounds.{pixelCount-high, guideSum-high}
 use Rattle.window_weights.specs.declared.coefficients.Coefficients.{Coefficients}
 use Rattle.window_weights.specs.Coefficients.{WeighsAt}
@@ -45,12 +44,12 @@ module _ {b : List ℕ} {z : Plan} (pl : Planned b z) where
       kind-is = sym (facts pl .kind) ∙ two
 
       pub total-pos : (k : Coefficients) → WeighsAt (frameOf b) s t k → pos 0 <ℤ k .total
-      total-pos k w = subst (λ (n : ℤ). pos 0 <ℤ n) (sym (w .total)) (guided-full (pixel-of pl hs ht) kind-is .0)
+      total-pos k w = subst (λ (n : ℤ). pos 0 <ℤ n) (sym (w .total)) (above-zero (pixel-of pl hs ht))
 
       -- where the climb ends is the median
       climb-is : (k : Coefficients) → WeighsAt (frameOf b) s t k →
           first (reachesAt (levelCounts b s t) (levelGuides b s t) k) (z .levels) ≡ median (frameOf b) s t
-      climb-is k w = ap (first (reachesAt (levelCounts b s t) (levelGuides b s t) k)) (facts pl .levels) ∙ climb-median (frameOf b) s t kind-is k w
+      climb-is k w = ap (first (reachesAt (levelCounts b s t) (levelGuides b s t) k)) (facts pl .levels) ∙ climb-median (pixel-of pl hs ht) kind-is k w
 
       -- the window's list is one to climb along
       pub climbs : (k : Coefficients) → WeighsAt (frameOf b) s t k → (free : FreeList) (m : List ℕ) → Listed b z s t free m → Climbs (z .levels) k m
@@ -81,7 +80,6 @@ module _ {b : List ℕ} {z : Plan} (pl : Planned b z) where
       unfolding climbs
       climbed k w free m c r h = h (z .levels) (levels-high pl) (climbs k w free m c) ∙ climb-is k w
 
-      -- no window of kind 2 is weightless
       arrive-is : (c n : ℕ) → arrive Chain (frameOf b) s t c n
           ≡ record {
             way = Chain;
@@ -93,7 +91,8 @@ module _ {b : List ℕ} {z : Plan} (pl : Planned b z) where
             answer =
                 median (frameOf b) s t;
           }
-      arrive-is c n = arrive-full Chain (frameOf b) s t c n (guided-full (pixel-of pl hs ht) kind-is .1)
+      unfolding arrive adds answer
+      arrive-is c n = refl
 
       -- a visit whose level is the median, with what it adds to the shift count
       pub answers : (c n : ℕ) (v : Visit) (r more : ℕ) (q : Bool) → v .column ≡ s → v .row ≡ t → v .cut .0 ≡ r → answerNumber (v .answer) ≡ r

@@ -2,7 +2,6 @@
 -- Assumes nothing.
 use Prim.Native.Nat.{ℕ, zero, suc, _+_, _*_, _/_, _%_, _≤_, _<_}
 use mathlib.Core.Path.{_≡_, refl, sym, ap, ap₂, _∙_, subst}
-use mathlib.Core.Bool.{Bool, true, false, true≢false}
 use mathlib.Core.Logic.{_⊎_, inl, inr}
 use mathlib.Core.List.{List, _++_}
 use native.Mathlib.Omega.{arith}
@@ -10,13 +9,16 @@ use native.Mathlib.Numerals.{add-one}
 use lib.Arith.{digits-div, digits-mod}
 use lib.ListN.{length, getD, take, drop, List·getD-append}
 use lib.Seq.{take-at}
-use lib.IntN.{pos}
+use lib.IntN.{ℤ, pos, _*ℤ_}
+use lib.Signed.{_≤ℤ_, _<ℤ_}
+use Rattle.ints.specs.Linear.{ints}
 use Rattle.spec.specs.declared.Move.the-variants.{To}
 use Rattle.spec.specs.declared.Verdict.{Verdict}
 use Rattle.spec.specs.declared.Verdict.the-variants.{Accepted, Refused}
 use Rattle.spec.specs.Refusal.{Outcome, accepted, refused, numbered}
 use Rattle.spec.specs.Frame.{Frame, pixels, frameOf}
-use Rattle.spec.specs.Median.{totalWeight, balance, weightless, median, answer}
+use Rattle.spec.specs.Window.{pixelCount}
+use Rattle.spec.specs.Median.{totalWeight, cumulative, balance, median, answer}
 use Rattle.spec.specs.Walk.{State, move, step, walkEnd, walkAnswers}
 use Rattle.spec.specs.Filter.{filtered, filterEnd}
 use Rattle.spec.specs.Calls.{wayOf, walkOutcome, filterOutcome, balanceOutcome}
@@ -24,8 +26,9 @@ use Rattle.spec.specs.Writer.{written, writtenSize, writerOutcome, stored}
 use Rattle.spec.proofs.Checks.{not-refused}
 use Rattle.spec.proofs.Limits.{FrameLimits, Pixel, limits-of, in-plane}
 use Rattle.spec.proofs.Calls.{walk-accepted, filter-accepted}
-use Rattle.spec.proofs.Totals.{weightless-total, total-weightless, median-at, median-before, balance-le, balance-lt, answer-low}
-use Rattle.spec.proofs.Minimum.{minimum, answer-median, answer-weightless}
+use Rattle.spec.proofs.Own.{weight-own, total-one, cumulative-one, total-weightless, total-weighs}
+use Rattle.spec.proofs.Totals.{median-low, median-at, median-before, balance-le, balance-lt, answer-median}
+use Rattle.spec.proofs.Minimum.{minimum}
 use Rattle.spec.proofs.Walks.{
   StateBounded,
   marks,
@@ -55,6 +58,7 @@ use Rattle.demands.specs.Demands.{
   BalancedOrRefused,
   WrittenOrRefused,
   Demand1,
+  pixelsUpTo,
   LowestLevel,
   EveryPixel,
   Demand2,
@@ -150,20 +154,30 @@ demand-1 =
 
 -- ---- demand 2
 lowest-answer : {p : Frame} {s t : ℕ} → Pixel p s t → LowestLevel p s t (answer p s t)
-lowest-answer {p} {s} {t} k = by (weightless p s t) refl
+lowest-answer {p} {s} {t} k =
+    rw (answer-median p s t)
+    (record {
+      is-level = median-low k;
+      reaches = reaches;
+      lowest = lowest;
+      own = λ n g. weight-own p s t g (total-weighs p s t n);
+      hollow-reaches = λ z. let e = total-weightless p s t z in
+          let h : pos (pixelCount p s t) ≤ℤ (pos 2 *ℤ pos (pixelsUpTo p s t (median p s t))) =
+          subst (λ (u : ℤ). pos (pixelCount p s t) ≤ℤ (pos 2 *ℤ u)) (cumulative-one p s t (median p s t) e)
+          (subst (λ (u : ℤ). u ≤ℤ (pos 2 *ℤ cumulative p s t (median p s t))) (total-one p s t e) reaches) in
+          omega (arith, ints, h);
+      hollow-lowest = λ z i l. let e = total-weightless p s t z in
+          let h : (pos 2 *ℤ pos (pixelsUpTo p s t i)) <ℤ pos (pixelCount p s t) =
+          subst (λ (u : ℤ). (pos 2 *ℤ u) <ℤ pos (pixelCount p s t)) (cumulative-one p s t i e)
+          (subst (λ (u : ℤ). (pos 2 *ℤ cumulative p s t i) <ℤ u) (total-one p s t e) (lowest i l)) in
+          omega (arith, ints, h);
+    })
   where
-    by : (c : Bool) → weightless p s t ≡ c → LowestLevel p s t (answer p s t)
-    by true e =
-        let z : totalWeight p s t ≡ pos 0 = weightless-total p s t e in
-        record { is-level = answer-low k; centre = λ _. answer-weightless p s t e; reaches = λ n. absurd (n z); lowest = λ n. absurd (n z) }
-    by false e =
-        let q : answer p s t ≡ median p s t = answer-median p s t e in
-        record {
-          is-level = answer-low k;
-          centre = λ z. absurd (true≢false (sym (total-weightless p s t z) ∙ e));
-          reaches = λ _. rw q (balance-le p s t (median p s t) (median-at k));
-          lowest = λ _ i l. balance-lt p s t i (median-before p s t i (rw q at l));
-        }
+    reaches : totalWeight p s t ≤ℤ (pos 2 *ℤ cumulative p s t (median p s t))
+    reaches = balance-le p s t (median p s t) (median-at k)
+
+    lowest : (i : ℕ) → i < median p s t → (pos 2 *ℤ cumulative p s t i) <ℤ totalWeight p s t
+    lowest i l = balance-lt p s t i (median-before p s t i l)
 
 module _ (b : List ℕ) (way : ℕ) (a z : Lent) (before after : List ℕ) (r : Walked) (h : Filters b way a z before after r)
     (ok : r .verdict ≡ Accepted) where

@@ -6,6 +6,7 @@ use mathlib.Core.Path.{_≡_}
 use mathlib.Core.Bool.{false}
 use mathlib.Core.Logic.{_⊎_, _↔_}
 use mathlib.Core.List.{List, _++_}
+use lib.Dec.{leb}
 use lib.ListN.{length, getD, take, drop}
 use lib.IntN.{pos, _*ℤ_}
 use lib.Signed.{_≤ℤ_, _<ℤ_}
@@ -14,9 +15,11 @@ use Rattle.spec.specs.declared.Room.{Room}
 use Rattle.spec.specs.declared.Way.{Way}
 use Rattle.spec.specs.declared.Move.the-variants.{To, Nowhere}
 use Rattle.spec.specs.declared.Verdict.the-variants.{Accepted}
-use Rattle.spec.specs.Base.{sum}
+use Rattle.spec.specs.Base.{if_then_else_, sum}
 use Rattle.spec.specs.Refusal.{accepted, refused, numbered}
 use Rattle.spec.specs.Frame.{Frame, level, pixels, frameOf}
+use Rattle.spec.specs.Window.{Σ, pixelCount}
+use Rattle.spec.specs.Weight.{ownWeight, ownTotal, weight}
 use Rattle.spec.specs.Median.{totalWeight, cumulative, balance, differences, NoneNegative, NotAllZero}
 use Rattle.spec.specs.Walk.{State, byBlocks, adds, move, start, walkEnd, walkAnswers, addedAt}
 use Rattle.spec.specs.Filter.{filtered, filterEnd}
@@ -83,12 +86,19 @@ pub record Demand1 : Type 0 where
 
 -- ---- demand 2
 
--- m is the lowest level at which twice the cumulative weight reaches the total; the centre's own where the total is 0
+-- how many of the window's pixels have a level of at most i
+abbrev pub pixelsUpTo : Frame → ℕ → ℕ → ℕ → ℕ
+pixelsUpTo p s t i = Σ p s t (λ x y. if leb (level p x y) i then 1 else 0)
+
+-- m is the lowest level at which the window's weights reach half their sum: the frame's own weights, or, where these sum to 0 (document 01: hollow),
+-- 1 for each pixel (document 02), so that half of its pixels are reached
 pub record LowestLevel (p : Frame) (s t m : ℕ) : Type 0 where
   pub is-level : m < p .set .levels
-  pub centre : totalWeight p s t ≡ pos 0 → m ≡ level p s t
-  pub reaches : (totalWeight p s t ≡ pos 0 → ⊥) → totalWeight p s t ≤ℤ (pos 2 *ℤ cumulative p s t m)
-  pub lowest : (totalWeight p s t ≡ pos 0 → ⊥) → (i : ℕ) → i < m → (pos 2 *ℤ cumulative p s t i) <ℤ totalWeight p s t
+  pub reaches : totalWeight p s t ≤ℤ (pos 2 *ℤ cumulative p s t m)
+  pub lowest : (i : ℕ) → i < m → (pos 2 *ℤ cumulative p s t i) <ℤ totalWeight p s t
+  pub own : (ownTotal p s t ≡ pos 0 → ⊥) → (g : ℕ) → weight p s t g ≡ ownWeight p s t g
+  pub hollow-reaches : ownTotal p s t ≡ pos 0 → pixelCount p s t ≤ 2 * pixelsUpTo p s t m
+  pub hollow-lowest : ownTotal p s t ≡ pos 0 → (i : ℕ) → i < m → 2 * pixelsUpTo p s t i < pixelCount p s t
 
 -- the number at a pixel's place of a plane
 abbrev pub atPixel : Frame → List ℕ → ℕ → ℕ → ℕ
@@ -112,7 +122,7 @@ pub record Demand2 : Type 0 where
 
 -- ---- demand 3
 
--- where no weight of the window is negative and not all are 0: no level has a smaller weighted sum of absolute differences than m, and every
+-- where none of the window's own weights is negative and not all are 0: no level has a smaller weighted sum of absolute differences than m, and every
 -- lower one has a larger
 pub record Minimises (p : Frame) (s t m : ℕ) : Type 0 where
   pub least : NoneNegative p s t → NotAllZero p s t → (i : ℕ) → differences p s t m ≤ℤ differences p s t i

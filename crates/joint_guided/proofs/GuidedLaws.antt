@@ -11,12 +11,10 @@ use Rattle.spec.specs.declared.Plan.{Plan}
 use Rattle.spec.specs.declared.Way.{Way}
 use Rattle.spec.specs.Frame.{frameOf}
 use Rattle.spec.specs.Checks.{Planned}
-use Rattle.spec.specs.Median.{median}
-use Rattle.spec.specs.Walk.{arrive}
 use Rattle.spec.proofs.Lists.{part-long, part-cell}
-use Rattle.spec.proofs.Plans.{facts, kind-of, pixel-of}
+use Rattle.spec.proofs.Plans.{facts, pixel-of}
 use Rattle.spec.proofs.Totals.{median-low}
-use Rattle.spec.proofs.Climb.{guided-full}
+use Rattle.spec.proofs.Walks.{arrive-cut}
 use Rattle.level_search.specs.declared.search.Found.{Found}
 use Rattle.levels.specs.Answer.{Profiled, Answered}
 use Rattle.histogram.specs.Histogram.{Histogram}
@@ -54,12 +52,8 @@ module _ {b : List ℕ} {z : Plan} (pl : Planned b z) where
     pub profiled-parts : Profiled (frameOf b) s t (take (l - 0) (drop 0 ns)) (take (last - l) (drop l ns))
     profiled-parts = rw (first-part l ns, second-part l last ns ea) profiled
 
-  -- ---- kind 2: the answer is a level
-  module _ {s t c n : ℕ} (hs : s < z .width) (ht : t < z .height) (two : z .kind ≡ 2) {way : Way} {f : Found}
+  -- ---- the answer is a level
+  module _ {s t c n : ℕ} (hs : s < z .width) (ht : t < z .height) {way : Way} {f : Found}
       (h : Answered way (frameOf b) s t c n f) where
-    cut-is : arrive way (frameOf b) s t c n .cut ≡ median (frameOf b) s t
-    unfolding arrive
-    cut-is = rw (guided-full (pixel-of pl hs ht) (kind-of pl two) .1) refl
-
     pub answer-low : f .level .0 < z .levels
-    answer-low = omega (arith, h .cut, cut-is, median-low (pixel-of pl hs ht), facts pl .levels)
+    answer-low = omega (arith, h .cut, arrive-cut way (frameOf b) s t c n, median-low (pixel-of pl hs ht), facts pl .levels)

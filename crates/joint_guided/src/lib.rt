@@ -3,7 +3,6 @@
 // for one.
 use chain_nodes::FreeList;
 use joint_search::Sizes;
-use joint_search::find;
 use level_search::Tally;
 use level_search::search;
 use levels::answer;
@@ -83,7 +82,7 @@ pub fn arrive(
         levels: l,
         guides: plan.guides,
     };
-    find::move_to(sizes, cut, level, balance_box, counts, words);
+    joint_cut::move_to(sizes, cut, level, balance_box, counts, words);
     let free = FreeList { head: 0, count: 0 };
     let running = Running {
         sums: a,

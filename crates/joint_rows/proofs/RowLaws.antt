@@ -1,6 +1,7 @@
 -- Laws of the rows of weights: the table's row of the centre's guide, built-in or the file's own.
 -- Assumes nothing.
 use mathlib.Core.Path.{_≡_, refl, sym, ap, ap₂, _∙_}
+use mathlib.Core.Bool.{false}
 use mathlib.Core.Logic.{⊎-elim}
 use mathlib.Core.List.{List}
 use Prim.Native.Nat.{ℕ, _+_, _-_, _*_, _/_, _%_, _≤_, _<_}
@@ -14,13 +15,15 @@ use Rattle.spec.specs.Base.{distance}
 use Rattle.spec.specs.Bytes.{AllBytes, be16}
 use Rattle.spec.specs.Frame.{Frame, guide, table, heaviest, plane, pixelGuide, builtIn, frameOf}
 use Rattle.spec.specs.Checks.{Planned}
+use Rattle.spec.specs.Weight.{weightless}
 use Rattle.spec.proofs.Lists.{part-long, part-cell}
-use Rattle.spec.proofs.Limits.{built-in-low, be16-low}
+use Rattle.spec.proofs.Limits.{built-in-low, built-in-pos, be16-low}
 use Rattle.spec.proofs.Plans.{facts, pixel-of, place-low, table-own, table-built}
-use Rattle.spec.proofs.Levels.{weight-table}
+use Rattle.spec.proofs.Own.{own-table, table-weighs}
 use Rattle.window.proofs.PixelLaws.{guides-range}
 use Rattle.joint_pixel.proofs.BitLaws.{lt-or-le, eq-or-ne}
-use Rattle.joint_search.specs.Window.{RowWeighs}
+use Rattle.joint_search.specs.Window.{RowOwn, RowWeighs}
+use Rattle.joint_search.proofs.WindowLaws.{own-weighs}
 use Rattle.joint_rows.specs.Rows.{Made, Mirror, TableRow, exchanged, lowFirst}
 use Rattle.joint_rows.proofs.TableLaws.{weight-place}
 
@@ -32,6 +35,12 @@ mirror-built f h l = let e : distance 255 (255 - f + h) ≡ distance f h = omega
 module _ {b : List ℕ} {z : Plan} (pl : Planned b z) {s t : ℕ} (hs : s < z .width) (ht : t < z .height) where
   pub centre-place : t * z .width + s < z .width * z .height
   centre-place = place-low z s t hs ht
+
+  -- the built-in weights are above 0, so that no window is hollow
+  pub built-weighs : z .kind ≡ 1 → z .weights ≡ 0 → weightless (frameOf b) s t ≡ false
+  built-weighs one none =
+      let c = guide (frameOf b) s t in
+      table-weighs (pixel-of pl hs ht) (sym (facts pl .kind) ∙ one) (rw (table-built pl none c c) (built-in-pos c))
 
   module _ {f : ℕ} (ef : f ≡ pixelGuide b (t * z .width + s)) where
     pub centre-is : f ≡ guide (frameOf b) s t
@@ -47,13 +56,13 @@ module _ {b : List ℕ} {z : Plan} (pl : Planned b z) {s t : ℕ} (hs : s < z .w
     centre-small = let k = pixel-of pl hs ht in omega (arith, in-frame, k .good .sound .guides-high)
 
     -- kind 1: a row of the table
-    table-weighs : {row : List ℕ} → z .kind ≡ 1 → frameOf b .set .guides ≤ length row →
+    table-own-row : {row : List ℕ} → z .kind ≡ 1 → frameOf b .set .guides ≤ length row →
         ((h : ℕ) → h < frameOf b .set .guides → getD row h 0 ≡ table (frameOf b) f h) →
-        ((h : ℕ) → h < frameOf b .set .guides → getD row h 0 ≤ heaviest) → RowWeighs (frameOf b) s t row
-    table-weighs one inside value low = record {
+        ((h : ℕ) → h < frameOf b .set .guides → getD row h 0 ≤ heaviest) → RowOwn (frameOf b) s t row
+    table-own-row one inside value low = record {
       in-row = record { inside = inside; low = low };
       is =
-          λ h l. weight-table (frameOf b) s t h (sym (facts pl .kind) ∙ one) ∙ ap (λ (q : ℕ). pos (table (frameOf b) q h)) (sym centre-is) ∙ ap pos
+          λ h l. own-table (frameOf b) s t h (sym (facts pl .kind) ∙ one) ∙ ap (λ (q : ℕ). pos (table (frameOf b) q h)) (sym centre-is) ∙ ap pos
           (sym (value h l));
     }
 
@@ -69,12 +78,14 @@ module _ {b : List ℕ} {z : Plan} (pl : Planned b z) {s t : ℕ} (hs : s < z .w
         let built : (h : ℕ) → h < frameOf b .set .guides → getD (take (end - from) (drop from row)) h 0 ≡ builtIn f h =
         λ h l. part-cell row from (end - from) h (omega (arith, few)) ∙ mi .is (from + h)
         (omega (arith, few, centre-small)) ∙ ap (λ (q : ℕ). builtIn 255 (q + h)) ef ∙ mirror-built f h centre-small in
-        table-weighs one (omega (arith, inside, few)) (λ h l. built h l ∙ sym (table-built pl none f h)) (λ h l. rw (built h l) (built-in-low f h))
+        own-weighs (frameOf b) s t (built-weighs one none)
+        (table-own-row {row = take (end - from) (drop from row)} one (omega (arith, inside, few)) (λ h l. built h l ∙ sym (table-built pl none f h))
+        (λ h l. rw (built h l) (built-in-low f h)))
 
     -- a row of 256 numbers that are the table's: the file's own, or made weight by weight
-    pub row-weighs : {row : List ℕ} → z .kind ≡ 1 → TableRow (frameOf b) (z .guides) f row → RowWeighs (frameOf b) s t row
-    row-weighs one r =
-        table-weighs one (omega (arith, r .long, few)) (λ h l. r .is h (rw (facts pl .guides) l)) (λ h l. r .low h (rw (facts pl .guides) l))
+    pub row-weighs-own : {row : List ℕ} → z .kind ≡ 1 → TableRow (frameOf b) (z .guides) f row → RowOwn (frameOf b) s t row
+    row-weighs-own one r =
+        table-own-row one (omega (arith, r .long, few)) (λ h l. r .is h (rw (facts pl .guides) l)) (λ h l. r .low h (rw (facts pl .guides) l))
 
 -- ---- numbers made one after the other: none at first, one more, as many more; and by the same rule in other words
 pub made-start : (rule : ℕ → ℕ) (from : ℕ) (xs : List ℕ) → Made rule from 0 xs xs

@@ -2,23 +2,22 @@
 -- balance never falls and is 0 where all are 0; and the level where a search ends.
 -- Assumes nothing.
 use mathlib.Core.Path.{_≡_, refl, sym, ap, ap₂, _∙_, subst}
-use mathlib.Core.Bool.{Bool, true, false, true≢false}
+use mathlib.Core.Bool.{true, false}
 use mathlib.Core.Logic.{⊎-elim}
 use Prim.Native.Nat.{ℕ, zero, suc, _+_, _-_, _*_, _≤_, _<_}
 use native.Mathlib.Nat.{zero-add}
 use native.Mathlib.Omega.{arith}
-use lib.IntN.{ℤ, pos, negsuc, natAbs, _+ℤ_, _-ℤ_, _*ℤ_, +ℤ-idl}
+use lib.IntN.{ℤ, pos, natAbs, _+ℤ_, _-ℤ_, _*ℤ_, +ℤ-idl}
 use lib.Signed.{_≤ℤ_, _<ℤ_, leZ, ≤ℤ-refl, clashℤ}
-use borrow.Author.Tests.{eqb-true}
 use Rattle.ints.specs.Polynomial.{_⊕_, _⊖_, _⊗_, #_, _≐_, solve2, solve3, solve4}
 use Rattle.ints.specs.Order.{add-parts, diff-parts, ≤-of-eq, ≤-antisymm, ≤-<-trans, <-≤-trans, sub-mono, mul-mono-l, litℤ≤}
 use Rattle.ints.specs.Linear.{ints}
 use Rattle.ints.specs.Bound.{abs-sub-le}
 use Rattle.spec.specs.Base.{fold, sum, sumℤ, distance}
-use Rattle.spec.specs.Median.{isZero}
 use Rattle.spec.proofs.First.{first-unique}
 use Rattle.spec.proofs.Ranges.{fold-parts, fold-both, fold-same, intSums, natSums}
 use Rattle.spec.proofs.Sums.{sum-scale, sum-zeros, sum-nonneg, sum-abs, sum-termℤ}
+use Rattle.spec.proofs.Own.{is-zero, not-zero}
 use Rattle.spec.proofs.Totals.{le-leZ, lt-leZ}
 use Rattle.joint_pixel.proofs.BitLaws.{lt-or-le}
 use Rattle.joint_search.specs.Levels.{cumulativeOf, totalOf, balanceOf, weightlessOf, medianOf}
@@ -101,22 +100,6 @@ balance-sum F l c (suc n) =
     ap (λ (q : ℤ). q +ℤ balanceOf (λ i. F i (0 + n)) l c) (balance-sum F l c n) ∙ sym (balance-add (λ i. sumℤ (F i) 0 n) (λ i. F i (0 + n)) l c)
 
 -- ---- all together 0, or more
-zero-is : (z : ℤ) → isZero z ≡ true → z ≡ pos 0
-unfolding isZero
-zero-is (pos n) e = ap pos (eqb-true n 0 e)
-zero-is (negsuc n) e = absurd (true≢false (sym e))
-
-is-zero : (z : ℤ) → z ≡ pos 0 → isZero z ≡ true
-unfolding isZero
-is-zero z e = rw e refl
-
-not-zero : (z : ℤ) → (z ≡ pos 0 → ⊥) → isZero z ≡ false
-not-zero z n = go (isZero z) refl
-  where
-    go : (b : Bool) → isZero z ≡ b → b ≡ false
-    go true e = absurd (n (zero-is z e))
-    go false e = refl
-
 pub weightless-all : {X : ℕ → ℤ} {l : ℕ} → ((i : ℕ) → i < l → X i ≡ pos 0) → true ≡ weightlessOf X l
 unfolding weightlessOf totalOf
 weightless-all {X} {l} h = sym (is-zero (sumℤ X 0 l) (fold-same _+ℤ_ (pos 0) intSums X (λ i. pos 0) 0 l (λ i x y. h i (omega arith)) ∙ sum-zeros 0 l))

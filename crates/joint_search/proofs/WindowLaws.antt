@@ -7,6 +7,7 @@ use Prim.Native.Nat.{ℕ, zero, suc, _+_, _-_, _*_, _≤_, _<_, min}
 use native.Mathlib.Nat.{zero-add, le-trans, le-refl, le-of-eq, mul-le-mul, suc-mul}
 use native.Mathlib.Omega.{arith}
 use lib.Dec.{eqb}
+use lib.ListN.{replicate, length-replicate, getD-replicate}
 use lib.IntN.{ℤ, pos, _+ℤ_, _-ℤ_, _*ℤ_}
 use lib.Signed.{leZ}
 use borrow.Author.Tests.{le-leb}
@@ -15,15 +16,17 @@ use Rattle.spec.specs.declared.Plan.{Plan}
 use Rattle.spec.specs.Base.{if_then_else_, indicator, sum, sumℤ}
 use Rattle.spec.specs.Frame.{Frame, level, guide, frameOf}
 use Rattle.spec.specs.Window.{inCell, count, pixelCount}
-use Rattle.spec.specs.Median.{totalWeight, cumulative, balance, weightless, median, isZero}
+use Rattle.spec.specs.Median.{totalWeight, cumulative, balance, median}
+use Rattle.spec.specs.Weight.{ownWeight, ownTotal, isZero, weightless}
 use Rattle.spec.specs.Joint.{jointCounts, occupancyWords, balanceBox}
 use Rattle.spec.proofs.Ranges.{fold-none, fold-same, intSums, natSums}
 use Rattle.spec.proofs.Histogram.{times, fold-pick, over-fold, over-joint}
 use Rattle.spec.proofs.First.{first-unique}
 use Rattle.spec.proofs.Sums.{sum-term, over-inWindow, over-pos}
 use Rattle.spec.proofs.Limits.{Pixel}
+use Rattle.spec.proofs.Own.{weight-own, weight-one}
 use Rattle.spec.proofs.Plans.{facts, pixel-of}
-use Rattle.spec.proofs.Levels.{levelWeight, cumulative-zero, cumulative-next, cumulative-last, level-joint, cell, box-cell}
+use Rattle.spec.proofs.Levels.{levelWeight, cumulative-zero, cumulative-next, cumulative-last, times-is, level-joint, cell, box-cell}
 use Rattle.spec.proofs.Totals.{median-first}
 use Rattle.spec.proofs.Monotone.{cell-next}
 use Rattle.spec.proofs.Bounds.{pixelCount-high}
@@ -33,9 +36,25 @@ use Rattle.joint.proofs.WindowLaws as joint
 use Rattle.joint_cells.specs.Scan.{Marked, RowFits, cellSum}
 use Rattle.joint_search.specs.Levels.{cumulativeOf, totalOf, balanceOf, weightlessOf, medianOf}
 use Rattle.joint_search.specs.Search.{levelWeightIn, balanceIn, weightlessIn, medianIn, boxIn, pixelsIn, Searchable}
-use Rattle.joint_search.specs.Window.{Counted, RowWeighs, sizesOf}
+use Rattle.joint_search.specs.Window.{Counted, RowGives, RowOwn, RowWeighs, sizesOf}
 use Rattle.joint_search.proofs.LevelsLaws as levels
 use Rattle.joint_search.proofs.SearchLaws.{level-guides, box-is}
+
+-- ---- which weights a window is counted with: its own, or ones
+pub ones-fit : {m : ℕ} → m ≤ 256 → RowFits m (replicate 256 1)
+ones-fit h = record {
+  inside = rw (length-replicate {A = ℕ} 256 1) h;
+  low = λ f l. rw (getD-replicate {A = ℕ} 256 f 1 0 (omega arith)) (omega arith);
+}
+
+pub ones-weigh : (p : Frame) (s t : ℕ) → p .set .guides ≤ 256 → weightless p s t ≡ true → RowWeighs p s t (replicate 256 1)
+ones-weigh p s t h e = record {
+  in-row = ones-fit h;
+  is = λ f l. weight-one p s t f e ∙ ap pos (sym (getD-replicate {A = ℕ} 256 f 1 0 (omega arith)));
+}
+
+pub own-weighs : (p : Frame) (s t : ℕ) {row : List ℕ} → weightless p s t ≡ false → RowOwn p s t row → RowWeighs p s t row
+own-weighs p s t e r = record { in-row = r .in-row; is = λ f l. weight-own p s t f e ∙ r .is f l }
 
 -- ---- a window's counts
 once : (n : ℕ) → times _+_ 0 n 1 ≡ n
@@ -155,19 +174,35 @@ module _ {b : List ℕ} {plan : Plan} {s t : ℕ} {cs ws : List ℕ} (st : Count
   pub box-at : {x k : ℕ} {bx : List ℤ} → bx ≡ boxIn (sizesOf plan) cs x → x ≡ k → k < plan .levels → bx ≡ balanceBox (frameOf b) s t k
   box-at {k = k} e d h = e ∙ ap (boxIn (sizesOf plan) cs) d ∙ sym (box-of k h)
 
-  -- ---- with a row that weighs the window
-  module _ {row : List ℕ} (weighs : RowWeighs (frameOf b) s t row) where
+  -- ---- with a row of weights of the window
+  module _ {row : List ℕ} {weigh : ℕ → ℤ} (gives : RowGives weigh (frameOf b .set .guides) row) where
     pub row-fits : RowFits (plan .guides) row
-    row-fits = rw guides-eq (weighs .in-row)
+    row-fits = rw guides-eq (gives .in-row)
 
-    level-is : (i : ℕ) → i < plan .levels → levelWeightIn (plan .guides) cs row i ≡ levelWeight (frameOf b) s t i
-    level-is i h =
+    level-by : (i : ℕ) → i < plan .levels →
+        levelWeightIn (plan .guides) cs row i ≡ sumℤ (λ f. pos (count (frameOf b) s t i f) *ℤ weigh f) 0 (frameOf b .set .guides)
+    level-by i h =
         let M = frameOf b .set .guides in
         let h′ : i < frameOf b .set .levels = rw levels-eq at h in
         ap (λ (m : ℕ). levelWeightIn m cs row i) guides-eq ∙ level-guides M i cs row
         ∙ fold-same _+ℤ_ (pos 0) intSums _ _ 0 M (λ f u v. let l : f < M = subst (λ (q : ℕ). f < q) (zero-add M) v in
-        ap₂ (λ (n : ℕ) (x : ℤ). pos n *ℤ x) (rep .cells i f h′ l) (sym (weighs .is f l)))
-        ∙ sym (level-joint spot i)
+        ap₂ (λ (n : ℕ) (x : ℤ). pos n *ℤ x) (rep .cells i f h′ l) (sym (gives .is f l)))
+
+  -- its own weights: the hollow test
+  pub weightless-is : {row : List ℕ} → RowOwn (frameOf b) s t row → weightlessIn (sizesOf plan) cs row ≡ weightless (frameOf b) s t
+  unfolding weightlessOf weightless totalOf ownTotal
+  weightless-is {row} own =
+      let p = frameOf b in
+      ap isZero
+      (fold-same _+ℤ_ (pos 0) intSums _ _ 0 (plan .levels) (λ i x y. level-by own i (omega arith)
+      ∙ fold-same _+ℤ_ (pos 0) intSums _ _ 0 (p .set .guides) (λ f u v. sym (times-is (count p s t i f) (ownWeight p s t f))))
+      ∙ ap (λ (l : ℕ). sumℤ (λ i. sumℤ (λ f. times _+ℤ_ (pos 0) (count p s t i f) (ownWeight p s t f)) 0 (p .set .guides)) 0 l) levels-eq
+      ∙ sym (over-joint _+ℤ_ (pos 0) intSums p s t (λ i f. ownWeight p s t f) (spot .good .level-low) (spot .good .guide-low)))
+
+  -- the weights that it is counted with
+  module _ {row : List ℕ} (weighs : RowWeighs (frameOf b) s t row) where
+    level-is : (i : ℕ) → i < plan .levels → levelWeightIn (plan .guides) cs row i ≡ levelWeight (frameOf b) s t i
+    level-is i h = level-by weighs i h ∙ sym (level-joint spot i)
 
     cumulative-is : (c : ℕ) → c < plan .levels → cumulativeOf (levelWeightIn (plan .guides) cs row) c ≡ cumulative (frameOf b) s t c
     cumulative-is zero h = levels.cumulative-zero _ ∙ level-is 0 h ∙ sym (cumulative-zero (frameOf b) s t)
@@ -186,10 +221,6 @@ module _ {b : List ℕ} {plan : Plan} {s t : ℕ} {cs ws : List ℕ} (st : Count
     pub balance-is : (c : ℕ) → c < plan .levels → balanceIn (sizesOf plan) cs row c ≡ balance (frameOf b) s t c
     unfolding balanceOf balance
     balance-is c h = ap₂ (λ (u v : ℤ). pos 2 *ℤ u -ℤ v) (cumulative-is c h) total-is
-
-    pub weightless-is : weightlessIn (sizesOf plan) cs row ≡ weightless (frameOf b) s t
-    unfolding weightlessOf weightless
-    weightless-is = ap isZero total-is
 
     pub median-is : medianIn (sizesOf plan) cs row ≡ median (frameOf b) s t
     unfolding medianOf

@@ -5,7 +5,7 @@ use Prim.Native.Nat.{ℕ, suc}
 use lib.IntN.{ℤ, pos, _-ℤ_, _*ℤ_}
 use lib.Signed.{leZ}
 use Rattle.spec.specs.Base.{first, sumℤ}
-use Rattle.spec.specs.Median.{isZero}
+use Rattle.spec.specs.Weight.{isZero}
 
 -- those up to level i; and all of them
 unfoldable pub cumulativeOf : (ℕ → ℤ) → ℕ → ℤ

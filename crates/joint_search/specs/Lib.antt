@@ -1,4 +1,3 @@
 pub mod Levels
 pub mod Search
-pub mod Arrive
 pub mod Window

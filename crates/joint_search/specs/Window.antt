@@ -1,14 +1,14 @@
--- The stores of a window, and a row that weighs its pixels.
+-- The stores of a window, and a row of weights of its pixels.
 -- Assumes nothing.
 use mathlib.Core.Path.{_≡_}
 use mathlib.Core.List.{List, _++_}
 use Prim.Native.Nat.{ℕ, _<_}
-use lib.IntN.{pos}
+use lib.IntN.{ℤ, pos}
 use lib.ListN.{getD, drop}
 use Rattle.spec.specs.declared.Plan.{Plan}
 use Rattle.spec.specs.Frame.{Frame, frameOf}
 use Rattle.spec.specs.Checks.{Planned}
-use Rattle.spec.specs.Weight.{weight}
+use Rattle.spec.specs.Weight.{ownWeight, weight}
 use Rattle.spec.specs.Joint.{jointCounts, occupancyWords}
 use Rattle.joint.specs.Window.{cellCount, wordCount}
 use Rattle.joint_cells.specs.Scan.{RowFits}
@@ -25,7 +25,14 @@ pub record Counted (b : List ℕ) (plan : Plan) (s t : ℕ) (cs ws : List ℕ) :
   pub counts : cs ≡ jointCounts (frameOf b) s t ++ drop (cellCount (frameOf b)) cs
   pub words : ws ≡ occupancyWords (frameOf b) s t ++ drop (wordCount (frameOf b)) ws
 
--- a row whose numbers are the weights of the window at (s, t)
-pub record RowWeighs (p : Frame) (s t : ℕ) (row : List ℕ) : Type 0 where
-  pub in-row : RowFits (p .set .guides) row
-  pub is : (f : ℕ) → f < p .set .guides → weight p s t f ≡ pos (getD row f 0)
+-- a row whose numbers are what m guides weigh
+pub record RowGives (weigh : ℕ → ℤ) (m : ℕ) (row : List ℕ) : Type 0 where
+  pub in-row : RowFits m row
+  pub is : (f : ℕ) → f < m → weigh f ≡ pos (getD row f 0)
+
+-- in the window at (s, t), by the frame's own weights; and by those that it is counted with
+abbrev pub RowOwn : Frame → ℕ → ℕ → List ℕ → Type 0
+RowOwn p s t row = RowGives (ownWeight p s t) (p .set .guides) row
+
+abbrev pub RowWeighs : Frame → ℕ → ℕ → List ℕ → Type 0
+RowWeighs p s t row = RowGives (weight p s t) (p .set .guides) row

@@ -1,5 +1,6 @@
 // Way 1, kind 1: levels looked through one by one, a shift counted for each, and the box's cut point moved along with the search, because a level's
-// counts are at hand then. Kind 2 finds its level elsewhere: the cut point moved to a level that is known.
+// counts are at hand then.
+use crate::Cut;
 use crate::Sizes;
 use joint_cells::level::level_weight;
 use joint_cells::raise::raise_level;
@@ -10,13 +11,8 @@ ghost use Prim.Native.Nat.{_+_, _<_, _≤_};
 ghost use lib.IntN.{pos, natAbs, _+ℤ_, _*ℤ_};
 ghost use lib.Signed.{_≤ℤ_};
 ghost use Rattle.joint_cells.specs.Scan.{RowFits};
-ghost use Rattle.joint_search.specs.Search.{balanceIn, boxIn, Searchable, Climbed, Descended};
-
-// The level at which a search ends, and the shifts counted up to it.
-pub struct SearchEnd {
-    pub level: Level,
-    pub shifts: u64,
-}
+ghost use Rattle.spec.specs.Base.{distance};
+ghost use Rattle.joint_search.specs.Search.{balanceIn, medianIn, boxIn, Searchable, Climbed, Descended};
 
 // A balance with a level's weight more or less on both sides: by is 2 or -2.
 pub fn step_balance(x: i32, by: i32, y: i32) -> i32
@@ -36,7 +32,7 @@ pub fn climb(
     balance_box: &mut [i16; 256],
     counts: &[u16],
     words: &[u64],
-) -> SearchEnd
+) -> Cut
     requires { ⌜ (Searchable sizes (now counts) (now words)) × (RowFits (sizes .guides) (now row)) ⌝ }
     requires { ⌜ (from .0 < sizes .levels) × (bal ≡ balanceIn sizes (now counts) (now row) (from .0)) × (shifts < 1099511627776)
         × (now «balance_box» ≡ boxIn sizes (now counts) (from .0)) ⌝ }
@@ -55,7 +51,7 @@ pub fn climb(
             raise_level(row, Level(i), sizes.guides, balance_box, counts, words),
         );
     }
-    SearchEnd {
+    Cut {
         level: Level(i),
         shifts: n,
     }
@@ -71,7 +67,7 @@ pub fn descend(
     balance_box: &mut [i16; 256],
     counts: &[u16],
     words: &[u64],
-) -> SearchEnd
+) -> Cut
     requires { ⌜ (Searchable sizes (now counts) (now words)) × (RowFits (sizes .guides) (now row)) ⌝ }
     requires { ⌜ (from .0 < sizes .levels) × (bal ≡ balanceIn sizes (now counts) (now row) (from .0)) × (shifts < 1099511627776)
         × (pos 0 ≤ℤ bal) × (now «balance_box» ≡ boxIn sizes (now counts) (from .0)) ⌝ }
@@ -85,7 +81,7 @@ pub fn descend(
         let here = Level(i);
         let lower = step_balance(b, -2, level_weight(row, here, sizes.guides, counts, words));
         if lower < 0 {
-            return SearchEnd {
+            return Cut {
                 level: here,
                 shifts: counted,
             };
@@ -95,70 +91,31 @@ pub fn descend(
         i -= 1;
         counted += 1;
     }
-    SearchEnd {
+    Cut {
         level: Level(0),
         shifts: counted,
     }
 }
 
-// The box's cut point raised, level by level.
-pub fn raise_to(
+// From the cut point, where the balance is bal, up or down.
+pub fn from_cut(
     sizes: Sizes,
-    from: Level,
-    to: Level,
+    row: &[u16],
+    cut: Level,
+    bal: i32,
+    shifts: u64,
     balance_box: &mut [i16; 256],
     counts: &[u16],
     words: &[u64],
-)
-    requires { ⌜ Searchable sizes (now counts) (now words) ⌝ }
-    requires { ⌜ (from .0 ≤ to .0) × (to .0 < sizes .levels) × (now «balance_box» ≡ boxIn sizes (now counts) (from .0)) ⌝ }
-    ensures { λ _. ⌜ now («balance_box» .exit) ≡ boxIn sizes (now (counts .entry)) (to .0) ⌝ }
+) -> Cut
+    requires { ⌜ (Searchable sizes (now counts) (now words)) × (RowFits (sizes .guides) (now row)) ⌝ }
+    requires { ⌜ (cut .0 < sizes .levels) × (bal ≡ balanceIn sizes (now counts) (now row) (cut .0)) × (shifts < 1099511627776) ⌝ }
+    requires { ⌜ now «balance_box» ≡ boxIn sizes (now counts) (cut .0) ⌝ }
+    ensures { λ r. ⌜ (r .level .0 ≡ medianIn sizes (now (counts .entry)) (now (row .entry))) × (r .shifts ≡ shifts + distance (r .level .0) (cut .0))
+        × (now («balance_box» .exit) ≡ boxIn sizes (now (counts .entry)) (r .level .0)) ⌝ }
 {
-    let last = to.0;
-    let mut i = from.0;
-    while i < last {
-        i += 1;
-        shift_level(Level(i), sizes.guides, 2, balance_box, counts, words);
+    if bal < 0 {
+        return climb(sizes, row, cut, bal, shifts, balance_box, counts, words);
     }
-}
-
-// The box's cut point lowered, level by level.
-pub fn lower_to(
-    sizes: Sizes,
-    from: Level,
-    to: Level,
-    balance_box: &mut [i16; 256],
-    counts: &[u16],
-    words: &[u64],
-)
-    requires { ⌜ Searchable sizes (now counts) (now words) ⌝ }
-    requires { ⌜ (to .0 ≤ from .0) × (from .0 < sizes .levels) × (now «balance_box» ≡ boxIn sizes (now counts) (from .0)) ⌝ }
-    ensures { λ _. ⌜ now («balance_box» .exit) ≡ boxIn sizes (now (counts .entry)) (to .0) ⌝ }
-{
-    let last = to.0;
-    let mut i = from.0;
-    while last < i {
-        shift_level(Level(i), sizes.guides, -2, balance_box, counts, words);
-        i -= 1;
-    }
-}
-
-// The box's cut point moved, whichever way the answer lies.
-pub fn move_to(
-    sizes: Sizes,
-    from: Level,
-    to: Level,
-    balance_box: &mut [i16; 256],
-    counts: &[u16],
-    words: &[u64],
-)
-    requires { ⌜ Searchable sizes (now counts) (now words) ⌝ }
-    requires { ⌜ (from .0 < sizes .levels) × (to .0 < sizes .levels) × (now «balance_box» ≡ boxIn sizes (now counts) (from .0)) ⌝ }
-    ensures { λ _. ⌜ now («balance_box» .exit) ≡ boxIn sizes (now (counts .entry)) (to .0) ⌝ }
-{
-    if from.0 <= to.0 {
-        raise_to(sizes, from, to, balance_box, counts, words);
-        return;
-    }
-    lower_to(sizes, from, to, balance_box, counts, words);
+    descend(sizes, row, cut, bal, shifts, balance_box, counts, words)
 }

@@ -6,14 +6,12 @@ use Prim.Native.Nat.{ℕ}
 use lib.IntN.{ℤ}
 use Rattle.spec.specs.declared.Way.{Way}
 use Rattle.spec.specs.Frame.{Frame}
-use Rattle.spec.specs.Median.{weightless}
 use Rattle.spec.specs.Joint.{balanceBox}
 use Rattle.spec.specs.Walk.{arrive}
-use Rattle.joint_search.specs.declared.arrive.Arrival.{Arrival}
+use Rattle.joint_search.specs.declared.Cut.{Cut}
 
--- whether it is hollow, and the cut point, the shifts and the box after it
-pub record Arrives (way : Way) (p : Frame) (s t c n : ℕ) (r : Arrival) (bx : List ℤ) : Type 0 where
-  pub hollow : r .hollow ≡ weightless p s t
-  pub cut : r .cut .0 ≡ arrive way p s t c n .cut
+-- the cut point, the shifts and the box after it
+pub record Arrives (way : Way) (p : Frame) (s t c n : ℕ) (r : Cut) (bx : List ℤ) : Type 0 where
+  pub level : r .level .0 ≡ arrive way p s t c n .cut
   pub shifts : r .shifts ≡ arrive way p s t c n .shifts
-  pub box : bx ≡ balanceBox p s t (r .cut .0)
+  pub box : bx ≡ balanceBox p s t (r .level .0)

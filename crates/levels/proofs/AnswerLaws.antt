@@ -29,10 +29,10 @@ use Rattle.spec.proofs.Ranges.{natSums}
 use Rattle.spec.proofs.Sums.{sum-none, sum-suc, over-inWindow, over-both, over-constant, over-mono, over-scale, over-pos}
 use Rattle.spec.proofs.Limits.{Pixel}
 use Rattle.spec.proofs.Plans.{facts, pixel-of}
-use Rattle.spec.proofs.Levels.{levelWeight, weight-linear, level-linear, cumulative-linear}
+use Rattle.spec.proofs.Own.{weight-linear}
+use Rattle.spec.proofs.Levels.{levelWeight, level-linear, cumulative-linear}
 use Rattle.spec.proofs.Totals.{le-leZ, leZ-le, le-balance, balance-le, median-first, median-low}
 use Rattle.spec.proofs.Monotone.{monotone-none, balance-mono}
-use Rattle.spec.proofs.Climb.{guided-full}
 use Rattle.window_weights.specs.declared.coefficients.Coefficients.{Coefficients}
 use Rattle.window_weights.specs.Coefficients.{WeighsAt, CoefficientsSmall, endsNotNegative, weightOf, reachesHalf}
 use Rattle.window.proofs.PixelLaws.{guides-range}
@@ -80,9 +80,9 @@ module _ (p : Frame) (s t : ℕ) where
   below-sum f (suc n) = below-next f n ∙ ap (λ (k : ℕ). k + levelSum p s t f n) (below-sum f n) ∙ sym (sum-suc (levelSum p s t f) n)
 
   -- kind 2: the cumulative weight is linear in the two
-  below-linear : p .set .kind ≡ 2 → (i : ℕ)
+  below-linear : Pixel p s t → p .set .kind ≡ 2 → (i : ℕ)
       → slope p s t *ℤ pos (belowSum p s t (guide p) (suc i)) +ℤ offset p s t *ℤ pos (belowSum p s t (λ x y. 1) (suc i)) ≡ cumulative p s t i
-  below-linear two i = rw (below-sum (guide p) (suc i), below-sum (λ x y. 1) (suc i)) (sym (cumulative-linear p s t two i))
+  below-linear k two i = rw (below-sum (guide p) (suc i), below-sum (λ x y. 1) (suc i)) (sym (cumulative-linear k two i))
 
 -- ---- the window's counts and guide sums
 to-below : (p : Frame) (s t : ℕ) (f : ℕ → ℕ → ℕ) (xs : List ℕ) → ((i : ℕ) → i < p .set .levels → getD xs i 0 ≡ levelSum p s t f i)
@@ -120,7 +120,7 @@ module _ {p : Frame} {s t : ℕ} (q : Pixel p s t) {counts sums : List ℕ} (c :
     unfolding passes reachesHalf
     passes-is i h =
         let e : weightOf k (sumTo counts (suc i)) (sumTo sums (suc i)) ≡ cumulative p s t i =
-        rw (w .slope, w .offset, count-to (suc i) (omega arith), sum-to (suc i) (omega arith)) (below-linear p s t two i) in
+        rw (w .slope, w .offset, count-to (suc i) (omega arith), sum-to (suc i) (omega arith)) (below-linear p s t q two i) in
         ap₂ (λ (a b : ℤ). leZ a (pos 2 *ℤ b)) (w .total) e
 
     pub median-is : firstLevel k counts sums ≡ median p s t
@@ -152,7 +152,7 @@ module _ {p : Frame} {s t : ℕ} (q : Pixel p s t) {counts sums : List ℕ} (c :
     pixel-below : {m : ℤ} → EndsBelow k (p .set .guides) m → (b : Bool) (g : ℕ) → g < p .set .guides →
         (if b then weight p s t g else pos 0) ≤ℤ (m *ℤ pos (if b then 1 else 0))
     pixel-below {m} e true g h =
-        ≤-trans (≤-of-eq (weight-linear p s t g two ∙ sym (ap₂ (λ (c d : ℤ). c *ℤ pos g +ℤ d) (w .slope) (w .offset))))
+        ≤-trans (≤-of-eq (weight-linear q g two ∙ sym (ap₂ (λ (c d : ℤ). c *ℤ pos g +ℤ d) (w .slope) (w .offset))))
         (≤-trans (formula-below (k .slope) (k .offset) m {g = g} {m = p .set .guides - 1} (omega arith) (e .low) (e .high))
         (≤-of-eq (sym (mul-one m))))
     pixel-below {m} e false g h = ≤-of-eq (sym (*ℤ-zero m))
@@ -172,7 +172,7 @@ module _ {p : Frame} {s t : ℕ} (q : Pixel p s t) {counts sums : List ℕ} (c :
         record {
           level = λ i h.
               let l : i < p .set .levels = omega (arith, c .count-long) in
-              rw (c .count-cell i l, c .sum-cell i l, w .slope, w .offset) (≤-trans (≤-of-eq (sym (level-linear p s t i two))) (level-below e i));
+              rw (c .count-cell i l, c .sum-cell i l, w .slope, w .offset) (≤-trans (≤-of-eq (sym (level-linear q i two))) (level-below e i));
           not-negative = e .not-negative;
           small = e .small;
         }
@@ -184,12 +184,11 @@ pub answered : {p : Frame} {s t : ℕ} → Pixel p s t → {counts sums : List �
     → Answered way p s t c n f
 unfolding arrive adds answer
 answered {p} {s} {t} q cells two w way {c} {n} {f} {m} em e sh =
-    let h = guided-full q two .1 in
     let l : f .level .0 ≡ median p s t = e .level ∙ median-is q cells two w in
     record {
-      answer = rw h l;
-      cut = rw h l;
-      shifts = rw h (sh ∙ rw (em, l) refl);
+      answer = l;
+      cut = l;
+      shifts = sh ∙ rw (em, l) refl;
       below = tally-below q cells (omega (arith, l, median-low q)) (e .tally);
     }
 
@@ -201,7 +200,7 @@ module _ {b : List ℕ} {z : Plan} (pl : Planned b z) (two : z .kind ≡ 2) {s t
   module _ {k : Coefficients} (w : WeighsAt (frameOf b) s t k × CoefficientsSmall k) {counts sums : List ℕ}
       (v : Profiled (frameOf b) s t counts sums) {m : Bool} (em : m ≡ endsNotNegative k (z .guides)) where
     is-monotone : m ≡ monotone (frameOf b) s t
-    is-monotone = em ∙ ends-monotone pl two (w .0)
+    is-monotone = em ∙ ends-monotone pl two (w .0) hs ht
 
     pub answerable : {n : ℕ} → n ≤ 4294967296 → Answerable k (z .guides) m n counts sums
     answerable ln = record {

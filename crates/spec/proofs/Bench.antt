@@ -44,8 +44,8 @@ use Rattle.spec.specs.Checks.{
   verdict,
 }
 use Rattle.spec.specs.Window.{span, over, pixelCount, guideSum, squareSum, count, levelSum}
-use Rattle.spec.specs.Weight.{scaledVariance, guidedWeight, weight, monotone}
-use Rattle.spec.specs.Median.{totalWeight, cumulative, balance, isZero, weightless, median, answer, differences}
+use Rattle.spec.specs.Weight.{scaledVariance, guidedWeight, ownWeight, ownTotal, isZero, weightless, weight, monotone}
+use Rattle.spec.specs.Median.{totalWeight, cumulative, balance, median, answer, differences}
 use Rattle.spec.specs.Walk.{State, adds, arrive, move, follow, step, after, answers, walkEnd, walkAnswers}
 use Rattle.spec.specs.Filter.{turn, serpentine, filtered, filterEnd}
 use Rattle.spec.specs.Joint.{jointCounts, occupancyWord, occupancyWords, balanceBox}
@@ -106,9 +106,9 @@ settings w h l m k r e = record { width = w; height = h; levels = l; guides = m;
 unfoldable pub reply : Question → Reply
 unfolding fold foldRect first tabulateFrom tabulate be16 be32 to16 to32 all16 trailerAt settingsOf trailerOf ownWeights valuePart guidePart tablePart
     builtIn planOf pixelLevel pixelGuide frameOf badMark badSize badCounts badKind badRadius settingsOutcome badDistance scan scanFile valueScan
-    guideScan contents trailerOutcome verdict span over pixelCount guideSum squareSum count levelSum scaledVariance guidedWeight weight
-    monotone totalWeight cumulative balance isZero weightless median answer differences adds arrive move follow step after answers walkEnd walkAnswers
-    turn serpentine filtered filterEnd jointCounts occupancyWord occupancyWords balanceBox columnSum columnStore entryOf entries blockWeight summary
+    guideScan contents trailerOutcome verdict span over pixelCount guideSum squareSum count levelSum scaledVariance guidedWeight ownWeight
+    ownTotal isZero weightless weight monotone totalWeight cumulative balance median answer differences adds arrive move follow step after answers
+    walkEnd walkAnswers turn serpentine filtered filterEnd jointCounts occupancyWord occupancyWords balanceBox columnSum columnStore entryOf entries blockWeight summary
     wayOf badWay roomOf badPixel lacks short walkChecks walkOutcome filterChecks filterOutcome balanceChecks balanceOutcome fieldBytes distanceBytes
     written writtenSize badLength scanList writerOutcome digits spaced rows ways tooLarge programOutcome beside outputText printed
 reply (accept b) = says (verdict b)
@@ -171,7 +171,7 @@ abbrev fileHeavy : List ℕ
 fileHeavy = made 3 1 8 2 1 1 0 (1 ∷ 5 ∷ 3 ∷ []) (0 ∷ 1 ∷ 0 ∷ []) (65535 ∷ 257 ∷ 1 ∷ 65535 ∷ [])
 
 -- document 02, ask 2: 40 levels are three blocks, the last of 8 levels. The issue's frame; a table that is not symmetric; B with its levels apart, so
--- that the pixel of negative weight has a block of its own; a window between two others that has no weight
+-- that the pixel of negative weight has a block of its own; a hollow window between two others
 abbrev fileSheet : List ℕ
 fileSheet = made 4 1 40 2 1 1 0 (2 ∷ 39 ∷ 17 ∷ 20 ∷ []) (0 ∷ 1 ∷ 0 ∷ 1 ∷ []) (1 ∷ 2 ∷ 0 ∷ 1 ∷ [])
 
@@ -183,6 +183,20 @@ fileApart = made 5 1 40 16 2 2 1 (17 ∷ 34 ∷ 37 ∷ 35 ∷ 3 ∷ []) (7 ∷ 7
 
 abbrev fileBetween : List ℕ
 fileBetween = made 3 1 40 2 1 0 0 (20 ∷ 35 ∷ 31 ∷ []) (0 ∷ 1 ∷ 0 ∷ []) (1 ∷ 0 ∷ 0 ∷ 0 ∷ [])
+
+-- document 02, ask 3: a hollow window between two that are not; a lamp alone in its guide class; hollow at the start and at the end of the row, with
+-- the levels in three blocks; and none hollow, though no pixel weighs anything for a pixel of its own guide
+abbrev fileZeroRow : List ℕ
+fileZeroRow = made 3 1 8 2 1 1 0 (7 ∷ 2 ∷ 4 ∷ []) (0 ∷ 1 ∷ 0 ∷ []) (1 ∷ 1 ∷ 0 ∷ 0 ∷ [])
+
+abbrev fileLamp : List ℕ
+fileLamp = made 3 1 8 2 1 1 0 (2 ∷ 7 ∷ 4 ∷ []) (0 ∷ 1 ∷ 0 ∷ []) (1 ∷ 0 ∷ 0 ∷ 0 ∷ [])
+
+abbrev fileEnds : List ℕ
+fileEnds = made 4 1 40 2 1 1 0 (33 ∷ 2 ∷ 39 ∷ 17 ∷ []) (1 ∷ 0 ∷ 1 ∷ 1 ∷ []) (1 ∷ 2 ∷ 0 ∷ 0 ∷ [])
+
+abbrev fileOthers : List ℕ
+fileOthers = made 3 1 8 2 1 1 0 (1 ∷ 5 ∷ 7 ∷ []) (0 ∷ 1 ∷ 0 ∷ []) (0 ∷ 1 ∷ 1 ∷ 0 ∷ [])
 
 -- two rows; one window's formula is negative at guide 0, another's at M − 1
 abbrev fileTwoRows : List ℕ
@@ -235,7 +249,10 @@ cases =
     ∷ accept fileC ⇒ says accepted
     ∷ filter fileC ⇒ gives (2 ∷ 2 ∷ []) 2
     ∷ accept fileD ⇒ says accepted
-    ∷ filter fileD ⇒ gives (2 ∷ 6 ∷ []) 0
+    ∷ filter fileD ⇒ gives (2 ∷ 2 ∷ []) 2
+    ∷ coarseFilter fileD ⇒ sums (2 ∷ 2 ∷ []) 4 (pos 2 ∷ [])
+    ∷ balances fileD 0 (1 ∷ 2 ∷ 5 ∷ 6 ∷ []) ⇒ weighs (negsuc 1 ∷ pos 0 ∷ pos 0 ∷ pos 2 ∷ [])
+    ∷ worst fileD 0 (2 ∷ 6 ∷ []) ⇒ weighs (pos 0 ∷ pos 0 ∷ [])
     ∷ accept fileE ⇒ says accepted
     ∷ filter fileE ⇒ gives (5 ∷ 1 ∷ 3 ∷ []) 11
     ∷ constant 0 ⇒ gives [] 256
@@ -334,7 +351,17 @@ cases =
     ∷ coarse fileBlocks 0 0 (0 ∷ 0 ∷ 0 ∷ []) ⇒ sums (2 ∷ 2 ∷ 2 ∷ 39 ∷ []) 15 (pos 0 ∷ pos 1 ∷ pos 2 ∷ [])
     ∷ coarse fileBlocks 3 0 (1 ∷ 9 ∷ 1 ∷ 2 ∷ []) ⇒ sums (39 ∷ 2 ∷ 65533 ∷ 2 ∷ 65534 ∷ []) 13 (pos 3 ∷ pos 0 ∷ pos 3 ∷ [])
     ∷ coarse fileApart 0 0 (0 ∷ 0 ∷ []) ⇒ sums (34 ∷ 34 ∷ 37 ∷ []) 45 (negsuc 814 ∷ pos 550 ∷ pos 3210 ∷ [])
-    ∷ coarse fileBetween 0 0 (0 ∷ 0 ∷ []) ⇒ sums (20 ∷ 35 ∷ 31 ∷ []) 21 (pos 0 ∷ pos 1 ∷ pos 0 ∷ [])
+    ∷ coarse fileBetween 0 0 (0 ∷ 0 ∷ []) ⇒ sums (20 ∷ 35 ∷ 31 ∷ []) 26 (pos 0 ∷ pos 1 ∷ pos 0 ∷ [])
+    ∷ filter fileZeroRow ⇒ gives (2 ∷ 4 ∷ 2 ∷ []) 6
+    ∷ weigh fileZeroRow 1 ⇒ weighs (pos 1 ∷ pos 1 ∷ pos 1 ∷ [])
+    ∷ balances fileZeroRow 1 (2 ∷ 3 ∷ 4 ∷ 7 ∷ []) ⇒ weighs (negsuc 0 ∷ negsuc 0 ∷ pos 1 ∷ pos 3 ∷ [])
+    ∷ filter fileLamp ⇒ gives (2 ∷ 4 ∷ 4 ∷ []) 4
+    ∷ weigh fileLamp 0 ⇒ weighs (pos 1 ∷ pos 0 ∷ pos 1 ∷ [])
+    ∷ balances fileLamp 1 (2 ∷ 4 ∷ 7 ∷ []) ⇒ weighs (negsuc 0 ∷ pos 1 ∷ pos 3 ∷ [])
+    ∷ walk fileEnds 0 0 (0 ∷ 0 ∷ 0 ∷ 1 ∷ 1 ∷ []) ⇒ gives (2 ∷ 33 ∷ 17 ∷ 17 ∷ 17 ∷ 33 ∷ []) 65
+    ∷ coarse fileEnds 0 0 (0 ∷ 0 ∷ 0 ∷ 1 ∷ 1 ∷ []) ⇒ sums (2 ∷ 33 ∷ 17 ∷ 17 ∷ 17 ∷ 33 ∷ []) 14 (pos 1 ∷ pos 0 ∷ pos 4 ∷ [])
+    ∷ coarseFilter fileEnds ⇒ sums (2 ∷ 33 ∷ 17 ∷ 17 ∷ []) 9 (pos 0 ∷ pos 1 ∷ pos 1 ∷ [])
+    ∷ filter fileOthers ⇒ gives (5 ∷ 1 ∷ 5 ∷ []) 13
     ∷ []
 
 benches : map given cases ≡ map due cases

@@ -14,15 +14,15 @@ use Rattle.spec.specs.Base.{if_then_else_, indicator, distance}
 use Rattle.spec.specs.declared.Settings.{Settings}
 use Rattle.spec.specs.Frame.{Frame, level, guide, table, heaviest}
 use Rattle.spec.specs.Window.{span, Σ, Σℤ, pixelCount, guideSum, squareSum, inCell, count, InWindow}
-use Rattle.spec.specs.Weight.{scaledVariance, guidedWeight, weight, variance, deviation, slope, offset}
+use Rattle.spec.specs.Weight.{scaledVariance, guidedWeight, ownWeight, weight, variance, deviation, slope, offset}
 use Rattle.spec.specs.Median.{totalWeight, cumulative, balance, differences}
 use Rattle.spec.specs.Window.{levelSum}
 use Rattle.spec.proofs.Sums.{over-le, over-abs, over-constant, pixelCount-is}
 use Rattle.spec.specs.Checks.{SettingsLimits}
 use Rattle.spec.proofs.Limits.{FrameLimits, Pixel}
 use Rattle.spec.proofs.Plans.{smoothing-of}
-use Rattle.spec.proofs.Levels.{weight-table, weight-guided, cell, balance-signed}
-use Rattle.spec.proofs.Totals.{variance-pos}
+use Rattle.spec.proofs.Own.{own-table, weight-table, tableWeight-high, weight-guided, variance-pos}
+use Rattle.spec.proofs.Levels.{cell, balance-signed}
 
 span-high : (r c n : ℕ) → span r c n ≤ 2 * r + 1
 unfolding span
@@ -96,33 +96,37 @@ cell-abs {p} {s} {t} k c f =
     one true = le-refl 1
     one false = le-refl 1
 
--- T, U, the balance and the weighted sum of differences, where no weight of the frame's guides is more than B in size
+-- a sum over the window of numbers of which each is at most C in size
+window-size : {p : Frame} {s t : ℕ} → Pixel p s t → (f : ℕ → ℕ → ℤ) (C : ℕ) → ((x y : ℕ) → InWindow p s t x y → natAbs (f x y) ≤ C) →
+    natAbs (Σℤ p s t f) ≤ 961 * C
+window-size {p} {s} {t} k f C h = le-trans (over-size p s t f C h) (mul-le-mul (pixelCount-high k) (le-refl C))
+
+-- T, U and the balance, where no weight of the frame's guides is more than B in size
 module _ {p : Frame} {s t : ℕ} (k : Pixel p s t) (B : ℕ) (low : (g : ℕ) → g < p .set .guides → natAbs (weight p s t g) ≤ B) where
   weight-size : (x y : ℕ) → InWindow p s t x y → natAbs (weight p s t (guide p x y)) ≤ B
   weight-size x y h = low (guide p x y) (k .good .guide-low x y (h .wide) (h .high))
 
-  sum-size : (f : ℕ → ℕ → ℤ) (C : ℕ) → ((x y : ℕ) → InWindow p s t x y → natAbs (f x y) ≤ C) → natAbs (Σℤ p s t f) ≤ 961 * C
-  sum-size f C h = le-trans (over-size p s t f C h) (mul-le-mul (pixelCount-high k) (le-refl C))
-
   pub total-abs : natAbs (totalWeight p s t) ≤ 961 * B
   unfolding totalWeight
-  total-abs = sum-size _ B weight-size
+  total-abs = window-size k _ B weight-size
 
   pub cumulative-abs : (i : ℕ) → natAbs (cumulative p s t i) ≤ 961 * B
   unfolding cumulative
-  cumulative-abs i = sum-size _ B (λ x y h. if-abs (leb (level p x y) i) (weight p s t (guide p x y)) B (weight-size x y h))
+  cumulative-abs i = window-size k _ B (λ x y h. if-abs (leb (level p x y) i) (weight p s t (guide p x y)) B (weight-size x y h))
 
   pub balance-abs : (c : ℕ) → natAbs (balance p s t c) ≤ 961 * B
   balance-abs c =
       subst (λ (z : ℤ). natAbs z ≤ 961 * B) (sym (balance-signed p s t c))
-      (sum-size _ B (λ x y h. sign-abs (leb (level p x y) c) (weight p s t (guide p x y)) B (weight-size x y h)))
+      (window-size k _ B (λ x y h. sign-abs (leb (level p x y) c) (weight p s t (guide p x y)) B (weight-size x y h)))
 
-  -- what the answer minimises
-  pub differences-abs : (i : ℕ) → i < p .set .levels → natAbs (differences p s t i) ≤ 961 * (B * 1023)
-  unfolding differences
-  differences-abs i l =
-      sum-size _ (B * 1023) (λ x y h. abs-mul-le (weight p s t (guide p x y)) (pos (distance (level p x y) i)) (weight-size x y h)
-      (omega (arith, k .good .level-low x y (h .wide) (h .high), k .good .sound .levels-high)))
+-- what the answer minimises, where no own weight is more than B in size
+pub differences-abs : {p : Frame} {s t : ℕ} → Pixel p s t → (B : ℕ) → ((g : ℕ) → g < p .set .guides → natAbs (ownWeight p s t g) ≤ B)
+    → (i : ℕ) → i < p .set .levels → natAbs (differences p s t i) ≤ 961 * (B * 1023)
+unfolding differences
+differences-abs {p} {s} {t} k B low i l =
+    window-size k _ (B * 1023)
+    (λ x y h. abs-mul-le (ownWeight p s t (guide p x y)) (pos (distance (level p x y) i)) (low (guide p x y) (k .good .guide-low x y (h .wide) (h .high)))
+    (omega (arith, k .good .level-low x y (h .wide) (h .high), k .good .sound .levels-high)))
 
 -- ---- the weights
 diff-abs : (a b B : ℕ) → a ≤ B → b ≤ B → natAbs (pos a -ℤ pos b) ≤ B
@@ -151,7 +155,7 @@ unfolding guidedWeight variance
 guided-abs {p} {s} {t} k two g l =
     let e = smoothing-of (k .good) two in
     let f : guide p s t ≤ 255 = omega (arith, k .good .guide-low s t (k .in-column) (k .in-row), k .good .sound .guides-high) in
-    subst (λ (z : ℤ). natAbs z ≤ 180155859075) (sym (weight-guided p s t g two))
+    subst (λ (z : ℤ). natAbs z ≤ 180155859075) (sym (weight-guided k g two))
     (abs-add-le (variance p s t)
     ((pos (pixelCount p s t * guide p s t) -ℤ pos (guideSum p s t)) *ℤ (pos (pixelCount p s t * g) -ℤ pos (guideSum p s t)))
     (variance-abs k (e .0) (e .1))
@@ -159,8 +163,12 @@ guided-abs {p} {s} {t} k two g l =
     (deviation-abs k (guide p s t) f) (deviation-abs k g (omega (arith, k .good .sound .guides-high)))))
 
 -- kind 1: the table's 16 bits do
+pub own-abs : (p : Frame) (s t : ℕ) → p .set .kind ≡ 1 → ((f g : ℕ) → table p f g ≤ heaviest) → (g : ℕ) → natAbs (ownWeight p s t g) ≤ heaviest
+own-abs p s t one low g = subst (λ (z : ℤ). natAbs z ≤ heaviest) (sym (own-table p s t g one)) (low (guide p s t) g)
+
 pub table-abs : (p : Frame) (s t : ℕ) → p .set .kind ≡ 1 → ((f g : ℕ) → table p f g ≤ heaviest) → (g : ℕ) → natAbs (weight p s t g) ≤ heaviest
-table-abs p s t one low g = subst (λ (z : ℤ). natAbs z ≤ heaviest) (sym (weight-table p s t g one)) (low (guide p s t) g)
+table-abs p s t one low g =
+    subst (λ (z : ℤ). natAbs z ≤ heaviest) (sym (weight-table p s t g one)) (tableWeight-high p s t g heaviest (omega arith) (low (guide p s t) g))
 
 -- kind 2's two coefficients
 pub slope-abs : {p : Frame} {s t : ℕ} → Pixel p s t → natAbs (slope p s t) ≤ 235497855
@@ -197,7 +205,7 @@ module _ {p : Frame} {s t : ℕ} (k : Pixel p s t) where
     }
 
     pub table-differences : (i : ℕ) → i < p .set .levels → natAbs (differences p s t i) < 2 ^ 36
-    table-differences i h = omega (arith, differences-abs k heaviest weights i h)
+    table-differences i h = omega (arith, differences-abs k heaviest (λ g _. own-abs p s t one low g) i h)
 
   pub guided-sums : p .set .kind ≡ 2 → SumsBelow p s t (2 ^ 48) (2 ^ 49) (2 ^ 48)
   guided-sums two = record {

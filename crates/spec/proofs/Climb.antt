@@ -2,7 +2,6 @@
 -- Assumes nothing.
 use mathlib.Core.Path.{_≡_, refl, sym, ap, ap₂, _∙_, subst}
 use mathlib.Core.Bool.{Bool, true, false}
-use mathlib.Core.Logic.{_⊎_, inl, inr}
 use mathlib.Core.List.{List, [], _∷_, _++_, append-assoc}
 use Prim.Native.Nat.{ℕ, zero, suc, _+_, _-_, _≤_, _<_}
 use native.Mathlib.Nat.{add-suc, suc-add, add-zero, zero-add}
@@ -15,12 +14,13 @@ use borrow.Author.Tests.{eqb-true}
 use Rattle.spec.specs.Base.{if_then_else_}
 use Rattle.spec.specs.declared.Settings.{Settings}
 use Rattle.spec.specs.Frame.{Frame, guide}
-use Rattle.spec.specs.Median.{totalWeight, cumulative, balance, weightless, median}
+use Rattle.spec.specs.Median.{totalWeight, cumulative, balance, median}
 use Rattle.spec.specs.Window.{levelSum}
 use Rattle.spec.specs.Chain.{Entry, entries, entryOf}
 use Rattle.spec.specs.Checks.{SettingsLimits}
 use Rattle.spec.proofs.Limits.{FrameLimits, Pixel}
 use Rattle.spec.specs.Weight.{slope, offset}
+use Rattle.spec.proofs.Own.{total-pos}
 use Rattle.spec.proofs.Levels.{levelWeight, cumulative-zero, cumulative-next, level-linear}
 use Rattle.spec.proofs.Totals.{
   leZ-le,
@@ -28,22 +28,11 @@ use Rattle.spec.proofs.Totals.{
   median-at,
   median-low,
   median-is,
-  total-guided-pos,
-  pos-weightless,
   le-balance,
   lt-balance,
   balance-lt,
 }
 use Rattle.spec.proofs.Present.{levelCount, absent-weight}
-
--- kind 2 has no hollow window
-pub guided-full : {p : Frame} {s t : ℕ} → Pixel p s t → p .set .kind ≡ 2 → (pos 0 <ℤ totalWeight p s t) × (weightless p s t ≡ false)
-guided-full {p} {s} {t} k two = go (k .good .sound .kinds)
-  where
-    go : ((p .set .kind ≡ 1) × (p .set .smoothing ≡ 0)) ⊎ ((p .set .kind ≡ 2) × (1 ≤ p .set .smoothing) × (p .set .smoothing ≤ 65025)) →
-        (pos 0 <ℤ totalWeight p s t) × (weightless p s t ≡ false)
-    go (inl h) = absurd (omega (arith, h .0))
-    go (inr h) = let q = total-guided-pos k two (h .1) in (q, pos-weightless p s t q)
 
 -- ---- from level 0 upward: U below level a
 unfoldable pub cumulativeBelow : Frame → ℕ → ℕ → ℕ → ℤ
@@ -149,7 +138,7 @@ climb-from {p} {s} {t} k two (suc n) a e f = go (eqb (levelSum p s t (λ x y. 1)
   where
     weighed : cumulativeBelow p s t a +ℤ (slope p s t *ℤ pos (levelSum p s t (guide p) a) +ℤ offset p s t *ℤ pos (levelSum p s t (λ x y. 1) a)) ≡
         cumulative p s t a
-    weighed = ap (λ (q : ℤ). cumulativeBelow p s t a +ℤ q) (sym (level-linear p s t a two)) ∙ sym (cumulativeBelow-next p s t a)
+    weighed = ap (λ (q : ℤ). cumulativeBelow p s t a +ℤ q) (sym (level-linear k a two)) ∙ sym (cumulativeBelow-next p s t a)
 
     test : (b : Bool) → leZ (totalWeight p s t) (pos 2 *ℤ cumulative p s t a) ≡ b
         →
@@ -169,7 +158,7 @@ climb-from {p} {s} {t} k two (suc n) a e f = go (eqb (levelSum p s t (λ x y. 1)
         ((if b then [] else record { level = a; count = levelSum p s t (λ x y. 1) a; guides = levelSum p s t (guide p) a } ∷ []) ++ entriesFrom p s t
         (suc a) n) ≡ median p s t
     go true d ih =
-        let q = climb-over p s t a (guided-full k two .0) f (eqb-true _ _ d) in
+        let q = climb-over p s t a (total-pos k) f (eqb-true _ _ d) in
         ap (λ (u : ℤ). climb (totalWeight p s t) (slope p s t) (offset p s t) u (entriesFrom p s t (suc a) n)) (sym (q .0)) ∙ ih (q .1)
     go false d ih = rw weighed (test (leZ (totalWeight p s t) (pos 2 *ℤ cumulative p s t a)) refl ih)
 

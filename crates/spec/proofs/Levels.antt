@@ -10,12 +10,12 @@ use lib.ListN.{getD}
 use lib.IntN.{ℤ, pos, negsuc, _+ℤ_, _-ℤ_, _*ℤ_, +ℤ-idl, +ℤ-idr, zero-*ℤ, *ℤ-zero, sucℤ-*ℤ, *ℤ-comm}
 use borrow.Author.Tests.{eq-eqb, ne-eqb, le-leb, lt-leb}
 use Rattle.ints.specs.Ring.{mul-one}
-use Rattle.ints.specs.Polynomial.{_⊕_, _⊖_, _⊗_, opposite, #_, _≐_, solve1, solve5, solve6}
+use Rattle.ints.specs.Polynomial.{_⊕_, _⊖_, _⊗_, opposite, #_, _≐_, solve1, solve6}
 use Rattle.spec.specs.Base.{if_then_else_, sum, sumℤ}
 use Rattle.spec.specs.declared.Settings.{Settings}
-use Rattle.spec.specs.Frame.{Frame, level, guide, table}
-use Rattle.spec.specs.Window.{Σℤ, pixelCount, guideSum, squareSum, count, InWindow}
-use Rattle.spec.specs.Weight.{scaledVariance, guidedWeight, weight, variance, deviation, slope, offset}
+use Rattle.spec.specs.Frame.{Frame, level, guide}
+use Rattle.spec.specs.Window.{Σℤ, count, InWindow}
+use Rattle.spec.specs.Weight.{weight, slope, offset}
 use Rattle.spec.specs.Median.{totalWeight, cumulative, balance}
 use Rattle.spec.specs.Joint.{balanceBox}
 use Rattle.spec.specs.Window.{levelSum}
@@ -25,6 +25,7 @@ use Rattle.spec.proofs.First.{getD-tabulate}
 use Rattle.spec.proofs.Sums.{sum-none, sum-suc, over-inWindow, over-add, over-scale, over-pos}
 use Rattle.spec.specs.Checks.{SettingsLimits}
 use Rattle.spec.proofs.Limits.{FrameLimits, Pixel}
+use Rattle.spec.proofs.Own.{weight-linear}
 
 -- the weight of level i in the window at (s, t)
 unfoldable pub levelWeight : Frame → ℕ → ℕ → ℕ → ℤ
@@ -84,36 +85,19 @@ level-joint {p} {s} {t} k i =
     ∙ ap (λ (q : ℕ → ℤ). sumℤ q 0 (p .set .guides))
     (fun-ext (λ f. over-count _+ℤ_ (pos 0) intSums p s t i f (weight p s t f) ∙ times-is (count p s t i f) (weight p s t f)))
 
--- ---- kinds
-pub weight-table : (p : Frame) (s t g : ℕ) → p .set .kind ≡ 1 → weight p s t g ≡ pos (table p (guide p s t) g)
-unfolding weight
-weight-table p s t g e = rw (eq-eqb (p .set .kind) 1 e) refl
-
-pub weight-guided : (p : Frame) (s t g : ℕ) → p .set .kind ≡ 2
-    → weight p s t g ≡ guidedWeight (pixelCount p s t) (guideSum p s t) (squareSum p s t) (p .set .smoothing) (guide p s t) g
-unfolding weight
-weight-guided p s t g e = rw (ne-eqb (p .set .kind) 1 (λ d. omega arith)) refl
-
--- the weight is linear in the guide
-pub weight-linear : (p : Frame) (s t g : ℕ) → p .set .kind ≡ 2 → weight p s t g ≡ slope p s t *ℤ pos g +ℤ offset p s t
-unfolding guidedWeight variance deviation slope offset
-weight-linear p s t g e =
-    weight-guided p s t g e
-    ∙ solve5 (λ v a n x u. v ⊕ a ⊗ (n ⊗ x ⊖ u) ≐ (n ⊗ a) ⊗ x ⊕ (v ⊖ u ⊗ a)) refl (variance p s t) (deviation p s t) (pos (pixelCount p s t)) (pos g)
-    (pos (guideSum p s t))
-
+-- ---- kind 2: by the level's count and guide sum
 linear-part : (b : Bool) (c d w : ℤ) (g : ℕ) → w ≡ c *ℤ pos g +ℤ d
     → (if b then w else pos 0) ≡ c *ℤ pos (if b then g else 0) +ℤ d *ℤ pos (if b then 1 else 0)
 linear-part true c d w g e = e ∙ ap (λ (q : ℤ). c *ℤ pos g +ℤ q) (sym (mul-one d))
 linear-part false c d w g e = sym (ap₂ (λ (x y : ℤ). x +ℤ y) (*ℤ-zero c) (*ℤ-zero d))
 
-pub level-linear : (p : Frame) (s t i : ℕ) → p .set .kind ≡ 2
+pub level-linear : {p : Frame} {s t : ℕ} → Pixel p s t → (i : ℕ) → p .set .kind ≡ 2
     → levelWeight p s t i ≡ slope p s t *ℤ pos (levelSum p s t (guide p) i) +ℤ offset p s t *ℤ pos (levelSum p s t (λ x y. 1) i)
 unfolding levelWeight levelSum
-level-linear p s t i e =
+level-linear {p} {s} {t} k i e =
     over-inWindow _+ℤ_ (pos 0) intSums p s t _ _
     (λ x y h. linear-part (eqb (level p x y) i) (slope p s t) (offset p s t) (weight p s t (guide p x y)) (guide p x y)
-    (weight-linear p s t (guide p x y) e))
+    (weight-linear k (guide p x y) e))
     ∙ over-add p s t (λ x y. slope p s t *ℤ pos (if eqb (level p x y) i then guide p x y else 0))
     (λ x y. offset p s t *ℤ pos (if eqb (level p x y) i then 1 else 0))
     ∙ ap₂ (λ (x y : ℤ). x +ℤ y)
@@ -123,7 +107,7 @@ level-linear p s t i e =
     (over-pos p s t (λ x y. if eqb (level p x y) i then 1 else 0)))
 
 -- so the cumulative weight is linear in the levels' guide sums and counts
-module _ (p : Frame) (s t : ℕ) (two : p .set .kind ≡ 2) where
+module _ {p : Frame} {s t : ℕ} (k : Pixel p s t) (two : p .set .kind ≡ 2) where
   abbrev sums : ℕ → ℕ
   sums = levelSum p s t (guide p)
 
@@ -134,9 +118,9 @@ module _ (p : Frame) (s t : ℕ) (two : p .set .kind ≡ 2) where
   cumulative-linear zero =
       let g : sums 0 ≡ sum sums 0 1 = omega (arith, sum-suc sums 0, sum-none sums) in
       let f : counts 0 ≡ sum counts 0 1 = omega (arith, sum-suc counts 0, sum-none counts) in
-      cumulative-zero p s t ∙ level-linear p s t 0 two ∙ ap₂ (λ (x y : ℕ). slope p s t *ℤ pos x +ℤ offset p s t *ℤ pos y) g f
+      cumulative-zero p s t ∙ level-linear k 0 two ∙ ap₂ (λ (x y : ℕ). slope p s t *ℤ pos x +ℤ offset p s t *ℤ pos y) g f
   cumulative-linear (suc i) =
-      cumulative-next p s t i ∙ ap₂ _+ℤ_ (cumulative-linear i) (level-linear p s t (suc i) two)
+      cumulative-next p s t i ∙ ap₂ _+ℤ_ (cumulative-linear i) (level-linear k (suc i) two)
       ∙ solve6 (λ c d g f x y. (c ⊗ g ⊕ d ⊗ f) ⊕ (c ⊗ x ⊕ d ⊗ y) ≐ c ⊗ (g ⊕ x) ⊕ d ⊗ (f ⊕ y)) refl (slope p s t) (offset p s t)
       (pos (sum sums 0 (suc i))) (pos (sum counts 0 (suc i))) (pos (sums (suc i))) (pos (counts (suc i)))
       ∙ sym (ap₂ (λ (x y : ℕ). slope p s t *ℤ pos x +ℤ offset p s t *ℤ pos y) (sum-suc sums (suc i)) (sum-suc counts (suc i)))

@@ -9,6 +9,7 @@ pub mod Outcomes
 pub mod Sums
 pub mod Limits
 pub mod Plans
+pub mod Own
 pub mod Levels
 pub mod Totals
 pub mod Monotone

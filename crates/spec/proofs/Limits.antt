@@ -100,6 +100,11 @@ pub built-in-low : (f g : ℕ) → builtIn f g ≤ heaviest
 unfolding builtIn
 built-in-low f g = div-le-of-le-mul (16 + distance f g) (omega arith)
 
+-- a guide weighs 256 for itself
+pub built-in-pos : (f : ℕ) → 0 < builtIn f f
+unfolding builtIn
+built-in-pos f = let e : distance f f ≡ 0 = omega arith in rw e (omega arith)
+
 pub be16-low : (b : List ℕ) → AllBytes b → (at : ℕ) → be16 b at ≤ heaviest
 unfolding be16
 be16-low b bytes at = omega (arith, bytes at, bytes (at + 1))

@@ -19,14 +19,19 @@ use Rattle.spec.specs.declared.Settings.{Settings}
 use Rattle.spec.specs.Frame.{Frame, level, guide}
 use Rattle.spec.specs.Window.{pixelCount, inCell, count, InWindow}
 use Rattle.spec.specs.Weight.{weight, monotone, slope, offset}
-use Rattle.spec.specs.Median.{totalWeight, cumulative, balance, median, NoneNegative}
+use Rattle.spec.specs.Median.{totalWeight, cumulative, balance, median}
 use Rattle.spec.proofs.Ranges.{intSums}
 use Rattle.spec.proofs.Sums.{over-inWindow, over-add, over-scale, over-pos, over-nonneg, over-constantℤ}
 use Rattle.spec.proofs.Checks.{both}
 use Rattle.spec.specs.Checks.{SettingsLimits}
 use Rattle.spec.proofs.Limits.{FrameLimits, Pixel}
-use Rattle.spec.proofs.Levels.{levelWeight, cumulative-next, weight-table, weight-linear, cell}
+use Rattle.spec.proofs.Own.{weight-table, weight-linear}
+use Rattle.spec.proofs.Levels.{levelWeight, cumulative-next, cell}
 use Rattle.spec.proofs.Totals.{nonNeg-le, median-at, median-before, median-is}
+
+-- no pixel of the window is counted with a weight below 0
+abbrev pub CountsNonNegative : Frame → ℕ → ℕ → Type 0
+CountsNonNegative p s t = (x y : ℕ) → InWindow p s t x y → pos 0 ≤ℤ weight p s t (guide p x y)
 
 -- ---- steady
 -- between two places where it is not negative, what is linear is not negative
@@ -52,13 +57,13 @@ monotone-weight {p} {s} {t} k e g h = go (k .good .sound .kinds)
         let q = both (nonNeg (weight p s t 0)) (nonNeg (weight p s t (p .set .guides - 1))) f in
         let low = k .good .sound .guides-low in
         let m : p .set .guides - 1 ≡ (p .set .guides - 1 - g) + g = omega arith in
-        subst (λ (z : ℤ). pos 0 ≤ℤ z) (sym (weight-linear p s t g two))
+        subst (λ (z : ℤ). pos 0 ≤ℤ z) (sym (weight-linear k g two))
         (between (slope p s t) (offset p s t) (p .set .guides - 1 - g) g (omega arith)
-        (subst (λ (z : ℤ). pos 0 ≤ℤ z) (weight-linear p s t 0 two) (nonNeg-le (weight p s t 0) (q .0)))
+        (subst (λ (z : ℤ). pos 0 ≤ℤ z) (weight-linear k 0 two) (nonNeg-le (weight p s t 0) (q .0)))
         (subst (λ (n : ℕ). pos 0 ≤ℤ (slope p s t *ℤ pos n +ℤ offset p s t)) m
-        (subst (λ (z : ℤ). pos 0 ≤ℤ z) (weight-linear p s t (p .set .guides - 1) two) (nonNeg-le (weight p s t (p .set .guides - 1)) (q .1)))))
+        (subst (λ (z : ℤ). pos 0 ≤ℤ z) (weight-linear k (p .set .guides - 1) two) (nonNeg-le (weight p s t (p .set .guides - 1)) (q .1)))))
 
-pub monotone-none : {p : Frame} {s t : ℕ} → Pixel p s t → monotone p s t ≡ true → NoneNegative p s t
+pub monotone-none : {p : Frame} {s t : ℕ} → Pixel p s t → monotone p s t ≡ true → CountsNonNegative p s t
 monotone-none {p} k e x y h = monotone-weight k e (guide p x y) (k .good .guide-low x y (h .wide) (h .high))
 
 -- ---- U and the balance from level to level
@@ -106,7 +111,7 @@ pub cell-beyond : {p : Frame} {s t : ℕ} → Pixel p s t → (c f : ℕ) → p 
 cell-beyond {p} {s} {t} k c f h = cell-none p s t c f (λ x y l e. omega (arith, k .good .guide-low x y (l .wide) (l .high)))
 
 -- ---- monotone
-module _ (p : Frame) (s t : ℕ) (light : NoneNegative p s t) where
+module _ (p : Frame) (s t : ℕ) (light : CountsNonNegative p s t) where
   pub level-weight-low : (i : ℕ) → pos 0 ≤ℤ levelWeight p s t i
   unfolding levelWeight
   level-weight-low i = over-nonneg p s t _ (λ x y h. go (eqb (level p x y) i) (weight p s t (guide p x y)) (light x y h))
@@ -143,7 +148,7 @@ median-down p s t c b = go (decLt c (median p s t))
     go (yes h) = clashℤ (median-before p s t c h) b
     go (no h) = omega arith
 
-pub median-up : {p : Frame} {s t : ℕ} → Pixel p s t → NoneNegative p s t → (c : ℕ) → balance p s t c <ℤ pos 0 → c < median p s t
+pub median-up : {p : Frame} {s t : ℕ} → Pixel p s t → CountsNonNegative p s t → (c : ℕ) → balance p s t c <ℤ pos 0 → c < median p s t
 median-up {p} {s} {t} k light c b = go (decLt c (median p s t))
   where
     go : Dec (c < median p s t) → c < median p s t
@@ -151,7 +156,7 @@ median-up {p} {s} {t} k light c b = go (decLt c (median p s t))
     go (no h) = clashℤ b (≤-trans (median-at k) (balance-mono p s t light (median p s t) c (omega arith)))
 
 -- for readers: the characterisation, both ways
-pub median-monotone : {p : Frame} {s t : ℕ} → Pixel p s t → NoneNegative p s t → (m : ℕ) → m < p .set .levels
+pub median-monotone : {p : Frame} {s t : ℕ} → Pixel p s t → CountsNonNegative p s t → (m : ℕ) → m < p .set .levels
     → (median p s t ≡ m) ↔ ((pos 0 ≤ℤ balance p s t m) × ((j : ℕ) → m ≡ suc j → balance p s t j <ℤ pos 0))
 median-monotone {p} {s} {t} k light m h = (
   (λ e. (subst (λ (n : ℕ). pos 0 ≤ℤ balance p s t n) e (median-at k), λ j d. median-before p s t j (omega arith))),

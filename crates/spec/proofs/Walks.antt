@@ -15,8 +15,8 @@ use Rattle.spec.specs.Base.{if_then_else_, fold, sum}
 use Rattle.spec.specs.declared.Settings.{Settings}
 use Rattle.spec.specs.declared.Way.{Way}
 use Rattle.spec.specs.declared.Way.the-variants.{Joint, Columns, Chain, Coarse}
-use Rattle.spec.specs.Frame.{Frame, level}
-use Rattle.spec.specs.Median.{weightless, median, answer}
+use Rattle.spec.specs.Frame.{Frame}
+use Rattle.spec.specs.Median.{median, answer}
 use Rattle.spec.specs.Weight.{monotone}
 use Rattle.spec.specs.Walk.{
   State,
@@ -42,7 +42,6 @@ use Rattle.spec.proofs.Steps.{after-one, length-answers, getD-answers}
 use Rattle.spec.specs.Checks.{SettingsLimits}
 use Rattle.spec.proofs.Limits.{FrameLimits, Pixel}
 use Rattle.spec.proofs.Totals.{median-low, answer-low}
-use Rattle.spec.proofs.Minimum.{answer-median, answer-weightless}
 
 -- ---- where a byte leads: inside the picture by one of the four moves, or nowhere, with 65,534 for these and 65,533 for another byte
 abbrev pub Fine : Settings → ℕ → Move → Type 0
@@ -85,7 +84,7 @@ pub arrive-row : (way : Way) (p : Frame) (s t c n : ℕ) → arrive way p s t c 
 unfolding arrive
 arrive-row way p s t c n = refl
 
-pub arrive-cut : (way : Way) (p : Frame) (s t c n : ℕ) → arrive way p s t c n .cut ≡ (if weightless p s t then c else median p s t)
+pub arrive-cut : (way : Way) (p : Frame) (s t c n : ℕ) → arrive way p s t c n .cut ≡ median p s t
 unfolding arrive
 arrive-cut way p s t c n = refl
 
@@ -96,26 +95,6 @@ arrive-shifts way p s t c n = refl
 pub arrive-answer : (way : Way) (p : Frame) (s t c n : ℕ) → arrive way p s t c n .answer ≡ answer p s t
 unfolding arrive
 arrive-answer way p s t c n = refl
-
--- by whether the window weighs anything
-pub arrive-weightless : (way : Way) (p : Frame) (s t c n : ℕ) → weightless p s t ≡ true
-    → arrive way p s t c n ≡ record { way = way; column = s; row = t; cut = c; shifts = n; answer = level p s t }
-unfolding arrive adds
-arrive-weightless way p s t c n e = rw (e, answer-weightless p s t e, add-zero n) refl
-
-pub arrive-full : (way : Way) (p : Frame) (s t c n : ℕ) → weightless p s t ≡ false
-    →
-    arrive way p s t c n ≡ record {
-      way = way;
-      column = s;
-      row = t;
-      cut = median p s t;
-      shifts =
-          n + (if monotone p s t then shiftsTo (byBlocks way) (median p s t) c else median p s t);
-      answer = median p s t;
-    }
-unfolding arrive adds
-arrive-full way p s t c n e = rw (e, answer-median p s t e) refl
 
 -- ---- one byte
 pub step-to : (p : Frame) (x : State) (b s t : ℕ) → move (p .set) (x .column) (x .row) b ≡ To s t
@@ -143,18 +122,8 @@ shift-low blocks false m c l h k z = omega arith
 
 adds-low : {p : Frame} {s t : ℕ} → Pixel p s t → (way : Way) (c : ℕ) → c < p .set .levels → adds way p s t c ≤ 1023
 unfolding adds
-adds-low {p} {s} {t} w way c h = go (weightless p s t)
-  where
-    go : (b : Bool) → (if b then 0 else if monotone p s t then shiftsTo (byBlocks way) (median p s t) c else median p s t) ≤ 1023
-    go true = omega arith
-    go false = shift-low (byBlocks way) (monotone p s t) (median p s t) c (p .set .levels) (median-low w) h (w .good .sound .levels-high)
-
-cut-low : {p : Frame} {s t : ℕ} → Pixel p s t → (c : ℕ) → c < p .set .levels → (if weightless p s t then c else median p s t) < p .set .levels
-cut-low {p} {s} {t} w c h = go (weightless p s t)
-  where
-    go : (b : Bool) → (if b then c else median p s t) < p .set .levels
-    go true = h
-    go false = median-low w
+adds-low {p} {s} {t} w way c h =
+    shift-low (byBlocks way) (monotone p s t) (median p s t) c (p .set .levels) (median-low w) h (w .good .sound .levels-high)
 
 pub bounded-arrive : {p : Frame} {s t : ℕ} → Pixel p s t → (way : Way) (c n k : ℕ) → c < p .set .levels → n ≤ k * 1023 →
     StateBounded p (arrive way p s t c n) (suc k)
@@ -164,7 +133,7 @@ bounded-arrive w way c n k hc hn =
       good = w .good;
       in-column = w .in-column;
       in-row = w .in-row;
-      cut-low = cut-low w c hc;
+      cut-low = median-low w;
       shifts-low = let q = adds-low w way c hc in omega (arith, q);
     }
 
@@ -363,7 +332,7 @@ same-arrive way way′ e p s t c n = record {
   column = refl;
   row = refl;
   cut = refl;
-  shifts = ap (λ (b : Bool). n + (if weightless p s t then 0 else if monotone p s t then shiftsTo b (median p s t) c else median p s t)) e;
+  shifts = ap (λ (b : Bool). n + (if monotone p s t then shiftsTo b (median p s t) c else median p s t)) e;
 }
 
 same-step : (p : Frame) (x y : State) → SameCount x y → (b : ℕ) → SameCount (step p x b) (step p y b)

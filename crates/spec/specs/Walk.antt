@@ -14,7 +14,7 @@ use Rattle.spec.specs.declared.Move.the-variants.{To, Nowhere}
 use Rattle.spec.specs.Base.{if_then_else_, distance}
 use Rattle.spec.specs.Frame.{Frame}
 use Rattle.spec.specs.Weight.{monotone}
-use Rattle.spec.specs.Median.{weightless, median, answer}
+use Rattle.spec.specs.Median.{median, answer}
 
 -- the number that an answer is lent as, for each case of the code's enum
 abbrev pub answerNumber : Answer → ℕ
@@ -43,23 +43,20 @@ byBlocks Coarse = true
 abbrev pub shiftsTo : Bool → ℕ → ℕ → ℕ
 shiftsTo blocks m c = if blocks then m / 16 + m % 16 else distance m c
 
--- the window at (s, t), with cut point c before it
+-- the window at (s, t), with cut point c before it; a hollow one is steady (`weightless-monotone` of proofs/Own)
 unfoldable pub adds : Way → Frame → ℕ → ℕ → ℕ → ℕ
-adds way p s t c =
-    if weightless p s t then 0
-    else if monotone p s t then shiftsTo (byBlocks way) (median p s t) c
-    else median p s t
+adds way p s t c = if monotone p s t then shiftsTo (byBlocks way) (median p s t) c else median p s t
 
 -- ---- the walk
 
--- at a new pixel, with cut point c and shift count n before it: what the window there answers and adds; one without weight keeps the cut point
+-- at a new pixel, with cut point c and shift count n before it: what the window there answers and adds; its median is the next cut point
 unfoldable pub arrive : Way → Frame → ℕ → ℕ → ℕ → ℕ → State
 arrive way p s t c n =
     record {
       way = way;
       column = s;
       row = t;
-      cut = if weightless p s t then c else median p s t;
+      cut = median p s t;
       shifts = n + adds way p s t c;
       answer = answer p s t;
     }

@@ -31,7 +31,7 @@ use Rattle.window.specs.Line.{columnLine}
 use Rattle.pixels.specs.Pixels.{countOf, levelIn, guideIn, pixelFoldTo, pixelFold, columnsFold, LinePixels}
 use Rattle.pixels.proofs.AdditiveLaws.{pixels-none, pixels-more, high-abs, columns-none, columns-more, columns-window}
 use Rattle.balance.specs.declared.formula.Formula.{Formula}
-use Rattle.balance.specs.Formula.{weightBy}
+use Rattle.balance.specs.Formula.{weightBy, Weighs}
 use Rattle.balance.specs.Balance.{PixelsWeighed, Weighed}
 use Rattle.balance.proofs.BalanceLaws.{pixels-weighed}
 use Rattle.summary.specs.Summary.{blockShare, LineBlocks, BlocksAdded, Cleared}
@@ -156,7 +156,7 @@ columns-start b z s t x g = record {
   rest = refl;
 }
 
-module _ {b : List ℕ} {z : Plan} {s t : ℕ} {ns : List ℕ} {w : Formula} (wd : Weighed b z s t ns w) where
+module _ {b : List ℕ} {z : Plan} {s t : ℕ} {ns : List ℕ} {w : Formula} (wd : Weighed b z s t ns w) (gives : Weighs (frameOf b) s t ns w) where
   abbrev count : ℕ
   count = blockCount (frameOf b .set)
 
@@ -169,7 +169,7 @@ module _ {b : List ℕ} {z : Plan} {s t : ℕ} {ns : List ℕ} {w : Formula} (wd
     unfolding pixelFoldTo blockShare
     list-adds j =
         fold-same _+ℤ_ (pos 0) intSums _ _ 0 _
-        (λ k l h. ap (λ (q : ℤ). if eqb (levelIn p k / 16) j then q else pos 0) (sym (wd .weighs .is (guideIn p k) (guide-in k (omega arith)))))
+        (λ k l h. ap (λ (q : ℤ). if eqb (levelIn p k / 16) j then q else pos 0) (sym (gives .is (guideIn p k) (guide-in k (omega arith)))))
       where
         guide-in : (k : ℕ) → k < countOf p → guideIn p k < frameOf b .set .guides
         guide-in k h = omega (arith, v .below .guide k h, facts (wd .planned) .guides)

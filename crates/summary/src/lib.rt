@@ -2,6 +2,7 @@
 use balance::add;
 use balance::formula;
 use balance::formula::Formula;
+use balance::ones_if_hollow;
 use balance::table_row;
 use pixels::sums;
 use spec::Guide;
@@ -20,6 +21,7 @@ ghost use Rattle.spec.specs.Frame.{frameOf};
 ghost use Rattle.spec.specs.Checks.{Planned};
 ghost use Rattle.spec.specs.Coarse as definitions;
 ghost use Rattle.pixels.specs.Pixels.{countOf};
+ghost use Rattle.balance.specs.Formula.{Weighs};
 ghost use Rattle.balance.specs.Balance.{PixelsWeighed, Weighed};
 ghost use Rattle.summary.specs.Summary.{LineBlocks, BlocksAdded, Cleared};
 
@@ -67,7 +69,7 @@ pub fn fill_by(
     t: usize,
     summary: &mut [i64],
 )
-    requires { ⌜ Weighed (now file) plan s t (now weights) formula ⌝ }
+    requires { ⌜ (Weighed (now file) plan s t (now weights) formula) × (Weighs (frameOf (now file)) s t (now weights) formula) ⌝ }
     requires { ⌜ definitions.blockCount (frameOf (now file) .set) ≤ length (now summary) ⌝ }
     ensures { λ _. ⌜ now (summary .exit) ≡ definitions.summary (frameOf (now (file .entry))) s t
         ++ drop (definitions.blockCount (frameOf (now (file .entry)) .set)) (now (summary .entry)) ⌝ }
@@ -85,7 +87,7 @@ pub fn fill_by(
     }
 }
 
-// Kind 1.
+// Kind 1. Each pixel of a hollow window weighs 1.
 pub fn fill_table(file: &[u8], plan: Plan, s: usize, t: usize, summary: &mut [i64])
     requires { ⌜ (Planned (now file) plan) × (plan .kind ≡ 1) × (s < plan .width) × (t < plan .height) ⌝ }
     requires { ⌜ definitions.blockCount (frameOf (now file) .set) ≤ length (now summary) ⌝ }
@@ -95,6 +97,7 @@ pub fn fill_table(file: &[u8], plan: Plan, s: usize, t: usize, summary: &mut [i6
     let centre = pixel::guide_at(file, plan, t * plan.width + s);
     let mut row = [0u16; 256];
     table_row(file, plan, centre, &mut row);
+    ones_if_hollow(file, plan, s, t, &mut row);
     let w = Formula {
         slope: 1,
         offset: 0,

@@ -12,12 +12,11 @@ use borrow.Author.Tests.{ne-eqb}
 use Rattle.ints.specs.Order.{0≤pos}
 use Rattle.ints.specs.Polynomial.{_⊕_, _⊗_, #_, _≐_, solve2}
 use Rattle.spec.specs.declared.Plan.{Plan}
-use Rattle.spec.specs.Frame.{Frame, guide, frameOf}
+use Rattle.spec.specs.Frame.{guide, frameOf}
 use Rattle.spec.specs.Checks.{Planned}
 use Rattle.spec.specs.Weight.{scaledVariance, monotone, variance, deviation, slope, offset}
 use Rattle.spec.proofs.Plans.{facts, pixel-of, smoothing-of}
-use Rattle.spec.proofs.Levels.{weight-linear}
-use Rattle.spec.proofs.Totals.{total-guided}
+use Rattle.spec.proofs.Own.{weight-linear, total-guided}
 use Rattle.spec.proofs.Bounds.{slope-abs, offset-abs, guided-abs, total-abs}
 use Rattle.window.specs.declared.sums.Sums.{Sums}
 use Rattle.window_weights.specs.declared.coefficients.Coefficients.{Coefficients}
@@ -44,15 +43,15 @@ module _ {b : List ℕ} {z : Plan} (pl : Planned b z) (two : z .kind ≡ 2) wher
   pub smoothing-high : z .smoothing ≤ 65025
   smoothing-high = let f = facts pl in le-trans (le-of-eq (f .smoothing)) (smoothing-of (f .limits) guided .1)
 
-  pub weighs : {s t g : ℕ} {a : Sums} {k : Coefficients} → SumsAt (frameOf b) s t a → g ≡ guide (frameOf b) s t →
+  pub weighs : {s t g : ℕ} {a : Sums} {k : Coefficients} → s < z .width → t < z .height → SumsAt (frameOf b) s t a → g ≡ guide (frameOf b) s t →
       CoefficientsOf a (z .smoothing) g k → WeighsAt (frameOf b) s t k
   unfolding slope offset deviation variance scaledVariance
-  weighs {s} {t} {g} {a} {k} v eg c =
+  weighs {s} {t} {g} {a} {k} hs ht v eg c =
       let f = facts pl in
       record {
         slope = c .slope ∙ rw (v .count, v .sum, eg) refl;
         offset = c .offset ∙ rw (v .count, v .sum, v .squares, eg, f .smoothing) refl;
-        total = c .total ∙ rw (v .count, v .sum, v .squares, f .smoothing) (sym (total-guided (frameOf b) s t guided));
+        total = c .total ∙ rw (v .count, v .sum, v .squares, f .smoothing) (sym (total-guided (pixel-of pl hs ht) guided));
       }
 
   module _ {s t : ℕ} {k : Coefficients} (w : WeighsAt (frameOf b) s t k) where
@@ -66,16 +65,15 @@ module _ {b : List ℕ} {z : Plan} (pl : Planned b z) (two : z .kind ≡ 2) wher
           total = subst (λ (n : ℤ). natAbs n ≤ 173129780571075) (sym (w .total)) (total-abs q 180155859075 (guided-abs q guided));
         }
 
-    pub ends-monotone : endsNotNegative k (z .guides) ≡ monotone (frameOf b) s t
+    pub ends-monotone : s < z .width → t < z .height → endsNotNegative k (z .guides) ≡ monotone (frameOf b) s t
     unfolding monotone endsNotNegative
-    ends-monotone =
-        let p : Frame = frameOf b in
+    ends-monotone hs ht =
+        let q = pixel-of pl hs ht in
         let f = facts pl in
         rw (
           ne-eqb (frameOf b .set .kind) 1 (λ d. omega (arith, guided)),
-          weight-linear (frameOf b) s t 0 guided,
-          weight-linear (frameOf b) s t
-              (frameOf b .set .guides - 1) guided,
+          weight-linear q 0 guided,
+          weight-linear q (frameOf b .set .guides - 1) guided,
           w .slope,
           w .offset,
           f .guides,

@@ -7,20 +7,19 @@ use lib.ListN.{take, drop}
 use lib.IntN.{pos, natAbs, _+ℤ_}
 use mir.Syntax.{w64}
 use mir.Val.{toZ}
-use Rattle.spec.specs.Frame.{frameOf}
 use Rattle.window.proofs.PixelLaws.{plan-limits}
 use Rattle.window.proofs.LineLaws.{column-in, span-in, span-high}
 use Rattle.pixels.specs.Pixels.{columnsFold, LinePixels}
 use Rattle.pixels.proofs.Laws.{line-part}
 use Rattle.pixels.proofs.AdditiveLaws.{columns-none}
-use Rattle.balance.specs.Balance.{signedWeight}
-use Rattle.balance.proofs.BalanceLaws.{pixels-weighed, column-asks, column-again, columns-balance}
+use Rattle.balance.specs.Balance.{signedBy}
+use Rattle.balance.proofs.BalanceLaws.{pixels-weighed, column-asks, column-again, columns-by}
 use Rattle.balance.proofs.window_balance.Statement.{statement}
 use Rattle.balance.proofs.window_balance.Tie as tie
 
 abbrev Inv-loop : tie.InvT-loop
 Inv-loop file plan weights w s t top x n sum₀ k₀ sum k =
-    (k ≤ n) × (toZ w64 sum ≡ columnsFold _+ℤ_ (pos 0) file plan x t (signedWeight (frameOf file) s t (top .0)) k) ×
+    (k ≤ n) × (toZ w64 sum ≡ columnsFold _+ℤ_ (pos 0) file plan x t (signedBy weights w (top .0)) k) ×
     (natAbs (toZ w64 sum) ≤ k * 5584831631325)
 
 abbrev μ-loop : tie.MeasureT-loop
@@ -81,7 +80,7 @@ loop-holds c =
       omega arith,
       sym
           (columns-none _+ℤ_ (pos 0) (at .args .file .now) (at .args .plan) (c .before .low .result) (at .args .t)
-          (signedWeight (frameOf (at .args .file .now)) (at .args .s) (at .args .t) (at .args .top .0))),
+          (signedBy (at .args .weights .now) (at .args .formula) (at .args .top .0))),
       omega arith,
     )
 
@@ -144,7 +143,7 @@ returns c =
     let h = c .before in
     let at = start h in
     let done : h .loop .k ≡ h .before .span-of .result = omega (arith, h .loop .inv .0, c .loop-test .left) in
-    h .loop .inv .1 ∙ columns-balance (at .pre) (at .args .top .0) (h .before .before .low .ensures) (done ∙ h .before .span-of .ensures)
+    h .loop .inv .1 ∙ columns-by (at .pre) (at .args .top .0) (h .before .before .low .ensures) (done ∙ h .before .span-of .ensures)
 
 pub window-balance-spec : {M : Type 1} → statement M
 window-balance-spec =

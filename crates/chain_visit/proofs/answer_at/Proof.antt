@@ -80,7 +80,7 @@ returns c =
       answers pl s t two _ _ (c .answered .result) (r .climb .result .0) _ (m .monotone .result) (column-is c) (row-is c) (cut-is c) (answer-is c)
           (shifts-are c)
           (climbed pl s t two _ (k .of-window .ensures .0) _ _ (at .pre .1 .1 .1) _ (r .climb .ensures))
-          (m .monotone .ensures ∙ ends-monotone pl two (k .of-window .ensures .0)) (d .added .ensures .0),
+          (m .monotone .ensures ∙ ends-monotone pl two (k .of-window .ensures .0) s t) (d .added .ensures .0),
       ap (λ (v : Visit). v .running) (c .answered .ensures),
     )
 

@@ -99,7 +99,7 @@ move-to-requires c κs =
     let k = at .pre .0 .0 in
     let g = at .pre .1 .1 in (
       searchable k,
-      (g .0, omega (arith, g .0, answer-low (k .planned) (k .column) (k .row) (at .pre .0 .1) (says r)), g .2 ∙ box-of k (at .args .cut .0) (g .0)),
+      (g .0, omega (arith, g .0, answer-low (k .planned) (k .column) (k .row) (says r)), g .2 ∙ box-of k (at .args .cut .0) (g .0)),
     )
 
 answered-requires : tie.Need-answered-requires
@@ -118,7 +118,7 @@ returns c =
       state =
           state-is Joint (frameOf (at .args .file .now)) (at .args .s) (at .args .t) (at .args .cut .0) (at .args .shifts) (f .level) (f .shifts)
           (f .level) (record { sums = at .args .a; below = f .tally; free = record { head = 0; count = 0 } }) (h .cut) (h .shifts) (h .answer);
-      box = box-at k (m .move-to .ensures) (omega arith) (answer-low (k .planned) (k .column) (k .row) (at .pre .0 .1) h);
+      box = box-at k (m .move-to .ensures) (omega arith) (answer-low (k .planned) (k .column) (k .row) h);
       guided = record { sums = at .pre .1 .0 .0; below = h .below; histogram = at .pre .0 .2 };
     })
 

@@ -6,9 +6,10 @@ use Prim.Native.Nat.{ℕ, _+_, _-_, _≤_}
 use lib.ListN.{take, drop, length-replicate}
 use Rattle.spec.specs.Frame.{frameOf}
 use Rattle.window.proofs.PixelLaws.{place-small}
-use Rattle.joint_search.specs.Window.{RowWeighs}
+use Rattle.joint_search.specs.Window.{RowOwn, RowWeighs}
 use Rattle.joint_search.proofs.WindowLaws.{searchable, row-fits, box-of}
-use Rattle.joint_rows.proofs.RowLaws.{centre-place, centre-low, centre-small, mirror-weighs, row-weighs}
+use Rattle.joint_rows.proofs.RowLaws.{centre-place, centre-low, centre-small, mirror-weighs, row-weighs-own}
+use Rattle.joint_answer.proofs.AnswerLaws.{counted-weighs}
 use Rattle.joint_table.proofs.ArriveLaws.{arrives-of}
 use Rattle.joint_table.proofs.arrive.Statement.{statement}
 use Rattle.joint_table.proofs.arrive.Tie as tie
@@ -45,17 +46,17 @@ sub-from c = omega (arith, small (read c))
 add-end : tie.Need-add-end
 add-end c = search needs
 
-mul-arrive : tie.Need-mul-arrive
-mul-arrive c = search needs
+mul-by-row : tie.Need-mul-by-row
+mul-by-row c = search needs
 
-sub-arrive : tie.Need-sub-arrive
-sub-arrive c = search needs
+sub-by-row : tie.Need-sub-by-row
+sub-by-row c = search needs
 
-part-arrive-start : tie.Need-part-arrive-start
-part-arrive-start c = search needs
+part-by-row-start : tie.Need-part-by-row-start
+part-by-row-start c = search needs
 
-part-arrive-end : tie.Need-part-arrive-end
-part-arrive-end c =
+part-by-row-end : tie.Need-part-by-row-end
+part-by-row-end c =
     let g = read c in
     omega (arith, small g, start g .pre .0 .1 .mirror (c .before .if1 .taken) .long)
 
@@ -69,8 +70,8 @@ built c e =
     mirror-weighs (k .planned) (k .column) (k .row) (g .guide-at .ensures) (at .pre .0 .2) (c .before .if1 .taken)
     (at .pre .0 .1 .mirror (c .before .if1 .taken)) refl e
 
-arrive-requires : tie.Need-arrive-requires
-arrive-requires c κs =
+by-row-requires : tie.Need-by-row-requires
+by-row-requires c κs =
     let d = c .before .before in
     let at = start (read d) in
     let k = at .pre .0 .0 in
@@ -81,7 +82,7 @@ returns : tie.Need-returns
 returns c =
     let d = c .before .before .before in
     let at = start (read d) in
-    arrives-of (at .pre .0 .0) (built d (omega arith)) (at .pre .0 .2) (at .args .way) (at .pre .1 .0) (c .arrive .ensures .0) (c .arrive .ensures .1)
+    arrives-of (at .pre .0 .0) (built d (omega arith)) (at .pre .0 .2) (at .args .way) (c .by-row .ensures)
 
 -- the file's own
 own-row-requires : tie.Need-own-row-requires
@@ -94,19 +95,16 @@ own-row-requires c κs =
       length-replicate {A = ℕ} 256 0,
     )
 
-slice-aggregate-arrive : tie.Need-slice-aggregate-arrive
-slice-aggregate-arrive c = search needs
-
 own : (o : tie.After-own-row) → let at = start (o .before .before .before .before) in
-    RowWeighs (frameOf (at .args .file .now)) (at .args .s) (at .args .t) (o .own-row .last .1 .1 .1 .0)
+    RowOwn (frameOf (at .args .file .now)) (at .args .s) (at .args .t) (o .own-row .last .1 .1 .1 .0)
 own o =
     let g = o .before .before .before .before in
     let at = start g in
     let k = at .pre .0 .0 in
-    row-weighs (k .planned) (k .column) (k .row) (g .guide-at .ensures) (at .pre .0 .2) (o .own-row .ensures)
+    row-weighs-own (k .planned) (k .column) (k .row) (g .guide-at .ensures) (at .pre .0 .2) (o .own-row .ensures)
 
-arrive-requires-2 : tie.Need-arrive-requires-2
-arrive-requires-2 c κs =
+by-own-requires : tie.Need-by-own-requires
+by-own-requires c κs =
     let o = c .before .before in
     let at = start (o .before .before .before .before) in
     let k = at .pre .0 .0 in
@@ -117,7 +115,8 @@ returns-2 : tie.Need-returns-2
 returns-2 c =
     let o = c .before .before .before in
     let at = start (o .before .before .before .before) in
-    arrives-of (at .pre .0 .0) (own o) (at .pre .0 .2) (at .args .way) (at .pre .1 .0) (c .arrive2 .ensures .0) (c .arrive2 .ensures .1)
+    let k = at .pre .0 .0 in
+    arrives-of k (counted-weighs k (own o)) (at .pre .0 .2) (at .args .way) (c .by-own .ensures .0)
 
 pub arrive-spec : {M : Type 1} → statement M
 arrive-spec =
@@ -129,13 +128,12 @@ arrive-spec =
     cast-from
     sub-from
     add-end
-    mul-arrive
-    sub-arrive
-    part-arrive-start
-    part-arrive-end
-    arrive-requires
+    mul-by-row
+    sub-by-row
+    part-by-row-start
+    part-by-row-end
+    by-row-requires
     returns
     own-row-requires
-    slice-aggregate-arrive
-    arrive-requires-2
+    by-own-requires
     returns-2)

@@ -38,7 +38,7 @@ count at = blockCount (frameOf (at .args .file .now) .set)
 
 -- the plan's levels are the frame's, so as many numbers are cleared as there are blocks
 cleared : (e : tie.After-clear Inv-loop μ-loop) → Cleared (count (origin e)) (count (origin e)) (origin e .args .summary .now) (e .clear .last .0)
-cleared e = cleared-count (e .clear .ensures) (omega (arith, facts (origin e .pre .0 .planned) .levels))
+cleared e = cleared-count (e .clear .ensures) (omega (arith, facts (origin e .pre .0 .0 .planned) .levels))
 
 room : (h : tie.At-loop Inv-loop μ-loop) → count (start h) ≤ length (zeros h .clear .last .0)
 room h = omega (arith, cleared (zeros h) .long, start h .pre .1)
@@ -63,7 +63,7 @@ few c =
       arith,
       c .loop-test .taken,
       span-high (at .args .plan .radius) (at .args .s) (at .args .plan .width)
-          (plan-limits (at .pre .0 .planned) .radius),
+          (plan-limits (at .pre .0 .0 .planned) .radius),
       h .before .span-of .ensures,
     )
 
@@ -86,17 +86,17 @@ sub-clear : tie.Need-sub-clear Inv-loop μ-loop
 sub-clear c = omega arith
 
 add-clear : tie.Need-add-clear Inv-loop μ-loop
-add-clear c = let at = c .before .before .before .before in omega (arith, levels-high (at .pre .0 .planned))
+add-clear c = let at = c .before .before .before .before in omega (arith, levels-high (at .pre .0 .0 .planned))
 
 clear-requires : tie.Need-clear-requires Inv-loop μ-loop
-clear-requires c κs = let at = c .before .before .before .before in omega (arith, facts (at .pre .0 .planned) .levels, at .pre .1)
+clear-requires c κs = let at = c .before .before .before .before in omega (arith, facts (at .pre .0 .0 .planned) .levels, at .pre .1)
 
 low-requires : tie.Need-low-requires Inv-loop μ-loop
 low-requires c κs = tt
 
 span-of-requires : tie.Need-span-of-requires Inv-loop μ-loop
 span-of-requires c κs = let at =
-    origin (c .before .before) in (at .pre .0 .column, plan-limits (at .pre .0 .planned) .width, plan-limits (at .pre .0 .planned) .radius)
+    origin (c .before .before) in (at .pre .0 .0 .column, plan-limits (at .pre .0 .0 .planned) .width, plan-limits (at .pre .0 .0 .planned) .radius)
 
 loop-holds : tie.Need-loop-holds Inv-loop μ-loop
 loop-holds c =
@@ -105,11 +105,11 @@ loop-holds c =
     (omega arith, columns-start (at .args .file .now) (at .args .plan) (at .args .s) (at .args .t) (c .before .low .result) (cleared e))
 
 add-column-line : tie.Need-add-column-line Inv-loop μ-loop
-add-column-line c = let at = start (c .before) in omega (arith, wide c, plan-limits (at .pre .0 .planned) .width)
+add-column-line c = let at = start (c .before) in omega (arith, wide c, plan-limits (at .pre .0 .0 .planned) .width)
 
 column-line-requires : tie.Need-column-line-requires Inv-loop μ-loop
 column-line-requires c κs = let at = start (c .before) in let l =
-    plan-limits (at .pre .0 .planned) in (l, (omega (arith, wide c, l .width), at .pre .0 .row))
+    plan-limits (at .pre .0 .0 .planned) in (l, (omega (arith, wide c, l .width), at .pre .0 .0 .row))
 
 slice-aggregate-read : tie.Need-slice-aggregate-read Inv-loop μ-loop
 slice-aggregate-read c = search needs
@@ -117,7 +117,7 @@ slice-aggregate-read c = search needs
 read-requires : tie.Need-read-requires Inv-loop μ-loop
 read-requires c κs =
     let at = start (c .before .before .before) in
-    let pl = at .pre .0 .planned in
+    let pl = at .pre .0 .0 .planned in
     (pl, rw (c .before .column-line .ensures) (column-in (plan-limits pl) _ (at .args .t) (wide (c .before .before))), omega arith)
 
 sub-add-pixels : tie.Need-sub-add-pixels Inv-loop μ-loop
@@ -133,7 +133,7 @@ add-pixels-requires : tie.Need-add-pixels-requires Inv-loop μ-loop
 add-pixels-requires c κs =
     let r = c .before .before .before .before in
     let h = turn r .before in
-    list-asks (start h .pre .0) (listed r) (h .loop .inv .1) (room h) (few (turn r))
+    list-asks (start h .pre .0 .0) (start h .pre .0 .1) (listed r) (h .loop .inv .1) (room h) (few (turn r))
 
 add-k : tie.Need-add-k Inv-loop μ-loop
 add-k c = omega (arith, few (turn (list (c .before))))
@@ -147,7 +147,7 @@ loop-again c =
     let r = list e in
     let h = turn r .before in (
       omega (arith, turn r .loop-test .taken),
-      columns-next (start h .pre .0) (listed r) (h .loop .inv .1) (line r .column-line .ensures) (e .add-pixels .ensures),
+      columns-next (start h .pre .0 .0) (start h .pre .0 .1) (listed r) (h .loop .inv .1) (line r .column-line .ensures) (e .add-pixels .ensures),
     )
 
 same-length : tie.Need-same-length Inv-loop μ-loop
@@ -158,7 +158,7 @@ returns c =
     let h = c .before in
     let at = start h in
     let done : h .loop .k ≡ h .before .span-of .result = omega (arith, h .loop .inv .0, c .loop-test .left) in
-    columns-all (at .pre .0) (at .pre .1) (cleared (zeros h)) (h .before .before .low .ensures) (done ∙ h .before .span-of .ensures)
+    columns-all (at .pre .0 .0) (at .pre .0 .1) (at .pre .1) (cleared (zeros h)) (h .before .before .low .ensures) (done ∙ h .before .span-of .ensures)
     (h .loop .inv .1)
 
 pub fill-by-spec : {M : Type 1} → statement M

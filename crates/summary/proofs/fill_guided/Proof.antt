@@ -31,16 +31,10 @@ fill-by-requires c κs =
     let k = r .before .before in
     let at = start k in
     let a = at .pre .0 in
-    let known = k .of-window .ensures in (
-      record {
-        planned = a .0;
-        column = a .2;
-        row = a .3;
-        weighs = ramp-weighs (a .0) (a .1) (a .2) (a .3) (r .ramp .ensures) (known .0) (known .1)
-            (read-bounded w64 235497855 (known .1 .slope) tt) (read-bounded w64 180155859075 (known .1 .offset) tt);
-      },
-      at .pre .1,
-    )
+    let known = k .of-window .ensures in
+    let weighs = ramp-weighs (a .0) (a .1) (a .2) (a .3) (r .ramp .ensures) (known .0) (known .1)
+    (read-bounded w64 235497855 (known .1 .slope) tt) (read-bounded w64 180155859075 (known .1 .offset) tt) in
+    ((record { planned = a .0; column = a .2; row = a .3; fits = weighs .fits }, weighs), at .pre .1)
 
 same-length : tie.Need-same-length
 same-length c = search needs

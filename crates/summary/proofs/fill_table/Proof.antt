@@ -1,10 +1,10 @@
--- `fill_table` meets its contract. Assumes nothing.
+-- `fill_table` meets its contract: the own weights, or ones, are those that the window is counted with. Assumes nothing.
 use borrow.Author.Needs.{needs}
 use native.Mathlib.Omega.{arith}
 use Prim.Native.Nat.{ℕ}
 use lib.ListN.{length-replicate}
 use Rattle.window.proofs.PixelLaws.{place-small}
-use Rattle.joint_rows.proofs.RowLaws.{centre-place, centre-low, row-weighs}
+use Rattle.joint_rows.proofs.RowLaws.{centre-place, centre-low, row-weighs-own}
 use Rattle.balance.proofs.BalanceLaws.{row-formula}
 use Rattle.summary.proofs.fill_table.Statement.{statement}
 use Rattle.summary.proofs.fill_table.Tie as tie
@@ -23,22 +23,22 @@ table-row-requires c κs =
     let a = c .before .before .before .before .pre .0 in
     (a .0, centre-low (a .0) (a .2) (a .3) (c .before .guide-at .ensures), length-replicate {A = ℕ} 256 0)
 
+ones-if-hollow-requires : tie.Need-ones-if-hollow-requires
+ones-if-hollow-requires c κs =
+    let r = c .before in
+    let a = r .before .before .before .before .before .pre .0 in
+    (a, (row-weighs-own (a .0) (a .2) (a .3) (r .before .before .guide-at .ensures) (a .1) (r .table-row .ensures), r .table-row .ensures .long))
+
 slice-aggregate-fill-by : tie.Need-slice-aggregate-fill-by
 slice-aggregate-fill-by c = search needs
 
 fill-by-requires : tie.Need-fill-by-requires
 fill-by-requires c κs =
-    let r = c .before .before in
-    let at = r .before .before .before .before .before in
-    let a = at .pre .0 in (
-      record {
-        planned = a .0;
-        column = a .2;
-        row = a .3;
-        weighs = row-formula (row-weighs (a .0) (a .2) (a .3) (r .before .before .guide-at .ensures) (a .1) (r .table-row .ensures));
-      },
-      at .pre .1,
-    )
+    let h = c .before .before in
+    let at = h .before .before .before .before .before .before .before in
+    let a = at .pre .0 in
+    let weighs = row-formula (h .ones-if-hollow .ensures .1) in
+    ((record { planned = a .0; column = a .2; row = a .3; fits = weighs .fits }, weighs), at .pre .1)
 
 same-length : tie.Need-same-length
 same-length c = search needs
@@ -54,6 +54,7 @@ fill-table-spec =
     add-guide-at
     guide-at-requires
     table-row-requires
+    ones-if-hollow-requires
     slice-aggregate-fill-by
     fill-by-requires
     same-length
