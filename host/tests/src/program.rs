@@ -73,8 +73,7 @@ fn random_input(random: &mut Random) -> Vec<u8> {
     input
 }
 
-/// Whether the filter of an input that the program takes meets a hollow window: seldom asked, since only a table of
-/// the file's own leaves one.
+/// Whether the program's filter of an input meets a hollow window, which only a table of the file's own can leave.
 fn has_hollow(input: &[u8], text: &str) -> bool {
     let frame = open(input).ok().filter(|frame| !frame.table.is_empty() && !text.starts_with("refused"));
     frame.is_some_and(|frame| filter(&frame).1.hollow.contains(&true))

@@ -48,8 +48,8 @@ const SIZES: [(u16, u16); 6] = [(0, 9), (0, 256), (257, 16_384), (0, 65_535), (6
 /// their class, stripes wider and narrower than a window, or classes by chance, under rows of 0, no weight within a
 /// class, weights within the first class only, or weights here and there.
 pub fn random_classes(random: &mut Random, settings: &Settings) -> (Vec<u16>, Vec<u16>) {
-    let (pixels, width, most) = (settings.pixels(), usize::from(settings.width), settings.guides - 1);
-    let classes = [0, most, random.within(0, most), random.within(0, most)];
+    let (pixels, width, last) = (settings.pixels(), usize::from(settings.width), settings.guides - 1);
+    let classes = [0, last, random.within(0, last), random.within(0, last)];
     let guides = match random.below(3) {
         0 => fill(pixels, |_| if random.once_in(6) { random.pick(&classes) } else { 0 }),
         1 => {
@@ -60,11 +60,11 @@ pub fn random_classes(random: &mut Random, settings: &Settings) -> (Vec<u16>, Ve
     };
     let (least, most) = random.pick(&SIZES);
     let sort = random.below(4);
-    let empty: Vec<bool> = (0..settings.guides).map(|_| random.once_in(2)).collect();
+    let empty_rows: Vec<bool> = (0..settings.guides).map(|_| random.once_in(2)).collect();
     let table = fill(settings.table_weights(), |index| {
-        let (centre, other) = (index / empty.len(), index % empty.len());
+        let (centre, other) = (index / empty_rows.len(), index % empty_rows.len());
         let weighs = match sort {
-            0 => !empty[centre],
+            0 => !empty_rows[centre],
             1 => centre != other,
             2 => centre == 0 && other == 0,
             _ => random.once_in(3),
