@@ -81,7 +81,7 @@ static void count_windows(const Frame &frame) {
     for (int row = 0; row < frame.height; row++)
         for (int column = 0; column < frame.width; column++) {
             Answer answer = sorting.answer(column, row);
-            met.windows++, met.hollow += answer.hollow, met.unsteady += !answer.steady;
+            met.windows++, met.hollow += sorting.hollow, met.unsteady += !answer.steady;
             met.negative += std::any_of(sorting.pixels.begin(), sorting.pixels.end(), [](auto &p) { return p.weight < 0; });
             met.heavy += frame.kind == TABLE &&
                          std::any_of(sorting.pixels.begin(), sorting.pixels.end(), [](auto &p) { return p.weight > 32767; });

@@ -50,7 +50,7 @@ def row(values, guide, levels, guides, kind, radius, smoothing, table=()):
 
 
 def bench_cases():
-    """Document 01's bench windows A to H, walks over them from the other end, and three windows more."""
+    """Document 01's bench windows A to H, walks over them from the other end, and five windows more."""
     a = row([5, 1, 3], [0, 0, 2], 8, 4, GUIDED, 1, 1)
     b = row([1, 2, 5, 3, 4], [7, 7, 15, 7, 0], 8, 16, GUIDED, 2, 1)
     c = row([2, 6], [0, 0], 8, 2, TABLE, 1, 0, [1] * 4)
@@ -58,6 +58,9 @@ def bench_cases():
     e = row([5, 1, 3], [0, 0, 2], 8, 4, GUIDED, 0, 1)
     f = row([7, 4, 2, 0], [0, 1, 16, 255], 8, 256, TABLE, 3, 0)
     g = row([2], [0], 8, 2, TABLE, 1, 0, [1] * 4)
+    # Hollow in the middle only: under a row of 0, and a lamp alone in its guide class.
+    hollow = row([7, 2, 4], [0, 1, 0], 8, 2, TABLE, 1, 0, [1, 1, 0, 0])
+    lamp = row([2, 7, 4], [0, 1, 0], 8, 2, TABLE, 1, 0, [1, 0, 0, 0])
     rows = row([2, 6], [0, 1], 8, 2, TABLE, 1, 0, [1, 2, 0, 1])
     heavy = row([1, 5, 3], [0, 1, 0], 8, 2, TABLE, 1, 0, [65535, 257, 1, 65535])
     # One window's formula is negative at guide 0, another's at the last guide.
@@ -70,6 +73,14 @@ def bench_cases():
         ("bench_b_pixel_2", b, 2, 0, "-"),
         ("bench_c", c, 0, 0, "0"),
         ("bench_d", d, 0, 0, "0"),
+        ("bench_d_back", d, 1, 0, "1"),
+        ("hollow_row", hollow, 0, 0, "00"),
+        ("hollow_row_back", hollow, 2, 0, "11"),
+        ("hollow_row_end", hollow, 0, 0, "0"),
+        ("lamp", lamp, 0, 0, "00"),
+        ("lamp_back", lamp, 2, 0, "11"),
+        ("lamp_start", lamp, 1, 0, "01"),
+        ("lamp_only", lamp, 1, 0, "-"),
         ("bench_e", e, 0, 0, "00"),
         ("bench_f", f, 0, 0, "000"),
         ("bench_g", g, 0, 0, "0123"),
@@ -86,7 +97,7 @@ def shaped_cases():
     around = "2220001111333022"
     lonely = frame(4, 4, 16, 8, GUIDED, 1, 1, [15, 3, 9, 0, 8, 8, 1, 14, 2, 12, 7, 5, 6, 10, 11, 4],
                    [0, 0, 0, 0, 0, 7, 0, 0, 0, 0, 0, 7, 7, 0, 0, 0])
-    # Guide 1 as a centre weighs nothing: its windows are hollow and keep the cut.
+    # Under a centre of guide 1 nothing weighs: its windows are hollow, and each pixel counts 1.
     islands = frame(4, 3, 16, 3, TABLE, 1, 0, [9, 2, 15, 4, 1, 7, 12, 3, 8, 0, 5, 14],
                     [0, 1, 2, 0, 1, 1, 0, 2, 2, 0, 1, 0], [256, 1, 9, 0, 0, 0, 3, 128, 0])
     wide = [11, 4, 7, 0, 15, 2]
@@ -132,8 +143,9 @@ def block_cases():
     blocks = table_row([33, 2, 39, 17], [0, 1, 1, 0], 1, [1, 2, 0, 3])
     # B with its levels apart: the pixel of negative weight has a block of its own.
     apart = row([17, 34, 37, 35, 3], [7, 7, 15, 7, 0], 40, 16, GUIDED, 2, 1)
-    # A hollow window between two others.
+    # One hollow window between two others, and two, whose levels are in every block.
     between = table_row([20, 35, 31], [0, 1, 0], 0, [1, 0, 0, 0])
+    pair = table_row([20, 35, 3, 31], [0, 1, 1, 0], 1, [1, 0, 0, 0])
     # First and last levels of blocks, and empty blocks between them.
     ends = [15, 16, 31, 32, 0, 96, 79, 80]
     return [
@@ -144,6 +156,8 @@ def block_cases():
         ("blocks_apart_end", apart, 0, 0, "00"),
         ("block_hollow", between, 0, 0, "00"),
         ("block_hollow_end", between, 0, 0, "0"),
+        ("block_hollow_pair", pair, 0, 0, "000"),
+        ("block_hollow_pair_end", pair, 3, 0, "1"),
         ("block_ends_table", table_row(ends, [0, 1, 1, 0, 0, 1, 0, 1], 1, [3, 1, 2, 5], 97), 0, 0, "0000000"),
         ("block_ends_table_back", table_row(ends, [0, 1, 1, 0, 0, 1, 0, 1], 0, [3, 1, 2, 5], 97), 7, 0, "1111111"),
         ("block_ends_guided", row(ends, [0, 7, 3, 3, 0, 3, 3, 7], 97, 8, GUIDED, 1, 1), 0, 0, "0000000"),

@@ -50,9 +50,11 @@
  * 0.2: way, level and the settings of icemedian_write are 32 bits wide; a refused call leaves its results
  * as they were, and `offset` is written with 7 only.
  * 0.3: a weight may be any 16-bit number, 0 to 65,535; icemedian_check and icemedian_write refuse none.
- * 0.4: way 4, coarse; icemedian_filter and icemedian_walk take its summary, a store behind `numbers`. */
+ * 0.4: way 4, coarse; icemedian_filter and icemedian_walk take its summary, a store behind `numbers`.
+ * 0.5: no call takes other arguments, but a window in which no pixel weighs anything is answered as if each pixel
+ * weighed 1. Before, it gave the centre's level and balance 0, added nothing and left the cut point. */
 #define ICEMEDIAN_VERSION_MAJOR 0
-#define ICEMEDIAN_VERSION_MINOR 4
+#define ICEMEDIAN_VERSION_MINOR 5
 
 #ifdef __cplusplus
 #define ICEMEDIAN_SIZE(number) static_cast<size_t>(number)
@@ -63,11 +65,13 @@ extern "C" {
 
 /* Ways of counting: all give the same answers. Ways 1 to 3 give the same shift count too. Way 4, made for
  * many levels, counts by a rule of its own: a window with answer m adds m / 16 (rounded down) plus m mod 16,
- * but m where kind 2's weight formula is negative for guide 0 or for the last guide, and 0 where the
- * window's weights sum to 0. */
+ * but m where kind 2's weight formula is negative for guide 0 or for the last guide. */
 enum { ICEMEDIAN_JOINT = 1, ICEMEDIAN_COLUMNS = 2, ICEMEDIAN_CHAIN = 3, ICEMEDIAN_COARSE = 4 };
 
-/* Kinds of weights: from a table (or built in), or from the guide by equation 22 of source 000. */
+/* Kinds of weights: from a table (or built in), or from the guide by equation 22 of source 000. A table of the
+ * file's own may leave a window in which no pixel weighs anything. Every call treats it as if each of its pixels
+ * weighed 1: its answer is then their plain median (the lower one of two), and its balance and way 4's summary
+ * count pixels. */
 enum { ICEMEDIAN_TABLE = 1, ICEMEDIAN_GUIDED = 2 };
 
 /* Move bytes, and the answers to a byte that moves nothing. */
@@ -133,7 +137,8 @@ uint32_t icemedian_walk(const uint8_t *file, size_t file_length, uint32_t way,
                         uint16_t *answers, size_t answers_length,
                         uint64_t *shifts, uint16_t *cut, int16_t *balance_box, uint64_t *offset);
 
-/* The balance 2U(level) - T of the window at a pixel: checks 1 to 7 and 9. */
+/* The balance 2U(level) - T of the window at a pixel, T being its weight sum and U(level) that of its pixels of
+ * level at most `level`: checks 1 to 7 and 9. */
 uint32_t icemedian_balance(const uint8_t *file, size_t file_length,
                            size_t column, size_t row, uint32_t level,
                            int64_t *balance, uint64_t *offset);

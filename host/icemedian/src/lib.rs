@@ -95,7 +95,19 @@ pub fn check(file: &[u8]) -> Result<Settings, Refusal> {
     Ok(Settings::of_trailer(file))
 }
 
-/// Filters a frame, making the buffers that the call needs.
+/// Filters a frame, making the buffers that the call needs. A window in which no pixel weighs anything is answered as
+/// if each pixel weighed 1, here and in every call:
+///
+/// ```
+/// use icemedian::{balance, filter, write, Settings, Way, Weights};
+///
+/// // A lamp's reflection, level 7, alone in its guide class, for which the table has no weight.
+/// let settings = Settings { width: 3, height: 1, levels: 8, guides: 2, weights: Weights::Table, radius: 1 };
+/// let file = write(&settings, &[2, 7, 4], &[0, 1, 0], &[1, 0, 0, 0])?;
+/// assert_eq!(filter(&file, Way::Joint)?.levels, [2, 4, 4]);
+/// assert_eq!(balance(&file, (1, 0), 4), Ok(2 * 2 - 3));
+/// # Ok::<(), icemedian::Refusal>(())
+/// ```
 pub fn filter(file: &[u8], way: Way) -> Result<Filtered, Refusal> {
     let settings = check(file)?;
     let mut stores = Stores::fitting(way, &settings)?;

@@ -7,7 +7,8 @@ use crate::{write_into, Refusal};
 #[derive(Clone, Copy, Debug, PartialEq, Eq)]
 pub enum Weights {
     /// Kind 1: by a table of the two pixels' guides, whose weights may be any 16-bit numbers, or by the built-in
-    /// weights.
+    /// weights. A window in which no pixel weighs anything, which only a table of the file's own can leave, is
+    /// answered and balanced as if each pixel weighed 1.
     Table,
     /// Kind 2: by equation 22 of source 000, with smoothing 1 to 65,025 added to the guide's variance.
     Guided { smoothing: u16 },
@@ -136,7 +137,7 @@ pub enum Way {
     Chain = 3,
     /// The joint histogram searched by blocks of 16 levels, for many levels; serves both kinds. A window with
     /// answer m adds m / 16 (rounded down) plus m mod 16 to the shift count, but m where the weight formula is
-    /// negative for guide 0 or for the last guide, and 0 where the window's weights sum to 0.
+    /// negative for guide 0 or for the last guide.
     Coarse = 4,
 }
 

@@ -12,7 +12,8 @@ pub struct Stores {
     pub words: Vec<u64>,
     /// Ways 2 and 3.
     pub numbers: Vec<u32>,
-    /// Way 4: the sum of weights of each block of 16 levels, of which the last may be short.
+    /// Way 4: the sum of weights of each block of 16 levels, of which the last may be short. Where no pixel of the
+    /// window weighs anything, each counts 1.
     pub summary: Vec<i64>,
 }
 

@@ -69,9 +69,10 @@ fn walks_of_chosen_rows() {
     // B with its levels apart: the pixel of negative weight has a block of its own.
     let apart = row(40, 16, GUIDED, 2, &[17, 34, 37, 35, 3], &[7, 7, 15, 7, 0], &[]);
     assert_eq!(walked(&apart, 0, &[0, 0]), (vec![34, 34, 37], 45, vec![-815, 550, 3210]));
-    // A hollow window between two others.
+    // A hollow window between two others, and a walk that ends in it.
     let between = row(40, 2, Weights::Table, 0, &[20, 35, 31], &[0, 1, 0], &[1, 0, 0, 0]);
-    assert_eq!(walked(&between, 0, &[0, 0]), (vec![20, 35, 31], 21, vec![0, 1, 0]));
+    assert_eq!(walked(&between, 0, &[0, 0]), (vec![20, 35, 31], 26, vec![0, 1, 0]));
+    assert_eq!(walked(&between, 0, &[0]), (vec![20, 35], 10, vec![0, 0, 1]));
 }
 
 #[test]

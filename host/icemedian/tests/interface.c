@@ -1,6 +1,6 @@
 /* What the header promises a C program: NULL where a length is 0, numbers that are too wide refused and not
  * cut down, results left alone by refusals, what is read may overlap, a weight may be any number, way 4's
- * count and summary, and the macros. It prints each promise that is not kept. */
+ * count and summary, a window in which nothing weighs, and the macros. It prints each promise that is not kept. */
 #include "icemedian.h"
 #include <stdio.h>
 #include <string.h>
@@ -158,6 +158,32 @@ static void test_coarse(void) {
     expect_status("filter by way 5", filter(FILE_BYTES, 5, COUNTS, WORDS, NUMBERS, BLOCKS, PIXELS), 8);
 }
 
+/* A lamp, level 7, alone in its guide class: nothing weighs in its window, which is answered as if each pixel
+ * weighed 1. */
+static void test_lamp(void) {
+    static const uint16_t value[PIXELS] = {2, 7, 4}, picture[PIXELS] = {0, 1, 0}, table[4] = {1, 0, 0, 0};
+    uint8_t output[ICEMEDIAN_FILE_LENGTH(W, H, 4)];
+    uint32_t status = icemedian_write(W, H, LEVELS, 2, ICEMEDIAN_TABLE, RADIUS, 0, value, PIXELS, picture, PIXELS, table,
+                                      4, output, sizeof output, &result.length, &result.offset);
+    expect_status("write, a lamp", status, 0);
+    status = icemedian_filter(output, sizeof output, ICEMEDIAN_JOINT, counts, COUNTS, words, WORDS, NULL, 0, NULL,
+                              0, levels, PIXELS, &result.shifts, &result.offset);
+    expect("its shifts are 4", result.shifts == 4, 1);
+    expect_status("filter of a lamp", status, 0);
+    expect("its first level", levels[0], 2);
+    expect("the lamp's level", levels[1], 4);
+    expect("its third level", levels[2], 4);
+    status = icemedian_balance(output, sizeof output, 1, 0, 2, &result.balance, &result.offset);
+    expect("the lamp's balance is -1", result.balance == -1, 1);
+    expect_status("balance of a lamp", status, 0);
+    status = icemedian_walk(output, sizeof output, ICEMEDIAN_COARSE, 1, 0, NULL, 0, counts, COUNTS, words, WORDS, NULL, 0,
+                            summary, BLOCKS, levels, 1, &result.shifts, &result.cut, result.box, &result.offset);
+    expect("its shifts by way 4 are 4", result.shifts == 4, 1);
+    expect("its cut by way 4", result.cut, 4);
+    expect("its summary is 3", summary[0] == 3, 1);
+    expect_status("walk to a lamp by way 4", status, 0);
+}
+
 static void test_wide(void) {
     expect_status("filter, way 257", filter(FILE_BYTES, 257, COUNTS, WORDS, NUMBERS, BLOCKS, PIXELS), 8);
     expect_status("walk, way 257", walk(FILE_BYTES, 257, 2, COUNTS, WORDS, NUMBERS, BLOCKS, 3), 8);
@@ -175,7 +201,7 @@ static void test_wide(void) {
 
 static void test_macros(void) {
     expect("version, major", ICEMEDIAN_VERSION_MAJOR, 0);
-    expect("version, minor", ICEMEDIAN_VERSION_MINOR, 4);
+    expect("version, minor", ICEMEDIAN_VERSION_MINOR, 5);
     expect("width", ICEMEDIAN_WIDTH(file, FILE_BYTES), W);
     expect("height", ICEMEDIAN_HEIGHT(file, FILE_BYTES), H);
     expect("levels", ICEMEDIAN_LEVELS(file, FILE_BYTES), LEVELS);
@@ -206,6 +232,7 @@ int main(void) {
     test_overlap();
     test_weights();
     test_coarse();
+    test_lamp();
     test_wide();
     test_macros();
     return failures != 0;

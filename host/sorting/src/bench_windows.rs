@@ -1,4 +1,5 @@
-//! Document 01's bench windows A to H, its edges and its 40-byte frame, rows of the coarse way, and two rows more.
+//! Document 01's bench windows A to H, D as document 02's request 3 has it, its edges and its 40-byte frame, rows of
+//! hollow windows and of the coarse way, and two rows more.
 
 use crate::calls;
 use crate::cases::bytes_of_hex;
@@ -47,7 +48,12 @@ fn filtered(frame: &Frame) -> (Vec<u16>, u64) {
 }
 
 fn weights(window: &Window) -> Vec<i64> {
-    window.pixels.iter().map(|pixel| pixel.weight).collect()
+    window.pixels.iter().map(|pixel| pixel.own_weight).collect()
+}
+
+/// Which windows of a frame of one row are hollow.
+fn hollow(frame: &Frame) -> Vec<bool> {
+    filter(frame).1.hollow
 }
 
 #[test]
@@ -73,8 +79,44 @@ fn c_takes_at_least_half() {
 }
 
 #[test]
-fn d_is_hollow() {
-    assert_eq!(filtered(&frame_c(0)), (vec![2, 6], 0));
+fn d_is_hollow_and_counts_ones() {
+    let d = frame_c(0);
+    assert_eq!(hollow(&d), [true, true]);
+    assert_eq!(filtered(&d), (vec![2, 2], 2));
+    let window = Window::at(&d, 0, 0);
+    assert_eq!(weights(&window), [0, 0]);
+    assert_eq!([1, 2, 5, 6].map(|level| window.balance(level)), [-2, 0, 0, 2]);
+}
+
+#[test]
+fn a_hollow_window_moves_the_cut() {
+    let frame = row(KIND_TABLE, 8, 2, 1, &[7, 2, 4], &[0, 1, 0], &[1, 1, 0, 0]);
+    assert_eq!(hollow(&frame), [false, true, false]);
+    assert_eq!(filtered(&frame), (vec![2, 4, 2], 6));
+    assert_eq!(walk(&frame, 0, 0, &[0]).cut, 4);
+}
+
+#[test]
+fn a_lamp_alone_in_its_guide_class_is_filtered() {
+    let frame = row(KIND_TABLE, 8, 2, 1, &[2, 7, 4], &[0, 1, 0], &[1, 0, 0, 0]);
+    assert_eq!(hollow(&frame), [false, true, false]);
+    assert_eq!(filtered(&frame), (vec![2, 4, 4], 4));
+    let window = Window::at(&frame, 1, 0);
+    assert_eq!([2, 4, 7].map(|level| window.balance(level)), [-1, 1, 3]);
+}
+
+#[test]
+fn no_window_of_kind_2_or_of_built_in_weights_is_hollow() {
+    let mut random = Random::new(8);
+    let mut kinds = [0, 0];
+    for _ in 0..600 {
+        let frame = open(&accepted_file(&mut random, 6)).unwrap();
+        if frame.table.is_empty() {
+            assert!(!Window::at(&frame, 0, 0).hollow());
+            kinds[usize::from(frame.settings.kind == KIND_GUIDED)] += 1;
+        }
+    }
+    assert!(kinds.iter().all(|&frames| frames > 20), "{kinds:?}");
 }
 
 #[test]
@@ -266,7 +308,7 @@ fn the_coarse_way_has_its_own_count_and_a_summary() {
     assert_eq!(coarse_end(&frame_a(), &filter(&frame_a()).1).1, 7);
     // Two of B's windows are not steady.
     assert_eq!(coarse(&frame_b(), 0, &[0; 4]), (vec![2, 2, 3, 3, 4], 14, vec![1041]));
-    assert_eq!(coarse(&frame_c(0), 0, &[0]), (vec![2, 6], 0, vec![0]));
+    assert_eq!(coarse(&frame_c(0), 0, &[0]), (vec![2, 2], 4, vec![2]));
     // Three blocks, the last of 8 levels.
     let row = |kind, radius, values: &[u16], guide: &[u16], guides, table: &[u16]| {
         row(kind, 40, guides, radius, values, guide, table)
@@ -280,19 +322,22 @@ fn the_coarse_way_has_its_own_count_and_a_summary() {
     // B with its levels apart: the pixel of negative weight has a block of its own.
     let apart = row(KIND_GUIDED, 2, &[17, 34, 37, 35, 3], &[7, 7, 15, 7, 0], 16, &[]);
     assert_eq!(coarse(&apart, 0, &[0; 2]), (vec![34, 34, 37], 45, vec![-815, 550, 3210]));
-    // A hollow window between two others.
+    // A hollow window between two others, and a walk that ends in it.
     let between = row(KIND_TABLE, 0, &[20, 35, 31], &[0, 1, 0], 2, &[1, 0, 0, 0]);
-    assert_eq!(coarse(&between, 0, &[0; 2]), (vec![20, 35, 31], 21, vec![0, 1, 0]));
+    assert_eq!(coarse(&between, 0, &[0; 2]), (vec![20, 35, 31], 26, vec![0, 1, 0]));
+    assert_eq!(coarse(&between, 0, &[0]), (vec![20, 35], 10, vec![0, 0, 1]));
+    let pair = row(KIND_TABLE, 1, &[20, 35, 3, 31], &[0, 1, 1, 0], 2, &[1, 0, 0, 0]);
+    assert_eq!(coarse(&pair, 3, &[1]), (vec![31, 31], 32, vec![1, 1, 1]));
 }
 
 #[test]
 fn the_first_block_that_reaches_half_holds_a_steady_answer() {
     let mut random = Random::new(7);
-    let (mut steady, mut later) = (0, 0);
+    let (mut steady, mut later, mut hollow) = (0, 0, 0);
     for _ in 0..600 {
         let frame = open(&accepted_file(&mut random, 6)).unwrap();
         let window = Window::at(&frame, 0, 0);
-        if window.hollow() || !window.steady {
+        if !window.steady {
             continue;
         }
         let sums = summary(&frame, &window);
@@ -304,8 +349,9 @@ fn the_first_block_that_reaches_half_holds_a_steady_answer() {
         assert_eq!(usize::from(window.answer() / BLOCK_LEVELS), first);
         steady += 1;
         later += u32::from(first > 0);
+        hollow += u32::from(window.hollow());
     }
-    assert!(steady > 100 && later > 100, "{steady} {later}");
+    assert!(steady > 100 && later > 100 && hollow > 30, "{steady} {later} {hollow}");
 }
 
 #[test]
@@ -343,18 +389,18 @@ fn calls_refuse_in_order() {
 }
 
 #[test]
-fn the_answer_has_the_least_weighted_absolute_difference() {
+fn the_answer_is_the_lowest_level_of_least_weighted_absolute_difference() {
     let mut random = Random::new(4);
     let mut minimal = 0;
     for _ in 0..300 {
         let frame = open(&accepted_file(&mut random, 6)).unwrap();
         let window = Window::at(&frame, 0, 0);
+        // By the own weights every level of a hollow window has the difference 0.
         if window.has_negative_weight() || window.hollow() {
             continue;
         }
-        let answer = window.absolute_differences(window.answer());
-        let least = (0..frame.settings.levels).map(|level| window.absolute_differences(level)).min();
-        assert_eq!(Some(answer), least);
+        let lowest = (0..frame.settings.levels).min_by_key(|&level| window.absolute_differences(level));
+        assert_eq!(Some(window.answer()), lowest);
         minimal += 1;
     }
     assert!(minimal > 100, "only {minimal} windows");
@@ -370,12 +416,10 @@ fn the_answer_is_the_first_level_at_half() {
         hollow += u32::from(window.hollow());
         negative += u32::from(window.has_negative_weight());
         unsteady += u32::from(!window.steady);
-        if !window.hollow() {
-            let first = (0..frame.settings.levels).find(|&level| window.balance(level) >= 0);
-            assert_eq!(Some(window.answer()), first);
-        }
+        let first = (0..frame.settings.levels).find(|&level| window.balance(level) >= 0);
+        assert_eq!(Some(window.answer()), first);
     }
-    assert!(hollow > 10 && negative > 10 && unsteady > 10, "{hollow} {negative} {unsteady}");
+    assert!(hollow > 30 && negative > 10 && unsteady > 10, "{hollow} {negative} {unsteady}");
 }
 
 #[test]

@@ -19,16 +19,20 @@ pub struct Walked {
     /// The balance box of way 1; zeros for the other ways.
     pub balance_box: [i16; BOX_CELLS],
     pub stores: Stores,
+    /// Whether each window on the way was hollow, in turn; no call gives this away.
+    pub hollow: Vec<bool>,
 }
 
 impl Walked {
-    fn of(frame: &Frame, way: Way, walk: &Walk, answers: Vec<u16>) -> Walked {
+    /// What a walk leaves by a way, its answers as the call hands them out.
+    pub fn of(frame: &Frame, way: Way, walk: &Walk, answers: Vec<u16>) -> Walked {
         let balance_box = match way {
             Way::Joint => balance_box(frame, walk),
             Way::Columns | Way::Chain | Way::Coarse => [0; BOX_CELLS],
         };
         let stores = stores(frame, way, walk);
-        Walked { answers, shifts: walk.shifts_by(way), cut: walk.cut, balance_box, stores }
+        let (shifts, hollow) = (walk.shifts_by(way), walk.hollow.clone());
+        Walked { answers, shifts, cut: walk.cut, balance_box, stores, hollow }
     }
 }
 

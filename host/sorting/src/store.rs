@@ -182,11 +182,11 @@ fn occupancy_words(settings: &Settings, counts: &[u16]) -> Vec<u64> {
     words
 }
 
-/// The sum of the weights of each block's levels.
+/// The sum of the counted weights of each block's levels.
 pub fn summary(frame: &Frame, window: &Window) -> Vec<i64> {
     let mut sums = vec![0; blocks(&frame.settings)];
-    for pixel in &window.pixels {
-        sums[usize::from(pixel.level / BLOCK_LEVELS)] += pixel.weight;
+    for (level, weight) in window.counted() {
+        sums[usize::from(level / BLOCK_LEVELS)] += weight;
     }
     sums
 }

@@ -27,12 +27,15 @@ pub struct Walk {
     pub cut: u16,
     /// The pixels whose windows answered, in turn; at the last one the walk stands.
     pub visited: Vec<(usize, usize)>,
+    /// Whether the window at each of them is hollow.
+    pub hollow: Vec<bool>,
 }
 
 impl Walk {
     /// Stands at the start: cut and shift count are 0, and the start window adds first.
     fn start(frame: &Frame, column: usize, row: usize) -> Walk {
-        let mut walk = Walk { answers: Vec::new(), shifts: 0, coarse_shifts: 0, cut: 0, visited: Vec::new() };
+        let (answers, visited, hollow) = (Vec::new(), Vec::new(), Vec::new());
+        let mut walk = Walk { answers, shifts: 0, coarse_shifts: 0, cut: 0, visited, hollow };
         walk.arrive(frame, column, row);
         walk
     }
@@ -56,9 +59,7 @@ impl Walk {
         let answer = window.answer();
         self.answers.push(answer);
         self.visited.push((column, row));
-        if window.hollow() {
-            return;
-        }
+        self.hollow.push(window.hollow());
         let from = if window.steady { self.cut } else { 0 };
         self.shifts += u64::from(answer.abs_diff(from));
         let by_blocks = answer / BLOCK_LEVELS + answer % BLOCK_LEVELS;
@@ -118,11 +119,16 @@ pub fn serpentine(width: u16, height: u16) -> Vec<u8> {
 pub fn filter(frame: &Frame) -> (Vec<u16>, Walk) {
     let (width, height) = (frame.settings.width, frame.settings.height);
     let walk = walk(frame, 0, 0, &serpentine(width, height));
+    (plane(frame, &walk), walk)
+}
+
+/// The answers of the serpentine, row by row.
+pub fn plane(frame: &Frame, walk: &Walk) -> Vec<u16> {
     let mut plane = walk.answers.clone();
-    for (row, line) in plane.chunks_mut(usize::from(width)).enumerate() {
+    for (row, line) in plane.chunks_mut(usize::from(frame.settings.width)).enumerate() {
         if row % 2 == 1 {
             line.reverse();
         }
     }
-    (plane, walk)
+    plane
 }

@@ -8,19 +8,20 @@ use std::ops::RangeInclusive;
 pub struct Weighted {
     pub level: u16,
     pub guide: u16,
-    /// In 64 bits every sum fits: a window has at most 961 pixels, a table's weight is at most 65,535, kind 2's
-    /// is below 2^38 in size, and absolute differences are at most 1,023 times that.
-    pub weight: i64,
+    /// By the frame's table or formula. In 64 bits every sum fits: a window has at most 961 pixels, a table's
+    /// weight is at most 65,535, kind 2's is below 2^38 in size, and absolute differences are at most 1,023 times
+    /// that.
+    pub own_weight: i64,
 }
 
 /// The window at a centre, gathered anew.
 #[derive(Clone, Debug)]
 pub struct Window {
-    /// The window's pixels, row by row, each with its weight.
+    /// The window's pixels, row by row, each with its own weight.
     pub pixels: Vec<Weighted>,
-    /// Whether the weight formula is not negative at both guide ends; always so in kind 1.
+    /// Whether the weight formula is not negative at both guide ends; always so in kind 1, and so in every hollow
+    /// window: in kind 2 the own weights sum to nV, which is above 0.
     pub steady: bool,
-    centre_level: u16,
 }
 
 /// The places from `centre - radius` to `centre + radius` that lie in the picture.
@@ -69,34 +70,59 @@ impl Guided {
     }
 }
 
+/// What says the own weights of one window's pixels.
+enum Weights<'a> {
+    Table { frame: &'a Frame, centre_guide: u16 },
+    Guided(Guided),
+}
+
+impl Weights<'_> {
+    fn own_weight(&self, guide: u16) -> i64 {
+        match self {
+            Weights::Table { frame, centre_guide } => i64::from(frame.table_weight(*centre_guide, guide)),
+            Weights::Guided(guided) => guided.weight(guide),
+        }
+    }
+}
+
 impl Window {
     /// The window at a pixel of the picture.
     pub fn at(frame: &Frame, column: usize, row: usize) -> Window {
         let pixels = gather(frame, column, row);
         let centre_guide = frame.guide(column, row);
         let settings = &frame.settings;
-        let centre_level = frame.level(column, row);
-        if settings.kind == KIND_TABLE {
-            let weight = |guide| i64::from(frame.table_weight(centre_guide, guide));
-            return Window { pixels: weigh(&pixels, weight), steady: true, centre_level };
-        }
-        let guided = Guided::of(&pixels, centre_guide, settings.smoothing);
+        let weights = match settings.kind {
+            KIND_TABLE => Weights::Table { frame, centre_guide },
+            _ => Weights::Guided(Guided::of(&pixels, centre_guide, settings.smoothing)),
+        };
         let ends = [0, settings.guides - 1];
+        let weighted = |&(level, guide)| Weighted { level, guide, own_weight: weights.own_weight(guide) };
         Window {
-            pixels: weigh(&pixels, |guide| guided.weight(guide)),
-            steady: ends.iter().all(|&end| guided.weight(end) >= 0),
-            centre_level,
+            pixels: pixels.iter().map(weighted).collect(),
+            steady: ends.iter().all(|&end| weights.own_weight(end) >= 0),
         }
     }
 
-    /// T: the sum of all weights.
-    pub fn total(&self) -> i64 {
-        self.pixels.iter().map(|pixel| pixel.weight).sum()
+    /// Whether the own weights sum to 0, so that they have no half to reach.
+    pub fn hollow(&self) -> bool {
+        self.pixels.iter().map(|pixel| pixel.own_weight).sum::<i64>() == 0
     }
 
-    /// U(i): the sum of the weights of level i and below.
+    /// The level and the counted weight of each pixel. The counted weight, which answers, balances and sums go by,
+    /// is its own weight, but 1 in a hollow window.
+    pub fn counted(&self) -> impl Iterator<Item = (u16, i64)> + '_ {
+        let hollow = self.hollow();
+        self.pixels.iter().map(move |pixel| (pixel.level, if hollow { 1 } else { pixel.own_weight }))
+    }
+
+    /// T: the sum of all counted weights.
+    pub fn total(&self) -> i64 {
+        self.counted().map(|(_, weight)| weight).sum()
+    }
+
+    /// U(i): the sum of the counted weights of level i and below.
     pub fn cumulative(&self, level: u16) -> i64 {
-        self.pixels.iter().filter(|pixel| pixel.level <= level).map(|pixel| pixel.weight).sum()
+        self.counted().filter(|&(other, _)| other <= level).map(|(_, weight)| weight).sum()
     }
 
     /// 2U(i) - T.
@@ -104,50 +130,36 @@ impl Window {
         2 * self.cumulative(level) - self.total()
     }
 
-    /// Whether the weights sum to 0, so that there is no half to reach.
-    pub fn hollow(&self) -> bool {
-        self.total() == 0
-    }
-
-    /// Whether some pixel weighs less than 0.
+    /// Whether some pixel's own weight is below 0.
     pub fn has_negative_weight(&self) -> bool {
-        self.pixels.iter().any(|pixel| pixel.weight < 0)
+        self.pixels.iter().any(|pixel| pixel.own_weight < 0)
     }
 
-    /// The answer: the lowest level at which the cumulative weight reaches half, or the centre's own
-    /// level in a hollow window.
+    /// The answer: the lowest level at which the cumulative weight reaches half.
     pub fn answer(&self) -> u16 {
-        if self.hollow() {
-            return self.centre_level;
-        }
-        let mut sorted = self.pixels.clone();
-        sorted.sort_by_key(|pixel| pixel.level);
+        let mut sorted: Vec<(u16, i64)> = self.counted().collect();
+        sorted.sort_by_key(|&(level, _)| level);
         let total = self.total();
         let mut cumulative = 0;
         let mut next = 0;
         let mut level = 0;
         loop {
-            while next < sorted.len() && sorted[next].level == level {
-                cumulative += sorted[next].weight;
+            while next < sorted.len() && sorted[next].0 == level {
+                cumulative += sorted[next].1;
                 next += 1;
             }
             if 2 * cumulative >= total {
                 return level;
             }
-            // Between two levels that occur the cumulative weight stays. One is left, since the whole
-            // weight of a window that is not hollow is above 0 and more than its half.
-            level = sorted[next].level;
+            // Between two levels that occur the cumulative weight stays. One is left, since the whole counted
+            // weight is above 0 and more than its half.
+            level = sorted[next].0;
         }
     }
 
-    /// The weighted sum of absolute differences between the window's levels and `level`.
+    /// The weighted sum of absolute differences between the window's levels and `level`, by the own weights.
     pub fn absolute_differences(&self, level: u16) -> i64 {
         let distance = |pixel: &Weighted| i64::from(pixel.level.abs_diff(level));
-        self.pixels.iter().map(|pixel| pixel.weight * distance(pixel)).sum()
+        self.pixels.iter().map(|pixel| pixel.own_weight * distance(pixel)).sum()
     }
-}
-
-fn weigh(pixels: &[(u16, u16)], weight: impl Fn(u16) -> i64) -> Vec<Weighted> {
-    let weighted = |&(level, guide)| Weighted { level, guide, weight: weight(guide) };
-    pixels.iter().map(weighted).collect()
 }

@@ -11,7 +11,7 @@ use sorting_filter::window::Window;
 const NAMES: &str = "coarse_";
 
 /// What a steady answer adds.
-fn by_blocks(answer: u16) -> u16 {
+pub fn by_blocks(answer: u16) -> u16 {
     answer / BLOCK_LEVELS + answer % BLOCK_LEVELS
 }
 
@@ -29,18 +29,17 @@ pub fn spoil(file: &[u8], walked: &mut Walked, walk: impl FnOnce(&Frame) -> Walk
         let windows = walk.visited.iter().map(window).filter(meant);
         windows.map(|window| u64::from(add(window.answer()))).sum()
     };
-    let steady = |window: &Window| window.steady && !window.hollow();
-    let not_steady = |window: &Window| !window.steady && !window.hollow();
+    let steady = |window: &Window| window.steady;
+    let not_steady = |window: &Window| !window.steady;
     match CHOSEN.as_str() {
         "coarse_count_by_cut" => walked.shifts = walk.shifts,
         "coarse_blocks_twice" => walked.shifts += total(steady, |answer| answer / BLOCK_LEVELS),
         "coarse_levels_only" => walked.shifts -= total(steady, |answer| answer / BLOCK_LEVELS),
         "coarse_all_by_blocks" => walked.shifts -= total(not_steady, |answer| answer - by_blocks(answer)),
-        "coarse_hollow_counted" => walked.shifts += total(Window::hollow, by_blocks),
         "coarse_short_block" if frame.settings.levels % BLOCK_LEVELS != 0 => *sums.last_mut().expect("a block") = 0,
         "coarse_pixel_counts" => {
             let mut last = window(&walk.last());
-            last.pixels.iter_mut().for_each(|pixel| pixel.weight = 1);
+            last.pixels.iter_mut().for_each(|pixel| pixel.own_weight = 1);
             *sums = summary(&frame, &last);
         }
         "coarse_first_window" => *sums = summary(&frame, &window(&walk.visited[0])),

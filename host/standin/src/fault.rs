@@ -150,7 +150,7 @@ fn less(weight: u16) -> i64 {
 /// The balance of a window whose weights by a table are `wrong`.
 fn wrong_balance(frame: &Frame, column: usize, row: usize, level: u16, wrong: fn(u16) -> i64) -> i64 {
     let mut window = Window::at(frame, column, row);
-    window.pixels.iter_mut().for_each(|pixel| pixel.weight = wrong(pixel.weight as u16));
+    window.pixels.iter_mut().for_each(|pixel| pixel.own_weight = wrong(pixel.own_weight as u16));
     window.balance(level)
 }
 
@@ -182,7 +182,7 @@ pub fn in_plane(file: &[u8], plane: &mut [u16]) {
 }
 
 /// A frame of kind 1.
-fn table_frame(file: &[u8]) -> Option<Frame> {
+pub fn table_frame(file: &[u8]) -> Option<Frame> {
     open(file).ok().filter(|frame| frame.settings.kind == KIND_TABLE)
 }
 

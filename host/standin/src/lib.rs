@@ -1,11 +1,13 @@
 //! The C interface of `include/icemedian.h` over the sorting filter. It tests the wrapper and the
-//! tests themselves: with `STANDIN_FAULT` set to one of the names in [`fault`] and [`coarse`], it makes that
-//! mistake, and the tests must notice.
+//! tests themselves: with `STANDIN_FAULT` set to one of the names in [`fault`], [`coarse`] and [`hollow`], it makes
+//! that mistake, and the tests must notice.
 
 mod coarse;
 mod fault;
+mod hollow;
 
 use fault::{makes, narrowed, set_on_refusal};
+use hollow::Call;
 use sorting_filter::calls::{self, Walked};
 use sorting_filter::frame::{locate, open, Asked};
 use sorting_filter::refusal::Refusal;
@@ -155,6 +157,7 @@ pub unsafe extern "C" fn icemedian_filter(
     if let Ok(walked) = &mut result {
         fault::in_plane(&file, &mut walked.answers);
         coarse::spoil(&file, walked, |frame| walk::filter(frame).1);
+        hollow::spoil(&file, Call::Filter, walked, |frame| walk::filter(frame).1);
     }
     finish(result, &mut lent, shifts, offset).err().unwrap_or(0)
 }
@@ -197,6 +200,7 @@ pub unsafe extern "C" fn icemedian_walk(
     let mut result = calls::walk(&file, way, (column, row), moves, &lent.lengths());
     if let Ok(walked) = &mut result {
         coarse::spoil(&file, walked, |frame| walk::walk(frame, column, row, moves));
+        hollow::spoil(&file, Call::Walk, walked, |frame| walk::walk(frame, column, row, moves));
     }
     match finish(result, &mut lent, shifts, offset) {
         Ok(mut walked) => {
@@ -247,6 +251,7 @@ pub unsafe extern "C" fn icemedian_balance(
     match report(calls::balance(&file, (column, row), level), offset) {
         Ok(mut value) => {
             fault::in_balance(&file, (column, row), level, &mut value);
+            hollow::in_balance(&file, (column, row), level, &mut value);
             give(balance, if makes("balance") { -value } else { value }, "balance_left");
             0
         }

@@ -119,7 +119,7 @@ fn test_lonely(random: &mut Random, levels: u16, tally: &mut Tally) -> Check {
     Ok(())
 }
 
-fn test_accepted(random: &mut Random, file: &[u8], tally: &mut Tally) -> Check {
+pub fn test_accepted(random: &mut Random, file: &[u8], tally: &mut Tally) -> Check {
     let frame = open(file).map_err(|refusal| format!("the generator made a bad file: {refusal}"))?;
     tally.frames[usize::from(frame.settings.kind == KIND_GUIDED)] += 1;
     tally.heavy_tables += u64::from(frame.table.iter().any(|&weight| weight >= 32_768));
@@ -165,7 +165,7 @@ fn test_walk(random: &mut Random, file: &[u8], way: Way, moves: &[u8], tally: &m
     test_walk_from(random, file, way, start, moves, tally)
 }
 
-fn test_walk_from(
+pub fn test_walk_from(
     random: &mut Random,
     file: &[u8],
     way: Way,
@@ -174,7 +174,7 @@ fn test_walk_from(
     tally: &mut Tally,
 ) -> Check {
     let frame = open(file).map_err(|refusal| refusal.to_string())?;
-    count_window(&frame, &Window::at(&frame, start.0, start.1), tally);
+    count_window(&frame, start, tally);
     let needed = Lengths { answers: 1 + moves.len(), ..Lengths::of_stores(way, &frame.settings) };
     let before = Buffers::poisoned_beyond(random, &needed);
     let mut after = before.clone();
@@ -186,6 +186,8 @@ fn test_walk_from(
     tally.answers += walked.answers.len() as u64;
     tally.marks += walked.answers.iter().filter(|&&answer| answer >= UNKNOWN_MOVE).count() as u64;
     compare(&before, after, &walked, &needed)?;
+    tally.hollow.starts[usize::from(way == Way::Coarse)] += u64::from(walked.hollow[0]);
+    count_hollow(way, &walked, tally);
     count_summary(&frame, &walked, tally);
     if random.once_in(4) {
         test_wrapper_walk(file, way, start, moves, &walked, &needed)?;
@@ -193,13 +195,25 @@ fn test_walk_from(
     Ok(())
 }
 
-fn count_window(frame: &Frame, window: &Window, tally: &mut Tally) {
+fn count_window(frame: &Frame, (column, row): (usize, usize), tally: &mut Tally) {
+    let window = Window::at(frame, column, row);
     if frame.settings.kind == KIND_TABLE {
         tally.heaviest = tally.heaviest.max(window.total());
+        let centre = frame.guide(column, row);
+        tally.hollow.almost += u64::from(frame.table_weight(centre, centre) == 0 && !window.hollow());
     }
-    tally.hollow += u64::from(window.hollow());
     tally.negative += u64::from(window.has_negative_weight());
     tally.unsteady += u64::from(!window.steady);
+}
+
+fn count_hollow(way: Way, walked: &calls::Walked, tally: &mut Tally) {
+    let (tally, place) = (&mut tally.hollow, usize::from(way == Way::Coarse));
+    let windows = &walked.hollow;
+    let moves = |from: bool, to: bool| windows.windows(2).filter(|pair| *pair == [from, to]).count() as u64;
+    tally.windows[place] += windows.iter().filter(|&&hollow| hollow).count() as u64;
+    tally.ends[place] += u64::from(windows[windows.len() - 1]);
+    tally.entered[place] += moves(false, true);
+    tally.left[place] += moves(true, false);
 }
 
 fn count_summary(frame: &Frame, walked: &calls::Walked, tally: &mut Tally) {
@@ -221,6 +235,7 @@ fn test_filter(random: &mut Random, file: &[u8], frame: &Frame, way: Way, tally:
     let walked = expected.map_err(|refusal| refusal.to_string())?;
     tally.filters += 1;
     tally.answers += walked.answers.len() as u64;
+    count_hollow(way, &walked, tally);
     if random.once_in(4) {
         test_wrapper_filter(file, way, &walked)?;
     }
@@ -273,8 +288,10 @@ fn test_balance(random: &mut Random, file: &[u8], frame: &Frame, tally: &mut Tal
     Ok(())
 }
 
-fn try_balance(file: &[u8], place: (usize, usize), level: u32, tally: &mut Tally) -> Check {
+pub fn try_balance(file: &[u8], place: (usize, usize), level: u32, tally: &mut Tally) -> Check {
     let expected = calls::balance(file, place, level);
     tally.balances += 1;
+    let frame = open(file).map_err(|refusal| refusal.to_string())?;
+    tally.hollow.balances += u64::from(Window::at(&frame, place.0, place.1).hollow());
     library::compare_balance("balance", library::balance(file, place, level), &expected)
 }

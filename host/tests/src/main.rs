@@ -8,6 +8,7 @@
 mod buffers;
 mod damaged;
 mod frames;
+mod hollow;
 mod library;
 mod overlap;
 mod program;
@@ -90,6 +91,8 @@ fn run(options: &Options) -> Result<Tally, String> {
     failures.extend(heavy.err().map(|message| format!("heavy tables: {message}")));
     let heavy = writing::test_heavy(&mut Random::new(options.seed), &mut tally);
     failures.extend(heavy.err().map(|message| format!("heavy tables written: {message}")));
+    let hollow = hollow::test(&mut Random::new(options.seed), &mut tally);
+    failures.extend(hollow.err().map(|message| format!("hollow windows: {message}")));
     let blocks = frames::test_blocks(&mut Random::new(options.seed), &mut tally);
     failures.extend(blocks.err().map(|message| format!("blocks: {message}")));
     let largest = frames::test_largest(&mut Random::new(options.seed), &mut tally);

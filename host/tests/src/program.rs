@@ -1,10 +1,11 @@
 //! The program: what it prints for frames, damaged frames, planes that overlap and endless input.
 
-use crate::overlap;
 use crate::tally::Tally;
-use crate::{same, Check};
+use crate::{hollow, overlap, same, Check};
+use sorting_filter::frame::{open, Settings, KIND_TABLE};
 use sorting_filter::program::{printed, INPUT_MOST};
 use sorting_filter::random::{accepted_file_of, damage, settings, Random};
+use sorting_filter::walk::filter;
 use std::io::Write;
 use std::process::{ChildStdin, Command, Stdio};
 use std::thread;
@@ -72,15 +73,34 @@ fn random_input(random: &mut Random) -> Vec<u8> {
     input
 }
 
+/// Whether the program's filter of an input meets a hollow window, which only a table of the file's own can leave.
+fn has_hollow(input: &[u8], text: &str) -> bool {
+    let frame = open(input).ok().filter(|frame| !frame.table.is_empty() && !text.starts_with("refused"));
+    frame.is_some_and(|frame| filter(&frame).1.hollow.contains(&true))
+}
+
+/// The input of a run: chosen with hollow windows at every fourth, else at random.
+fn input_of(random: &mut Random, run: u64) -> Result<Vec<u8>, String> {
+    if run % 4 > 0 {
+        return Ok(random_input(random));
+    }
+    let (width, height) = (random.within(1, 12), random.within(1, 12));
+    let (levels, guides) = (random.within(2, 64), random.within(2, 64));
+    let radius = random.within(0, 3) as u8;
+    let settings = Settings { width, height, levels, guides, kind: KIND_TABLE, radius, smoothing: 0 };
+    Ok(hollow::file(random, &settings)?.0)
+}
+
 /// Runs the program on random inputs, on planes that overlap, on no input, and on one that has no end.
 pub fn test(path: &str, runs: u64, seed: u64, tally: &mut Tally) -> Check {
     let mut random = Random::new(seed ^ 0x5EED);
     same("the program on no input", &output_of(path, once(&[]))?, &printed(&[]))?;
     for run in 0..runs {
-        let input = random_input(&mut random);
-        let what = format!("the program, seed {seed} run {run}");
-        same(&what, &output_of(path, once(&input))?, &printed(&input))?;
+        let input = input_of(&mut random, run)?;
+        let (what, expected) = (format!("the program, seed {seed} run {run}"), printed(&input));
+        same(&what, &output_of(path, once(&input))?, &expected)?;
         tally.programs += 1;
+        tally.hollow.programs += u64::from(has_hollow(&input, &expected));
     }
     for (number, input) in overlap::inputs(&mut random).iter().enumerate() {
         let what = format!("the program, planes that overlap, input {number}");

@@ -25,6 +25,31 @@ pub struct Coarse {
     pub negative: u64,
 }
 
+/// Windows whose own weights sum to 0, by way 1 and by way 4 where there are two counts.
+#[derive(Default)]
+pub struct Hollow {
+    /// Windows of walks and filters.
+    pub windows: [u64; 2],
+    /// Walks that start in one.
+    pub starts: [u64; 2],
+    /// Walks and filters that end in one.
+    pub ends: [u64; 2],
+    /// Moves into one from a window that is not hollow, and out of one into such a window.
+    pub entered: [u64; 2],
+    pub left: [u64; 2],
+    pub balances: u64,
+    /// Start windows that are not hollow although the centre weighs nothing.
+    pub almost: u64,
+    /// Inputs of the program with one.
+    pub programs: u64,
+}
+
+impl Hollow {
+    fn counts(&self) -> Vec<u64> {
+        [self.windows, self.starts, self.ends, self.entered, self.left, [self.balances, self.almost]].concat()
+    }
+}
+
 #[derive(Default)]
 pub struct Tally {
     /// Accepted frames of each kind; those made at random are among them.
@@ -44,7 +69,7 @@ pub struct Tally {
     pub filters: u64,
     pub answers: u64,
     pub marks: u64,
-    pub hollow: u64,
+    pub hollow: Hollow,
     pub negative: u64,
     pub unsteady: u64,
     pub balances: u64,
@@ -69,12 +94,16 @@ impl Tally {
             return None;
         }
         let Overlapping { same_start, even_apart, odd_apart } = self.overlapping;
-        let windows = [self.listed, self.damaged, self.marks, self.hollow, self.negative, self.unsteady];
+        let windows = [self.listed, self.damaged, self.marks, self.negative, self.unsteady];
+        let hollow = self.hollow.counts();
+        // Without a program none is counted.
+        let programs = [u64::from(self.programs == 0 || self.hollow.programs > 0)];
         let frames = [self.frames[0], self.frames[1], same_start, even_apart, odd_apart];
         let Coarse { walks, one_block, short_block, negative } = self.coarse;
         let coarse = [walks - one_block, walks - short_block, one_block, short_block, negative];
         let tables = [self.heavy_tables, self.damaged_tables, u64::from(self.heaviest == HEAVIEST)];
-        if [&self.refusals[1..], &windows, &coarse, &frames, &tables].iter().any(|counts| counts.contains(&0)) {
+        let all = [&self.refusals[1..], &windows, &hollow, &programs, &coarse, &frames, &tables];
+        if all.iter().any(|counts| counts.contains(&0)) {
             return Some(format!("the run left something untried:\n{self}"));
         }
         None
@@ -105,9 +134,17 @@ impl fmt::Display for Tally {
         )?;
         writeln!(
             f,
-            "start windows: {} hollow, {} with a negative weight, {} not steady",
-            self.hollow, self.negative, self.unsteady
+            "start windows: {} with a negative weight, {} not steady, {} not hollow though the centre weighs nothing",
+            self.negative, self.unsteady, self.hollow.almost
         )?;
+        for (way, place) in [(1, 0), (4, 1)] {
+            let Hollow { windows, starts, ends, entered, left, .. } = &self.hollow;
+            writeln!(
+                f,
+                "hollow windows by way {way}: {} ({} starts, {} ends, {} entered from another window, {} left for one)",
+                windows[place], starts[place], ends[place], entered[place], left[place]
+            )?;
+        }
         writeln!(
             f,
             "walks: {} ({} of the list), filters: {}, answers: {} ({} marks)",
@@ -118,7 +155,11 @@ impl fmt::Display for Tally {
             f,
             "walks by way 4: {walks} ({one_block} with one block, {short_block} with a short one, {negative} with a negative sum)"
         )?;
-        writeln!(f, "balances: {}, frames written: {}", self.balances, self.written)?;
+        writeln!(
+            f,
+            "balances: {} ({} of hollow windows), frames written: {}",
+            self.balances, self.hollow.balances, self.written
+        )?;
         write!(f, "refused calls by number:")?;
         for (number, count) in self.refusals.iter().enumerate().skip(1) {
             write!(f, " {number}: {count}")?;
@@ -127,8 +168,9 @@ impl fmt::Display for Tally {
         write!(f, "\nrefused calls with chosen numbers wider than a frame's: {}", self.wide)?;
         write!(
             f,
-            "\nprogram runs: {} ({} chosen with planes that overlap, the longest text {} bytes)\nno difference",
-            self.programs, self.overlapping_inputs, self.longest_text
-        )
+            "\nprogram runs: {} ({} with hollow windows, {} chosen with planes that overlap, the longest text {} bytes)",
+            self.programs, self.hollow.programs, self.overlapping_inputs, self.longest_text
+        )?;
+        write!(f, "\nno difference")
     }
 }

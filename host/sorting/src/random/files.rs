@@ -1,6 +1,6 @@
 //! Files of accepted frames, their parts laid out in every way that document 01 allows.
 
-use super::{random_guides, random_table, random_values, Random};
+use super::{random_classes, random_guides, random_table, random_values, Random};
 use crate::frame::{bytes_of, number16, trailer_bytes, Settings, KIND_GUIDED, KIND_TABLE};
 
 /// Width and height: a rectangle, a single row or column, or smaller than the window.
@@ -47,7 +47,7 @@ pub fn accepted_file_of(random: &mut Random, settings: &Settings) -> Vec<u8> {
     } else {
         Vec::new()
     };
-    match random.below(5) {
+    match random.below(6) {
         0 => shared(random, settings, table.len()),
         1 if settings.levels > 256 || random.once_in(8) => {
             let plane = 2 * settings.pixels();
@@ -55,6 +55,11 @@ pub fn accepted_file_of(random: &mut Random, settings: &Settings) -> Vec<u8> {
             let mut file = overlapping_file(random, settings, odd, &table);
             file.splice(0..0, junk(random));
             file
+        }
+        2 if settings.kind == KIND_TABLE => {
+            let values = bytes_of(&random_values(random, settings));
+            let (guides, table) = random_classes(random, settings);
+            scattered(random, settings, [values, bytes_of(&guides), bytes_of(&table)])
         }
         _ => {
             let values = bytes_of(&random_values(random, settings));

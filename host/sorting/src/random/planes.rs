@@ -44,6 +44,40 @@ pub fn random_guides(random: &mut Random, settings: &Settings) -> Vec<u16> {
 /// mistakes show of a library that cuts weights short, takes them as signed numbers or takes 32,768 off.
 const SIZES: [(u16, u16); 6] = [(0, 9), (0, 256), (257, 16_384), (0, 65_535), (65_534, 65_535), (32_766, 32_769)];
 
+/// Guides of a few classes, and a table with weights of 0 that leave hollow windows beside others: lamps alone in
+/// their class, stripes wider and narrower than a window, or classes by chance, under rows of 0, no weight within a
+/// class, weights within the first class only, or weights here and there.
+pub fn random_classes(random: &mut Random, settings: &Settings) -> (Vec<u16>, Vec<u16>) {
+    let (pixels, width, last) = (settings.pixels(), usize::from(settings.width), settings.guides - 1);
+    let classes = [0, last, random.within(0, last), random.within(0, last)];
+    let guides = match random.below(3) {
+        0 => fill(pixels, |_| if random.once_in(6) { random.pick(&classes) } else { 0 }),
+        1 => {
+            let stripe = 1 + random.below(2 * usize::from(settings.radius) + 3);
+            fill(pixels, |index| classes[index % width / stripe % classes.len()])
+        }
+        _ => fill(pixels, |_| random.pick(&classes)),
+    };
+    let (least, most) = random.pick(&SIZES);
+    let sort = random.below(4);
+    let empty_rows: Vec<bool> = (0..settings.guides).map(|_| random.once_in(2)).collect();
+    let table = fill(settings.table_weights(), |index| {
+        let (centre, other) = (index / empty_rows.len(), index % empty_rows.len());
+        let weighs = match sort {
+            0 => !empty_rows[centre],
+            1 => centre != other,
+            2 => centre == 0 && other == 0,
+            _ => random.once_in(3),
+        };
+        if weighs {
+            random.within(least.max(1), most)
+        } else {
+            0
+        }
+    });
+    (guides, table)
+}
+
 /// Weights of one size, or in the last case of every size: all 0, mostly 0, all alike, both ends, noise, or
 /// heavy above the diagonal only, where a transposed table shows; and now and then rows of 0 among them.
 pub fn random_table(random: &mut Random, settings: &Settings) -> Vec<u16> {
