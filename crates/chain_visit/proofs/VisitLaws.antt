@@ -49,7 +49,8 @@ module _ {b : List ℕ} {z : Plan} (pl : Planned b z) where
       -- where the climb ends is the median
       climb-is : (k : Coefficients) → WeighsAt (frameOf b) s t k →
           first (reachesAt (levelCounts b s t) (levelGuides b s t) k) (z .levels) ≡ median (frameOf b) s t
-      climb-is k w = ap (first (reachesAt (levelCounts b s t) (levelGuides b s t) k)) (facts pl .levels) ∙ climb-median (pixel-of pl hs ht) kind-is k w
+      climb-is k w =
+          ap (first (reachesAt (levelCounts b s t) (levelGuides b s t) k)) (facts pl .levels) ∙ climb-median (pixel-of pl hs ht) kind-is k w
 
       -- the window's list is one to climb along
       pub climbs : (k : Coefficients) → WeighsAt (frameOf b) s t k → (free : FreeList) (m : List ℕ) → Listed b z s t free m → Climbs (z .levels) k m

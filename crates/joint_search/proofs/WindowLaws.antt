@@ -41,15 +41,15 @@ use Rattle.joint_search.proofs.LevelsLaws as levels
 use Rattle.joint_search.proofs.SearchLaws.{level-guides, box-is}
 
 -- ---- which weights a window is counted with: its own, or ones
-pub ones-fit : {m : ℕ} → m ≤ 256 → RowFits m (replicate 256 1)
-ones-fit h = record {
-  inside = rw (length-replicate {A = ℕ} 256 1) h;
-  low = λ f l. rw (getD-replicate {A = ℕ} 256 f 1 0 (omega arith)) (omega arith);
+pub alike-fit : {m : ℕ} (v : ℕ) → m ≤ 256 → v ≤ 65535 → RowFits m (replicate 256 v)
+alike-fit v h k = record {
+  inside = rw (length-replicate {A = ℕ} 256 v) h;
+  low = λ f l. rw (getD-replicate {A = ℕ} 256 f v 0 (omega arith)) k;
 }
 
 pub ones-weigh : (p : Frame) (s t : ℕ) → p .set .guides ≤ 256 → weightless p s t ≡ true → RowWeighs p s t (replicate 256 1)
 ones-weigh p s t h e = record {
-  in-row = ones-fit h;
+  in-row = alike-fit 1 h (omega arith);
   is = λ f l. weight-one p s t f e ∙ ap pos (sym (getD-replicate {A = ℕ} 256 f 1 0 (omega arith)));
 }
 

@@ -61,15 +61,7 @@ pub fn arrive(
     }
     let mut row = [0u16; 256];
     rows::own_row(file, plan, centre, &mut row);
-    joint_answer::by_own(
-        sizes,
-        &mut row,
-        way,
-        before,
-        balance_box,
-        counts,
-        words,
-    )
+    joint_answer::by_own(sizes, &mut row, way, before, balance_box, counts, words)
 }
 
 // The visit. Nothing runs along.

@@ -125,7 +125,8 @@ pub differences-abs : {p : Frame} {s t : ℕ} → Pixel p s t → (B : ℕ) → 
 unfolding differences
 differences-abs {p} {s} {t} k B low i l =
     window-size k _ (B * 1023)
-    (λ x y h. abs-mul-le (ownWeight p s t (guide p x y)) (pos (distance (level p x y) i)) (low (guide p x y) (k .good .guide-low x y (h .wide) (h .high)))
+    (λ x y h. abs-mul-le (ownWeight p s t (guide p x y)) (pos (distance (level p x y) i))
+    (low (guide p x y) (k .good .guide-low x y (h .wide) (h .high)))
     (omega (arith, k .good .level-low x y (h .wide) (h .high), k .good .sound .levels-high)))
 
 -- ---- the weights

@@ -58,7 +58,8 @@ returns : tie.Need-returns
 returns c =
     let r = c .before .before .before .before in
     let at = start (r .before .before) in
-    toZ-ofZ (record { sfits = c .window-balance .ok }) ∙ c .window-balance .ensures ∙ by-balance (pixel-of (at .pre .0) (at .pre .2) (at .pre .3)) (weighs r) (at .args .top .0)
+    toZ-ofZ (record { sfits = c .window-balance .ok }) ∙ c .window-balance .ensures
+    ∙ by-balance (pixel-of (at .pre .0) (at .pre .2) (at .pre .3)) (weighs r) (at .args .top .0)
 
 pub guided-balance-spec : {M : Type 1} → statement M
 guided-balance-spec =

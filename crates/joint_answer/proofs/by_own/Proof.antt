@@ -11,7 +11,7 @@ use mir.Val.{ofZ}
 use Rattle.joint_search.specs.Search.{levelWeightIn, balanceIn, weightlessIn}
 use Rattle.joint_search.proofs.LevelsLaws.{weightless-off}
 use Rattle.joint_search.proofs.SearchLaws.{box-bounds, box-balance, balance-back, level-low}
-use Rattle.joint_search.proofs.WindowLaws.{ones-fit}
+use Rattle.joint_search.proofs.WindowLaws.{alike-fit}
 use Rattle.joint_answer.proofs.AnswerLaws.{counted-ones, counted-own}
 use Rattle.joint_answer.proofs.by_own.Statement.{statement}
 use Rattle.joint_answer.proofs.by_own.Tie as tie
@@ -54,11 +54,11 @@ box-dot-requires c κs =
 none-weighs-requires : tie.Need-none-weighs-requires
 none-weighs-requires c κs = start (c .before .before .before) .pre .0
 
--- ones
+-- one weight for all
 by-row-requires : tie.Need-by-row-requires
 by-row-requires c κs =
     let at = start (first (c .before .before .before .before .before)) in
-    ((at .pre .0 .0, ones-fit (at .pre .0 .0 .guides)), at .pre .1)
+    ((at .pre .0 .0, alike-fit _ (at .pre .0 .0 .guides) (omega arith)), at .pre .1)
 
 returns : tie.Need-returns
 returns c =

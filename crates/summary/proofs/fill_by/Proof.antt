@@ -158,8 +158,8 @@ returns c =
     let h = c .before in
     let at = start h in
     let done : h .loop .k ≡ h .before .span-of .result = omega (arith, h .loop .inv .0, c .loop-test .left) in
-    columns-all (at .pre .0 .0) (at .pre .0 .1) (at .pre .1) (cleared (zeros h)) (h .before .before .low .ensures) (done ∙ h .before .span-of .ensures)
-    (h .loop .inv .1)
+    columns-all (at .pre .0 .0) (at .pre .0 .1) (at .pre .1) (cleared (zeros h)) (h .before .before .low .ensures)
+    (done ∙ h .before .span-of .ensures) (h .loop .inv .1)
 
 pub fill-by-spec : {M : Type 1} → statement M
 fill-by-spec =

@@ -27,7 +27,8 @@ ones-if-hollow-requires : tie.Need-ones-if-hollow-requires
 ones-if-hollow-requires c κs =
     let r = c .before in
     let a = r .before .before .before .before .before .pre .0 in
-    (a, (row-weighs-own (a .0) (a .2) (a .3) (r .before .before .guide-at .ensures) (a .1) (r .table-row .ensures), r .table-row .ensures .long))
+    let row = r .table-row .ensures in
+    ((a .0, a .1, omega (arith, a .2), a .3), (row-weighs-own (a .0) (a .2) (a .3) (r .before .before .guide-at .ensures) (a .1) row, row .long))
 
 slice-aggregate-fill-by : tie.Need-slice-aggregate-fill-by
 slice-aggregate-fill-by c = search needs

@@ -34,7 +34,8 @@ returns c =
     let st = c .before .before .before .before in
     let pl = st .pre .0 .0 in
     let w =
-    weighs pl (st .pre .0 .1) (st .pre .1 .0) (st .pre .1 .1) (st .pre .1 .2) (c .before .guide-at .ensures ∙ facts pl .guide-at (st .args .s) (st .args .t))
+    weighs pl (st .pre .0 .1) (st .pre .1 .0) (st .pre .1 .1) (st .pre .1 .2)
+    (c .before .guide-at .ensures ∙ facts pl .guide-at (st .args .s) (st .args .t))
     (c .from-sums .ensures) in
     (w, coefficients-small pl (st .pre .0 .1) w (st .pre .1 .0) (st .pre .1 .1))
 
