@@ -13,7 +13,7 @@ use Rattle.joint_search.specs.declared.Cut.{Cut}
 use Rattle.joint_search.specs.Search.{weightlessIn, medianIn, boxIn}
 
 -- the cut point, the shifts and the box after it, with the cut point c and n shifts before it
-pub record Answered (blocks : Bool) (sizes : Sizes) (cs row : List ℕ) (c n : ℕ) (r : Cut) (bx : List ℤ) : Type 0 where
+pub record AnsweredBy (blocks : Bool) (sizes : Sizes) (cs row : List ℕ) (c n : ℕ) (r : Cut) (bx : List ℤ) : Type 0 where
   pub level : r .level .0 ≡ medianIn sizes cs row
   pub shifts : r .shifts ≡ n + shiftsTo blocks (r .level .0) c
   pub box : bx ≡ boxIn sizes cs (r .level .0)

@@ -14,7 +14,7 @@ ghost use Prim.Native.Nat.{_<_};
 ghost use Rattle.spec.specs.Walk.{byBlocks};
 ghost use Rattle.joint_cells.specs.Scan.{RowFits};
 ghost use Rattle.joint_search.specs.Search.{balanceIn, weightlessIn, boxIn, Searchable};
-ghost use Rattle.joint_answer.specs.Answer.{Answered, countedRow};
+ghost use Rattle.joint_answer.specs.Answer.{AnsweredBy, countedRow};
 
 // Whether no level weighs anything.
 pub fn none_weighs(sizes: Sizes, row: &[u16], counts: &[u16], words: &[u64]) -> bool
@@ -47,7 +47,7 @@ pub fn search(
     requires { ⌜ (Searchable sizes (now counts) (now words)) × (RowFits (sizes .guides) (now row)) ⌝ }
     requires { ⌜ (before .level .0 < sizes .levels) × (bal ≡ balanceIn sizes (now counts) (now row) (before .level .0))
         × (before .shifts < 1099511627776) × (now «balance_box» ≡ boxIn sizes (now counts) (before .level .0)) ⌝ }
-    ensures { λ r. ⌜ Answered (byBlocks way) sizes (now (counts .entry)) (now (row .entry)) (before .level .0) (before .shifts) r
+    ensures { λ r. ⌜ AnsweredBy (byBlocks way) sizes (now (counts .entry)) (now (row .entry)) (before .level .0) (before .shifts) r
         (now («balance_box» .exit)) ⌝ }
 {
     let cut = before.level;
@@ -76,7 +76,7 @@ pub fn by_row(
     requires { ⌜ (Searchable sizes (now counts) (now words)) × (RowFits (sizes .guides) (now row)) ⌝ }
     requires { ⌜ (before .level .0 < sizes .levels) × (before .shifts < 1099511627776)
         × (now «balance_box» ≡ boxIn sizes (now counts) (before .level .0)) ⌝ }
-    ensures { λ r. ⌜ Answered (byBlocks way) sizes (now (counts .entry)) (now (row .entry)) (before .level .0) (before .shifts) r
+    ensures { λ r. ⌜ AnsweredBy (byBlocks way) sizes (now (counts .entry)) (now (row .entry)) (before .level .0) (before .shifts) r
         (now («balance_box» .exit)) ⌝ }
 {
     let bal = box_dot(balance_box, row, sizes.guides);
@@ -97,7 +97,7 @@ pub fn by_own(
     requires { ⌜ (Searchable sizes (now counts) (now words)) × (RowFits (sizes .guides) (now row)) ⌝ }
     requires { ⌜ (before .level .0 < sizes .levels) × (before .shifts < 1099511627776)
         × (now «balance_box» ≡ boxIn sizes (now counts) (before .level .0)) ⌝ }
-    ensures { λ r. ⌜ (Answered (byBlocks way) sizes (now (counts .entry)) (countedRow sizes (now (counts .entry)) (now (row .entry)))
+    ensures { λ r. ⌜ (AnsweredBy (byBlocks way) sizes (now (counts .entry)) (countedRow sizes (now (counts .entry)) (now (row .entry)))
         (before .level .0) (before .shifts) r (now («balance_box» .exit)))
         × (now (row .exit) ≡ countedRow sizes (now (counts .entry)) (now (row .entry))) ⌝ }
 {

@@ -21,7 +21,7 @@ use Rattle.spec.proofs.Walks.{arrive-cut, arrive-shifts, arrive-answer}
 use Rattle.joint_search.specs.declared.Cut.{Cut}
 use Rattle.joint_search.specs.Window.{Counted, RowWeighs, sizesOf}
 use Rattle.joint_search.proofs.WindowLaws.{spot, levels-eq, box-at, median-is}
-use Rattle.joint_answer.specs.Answer.{Answered}
+use Rattle.joint_answer.specs.Answer.{AnsweredBy}
 use Rattle.joint_table.specs.Arrive.{Arrives}
 
 -- every window of kind 1 is monotone, a hollow one too
@@ -30,7 +30,7 @@ unfolding monotone
 table-monotone {b} pl s t e = rw (eq-eqb (frameOf b .set .kind) 1 (kind-of pl e)) refl
 
 pub arrives-of : {b : List ℕ} {plan : Plan} {s t : ℕ} {cs ws row : List ℕ} → Counted b plan s t cs ws → RowWeighs (frameOf b) s t row
-    → plan .kind ≡ 1 → (way : Way) {c n : ℕ} {r : Cut} {bx : List ℤ} → Answered (byBlocks way) (sizesOf plan) cs row c n r bx
+    → plan .kind ≡ 1 → (way : Way) {c n : ℕ} {r : Cut} {bx : List ℤ} → AnsweredBy (byBlocks way) (sizesOf plan) cs row c n r bx
     → Arrives way (frameOf b) s t c n r bx
 unfolding adds
 arrives-of {b} {plan} {s} {t} st weighs one way {c} {n} {r} a =
