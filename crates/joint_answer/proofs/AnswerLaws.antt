@@ -27,6 +27,14 @@ module _ (sizes : Sizes) (cs row : List ℕ) where
   unfolding countedRow
   counted-own e = ap (λ (b : Bool). if b then replicate 256 1 else row) e
 
+  -- as they are where not nothing weighs
+  pub counted-some : (weightlessIn sizes cs row ≡ true → ⊥) → row ≡ countedRow sizes cs row
+  counted-some n = counted-own (go (weightlessIn sizes cs row) refl)
+    where
+      go : (b : Bool) → weightlessIn sizes cs row ≡ b → false ≡ b
+      go true e = absurd (n e)
+      go false e = refl
+
 -- ---- of a window
 pub counted-weighs : {b : List ℕ} {plan : Plan} {s t : ℕ} {cs ws row : List ℕ} → Counted b plan s t cs ws → RowOwn (frameOf b) s t row
     → RowWeighs (frameOf b) s t (countedRow (sizesOf plan) cs row)

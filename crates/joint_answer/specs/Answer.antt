@@ -9,11 +9,11 @@ use lib.IntN.{ℤ}
 use Rattle.spec.specs.Base.{if_then_else_}
 use Rattle.spec.specs.Walk.{shiftsTo}
 use Rattle.joint_search.specs.declared.Sizes.{Sizes}
-use Rattle.joint_search.specs.declared.Cut.{Cut}
+use Rattle.joint_search.specs.declared.find.SearchEnd.{SearchEnd}
 use Rattle.joint_search.specs.Search.{weightlessIn, medianIn, boxIn}
 
 -- the cut point, the shifts and the box after it, with the cut point c and n shifts before it
-pub record AnsweredBy (blocks : Bool) (sizes : Sizes) (cs row : List ℕ) (c n : ℕ) (r : Cut) (bx : List ℤ) : Type 0 where
+pub record AnsweredBy (blocks : Bool) (sizes : Sizes) (cs row : List ℕ) (c n : ℕ) (r : SearchEnd) (bx : List ℤ) : Type 0 where
   pub level : r .level .0 ≡ medianIn sizes cs row
   pub shifts : r .shifts ≡ n + shiftsTo blocks (r .level .0) c
   pub box : bx ≡ boxIn sizes cs (r .level .0)

@@ -41,7 +41,7 @@ use Rattle.joint_search.proofs.LevelsLaws as levels
 use Rattle.joint_search.proofs.SearchLaws.{level-guides, box-is}
 
 -- ---- which weights a window is counted with: its own, or ones
-pub alike-fit : {m : ℕ} (v : ℕ) → m ≤ 256 → v ≤ 65535 → RowFits m (replicate 256 v)
+alike-fit : {m : ℕ} (v : ℕ) → m ≤ 256 → v ≤ 65535 → RowFits m (replicate 256 v)
 alike-fit v h k = record {
   inside = rw (length-replicate {A = ℕ} 256 v) h;
   low = λ f l. rw (getD-replicate {A = ℕ} 256 f v 0 (omega arith)) k;

@@ -1,6 +1,5 @@
 // Way 1, kind 1: levels looked through one by one, a shift counted for each, and the box's cut point moved along with the search, because a level's
 // counts are at hand then.
-use crate::Cut;
 use crate::Sizes;
 use joint_cells::level::level_weight;
 use joint_cells::raise::raise_level;
@@ -13,6 +12,12 @@ ghost use lib.Signed.{_≤ℤ_};
 ghost use Rattle.joint_cells.specs.Scan.{RowFits};
 ghost use Rattle.spec.specs.Base.{distance};
 ghost use Rattle.joint_search.specs.Search.{balanceIn, medianIn, boxIn, Searchable, Climbed, Descended};
+
+// The level at which a search ends, and the shifts counted up to it.
+pub struct SearchEnd {
+    pub level: Level,
+    pub shifts: u64,
+}
 
 // A balance with a level's weight more or less on both sides: by is 2 or -2.
 pub fn step_balance(x: i32, by: i32, y: i32) -> i32
@@ -32,7 +37,7 @@ pub fn climb(
     balance_box: &mut [i16; 256],
     counts: &[u16],
     words: &[u64],
-) -> Cut
+) -> SearchEnd
     requires { ⌜ (Searchable sizes (now counts) (now words)) × (RowFits (sizes .guides) (now row)) ⌝ }
     requires { ⌜ (from .0 < sizes .levels) × (bal ≡ balanceIn sizes (now counts) (now row) (from .0)) × (shifts < 1099511627776)
         × (now «balance_box» ≡ boxIn sizes (now counts) (from .0)) ⌝ }
@@ -51,7 +56,7 @@ pub fn climb(
             raise_level(row, Level(i), sizes.guides, balance_box, counts, words),
         );
     }
-    Cut {
+    SearchEnd {
         level: Level(i),
         shifts: n,
     }
@@ -67,7 +72,7 @@ pub fn descend(
     balance_box: &mut [i16; 256],
     counts: &[u16],
     words: &[u64],
-) -> Cut
+) -> SearchEnd
     requires { ⌜ (Searchable sizes (now counts) (now words)) × (RowFits (sizes .guides) (now row)) ⌝ }
     requires { ⌜ (from .0 < sizes .levels) × (bal ≡ balanceIn sizes (now counts) (now row) (from .0)) × (shifts < 1099511627776)
         × (pos 0 ≤ℤ bal) × (now «balance_box» ≡ boxIn sizes (now counts) (from .0)) ⌝ }
@@ -81,7 +86,7 @@ pub fn descend(
         let here = Level(i);
         let lower = step_balance(b, -2, level_weight(row, here, sizes.guides, counts, words));
         if lower < 0 {
-            return Cut {
+            return SearchEnd {
                 level: here,
                 shifts: counted,
             };
@@ -91,7 +96,7 @@ pub fn descend(
         i -= 1;
         counted += 1;
     }
-    Cut {
+    SearchEnd {
         level: Level(0),
         shifts: counted,
     }
@@ -107,7 +112,7 @@ pub fn from_cut(
     balance_box: &mut [i16; 256],
     counts: &[u16],
     words: &[u64],
-) -> Cut
+) -> SearchEnd
     requires { ⌜ (Searchable sizes (now counts) (now words)) × (RowFits (sizes .guides) (now row)) ⌝ }
     requires { ⌜ (cut .0 < sizes .levels) × (bal ≡ balanceIn sizes (now counts) (now row) (cut .0)) × (shifts < 1099511627776) ⌝ }
     requires { ⌜ now «balance_box» ≡ boxIn sizes (now counts) (cut .0) ⌝ }

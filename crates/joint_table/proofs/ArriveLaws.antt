@@ -4,23 +4,27 @@ use mathlib.Core.Path.{_≡_, refl, sym, ap, _∙_}
 use mathlib.Core.Bool.{Bool, true}
 use mathlib.Core.List.{List}
 use Prim.Native.Nat.{ℕ, _+_, _<_}
-use lib.IntN.{ℤ}
+use lib.ListN.{getD}
+use lib.IntN.{ℤ, pos, natAbs}
 use borrow.Author.Tests.{eq-eqb}
 use Rattle.spec.specs.declared.Plan.{Plan}
 use Rattle.spec.specs.declared.Way.{Way}
 use Rattle.spec.specs.Base.{if_then_else_}
-use Rattle.spec.specs.Frame.{Frame, frameOf}
+use Rattle.spec.specs.Frame.{Frame, guide, frameOf}
 use Rattle.spec.specs.Checks.{Planned}
 use Rattle.spec.specs.Weight.{monotone}
 use Rattle.spec.specs.Median.{median}
 use Rattle.spec.specs.Joint.{balanceBox}
 use Rattle.spec.specs.Walk.{byBlocks, shiftsTo, adds, arrive}
+use Rattle.spec.proofs.Limits.{FrameLimits, Pixel}
 use Rattle.spec.proofs.Plans.{kind-of}
+use Rattle.spec.proofs.Own.{weightless-zero, table-light, centre-in-window}
 use Rattle.spec.proofs.Totals.{median-low, answer-median}
 use Rattle.spec.proofs.Walks.{arrive-cut, arrive-shifts, arrive-answer}
-use Rattle.joint_search.specs.declared.Cut.{Cut}
-use Rattle.joint_search.specs.Window.{Counted, RowWeighs, sizesOf}
-use Rattle.joint_search.proofs.WindowLaws.{spot, levels-eq, box-at, median-is}
+use Rattle.joint_search.specs.declared.find.SearchEnd.{SearchEnd}
+use Rattle.joint_search.specs.Search.{weightlessIn}
+use Rattle.joint_search.specs.Window.{Counted, RowOwn, RowWeighs, sizesOf}
+use Rattle.joint_search.proofs.WindowLaws.{spot, levels-eq, box-at, weightless-is, median-is}
 use Rattle.joint_answer.specs.Answer.{AnsweredBy}
 use Rattle.joint_table.specs.Arrive.{Arrives}
 
@@ -30,7 +34,7 @@ unfolding monotone
 table-monotone {b} pl s t e = rw (eq-eqb (frameOf b .set .kind) 1 (kind-of pl e)) refl
 
 pub arrives-of : {b : List ℕ} {plan : Plan} {s t : ℕ} {cs ws row : List ℕ} → Counted b plan s t cs ws → RowWeighs (frameOf b) s t row
-    → plan .kind ≡ 1 → (way : Way) {c n : ℕ} {r : Cut} {bx : List ℤ} → AnsweredBy (byBlocks way) (sizesOf plan) cs row c n r bx
+    → plan .kind ≡ 1 → (way : Way) {c n : ℕ} {r : SearchEnd} {bx : List ℤ} → AnsweredBy (byBlocks way) (sizesOf plan) cs row c n r bx
     → Arrives way (frameOf b) s t c n r bx
 unfolding adds
 arrives-of {b} {plan} {s} {t} st weighs one way {c} {n} {r} a =
@@ -49,3 +53,14 @@ arrives-of {b} {plan} {s} {t} st weighs one way {c} {n} {r} a =
 -- what is answered: the new cut point
 pub cut-answer : (way : Way) (p : Frame) (s t c n : ℕ) → arrive way p s t c n .cut ≡ arrive way p s t c n .answer
 cut-answer way p s t c n = arrive-cut way p s t c n ∙ sym (answer-median p s t) ∙ sym (arrive-answer way p s t c n)
+
+-- where nothing weighs anything the centre does not, for itself
+pub centre-none : {b : List ℕ} {plan : Plan} {s t : ℕ} {cs ws row : List ℕ} → Counted b plan s t cs ws → RowOwn (frameOf b) s t row → plan .kind ≡ 1
+    → {f : ℕ} → f ≡ guide (frameOf b) s t → weightlessIn (sizesOf plan) cs row ≡ true → getD row f 0 ≡ 0
+centre-none {b} {s = s} {t} {row = row} st own one {f} ef e =
+    let p = frameOf b in
+    let k = spot st in
+    let low : guide p s t < p .set .guides = k .good .guide-low s t (k .in-column) (k .in-row) in
+    let none = weightless-zero p s t (table-light p s t (kind-of (st .planned) one)) (sym (weightless-is st own) ∙ e) s t (centre-in-window k) in
+    let zero : pos (getD row (guide p s t) 0) ≡ pos 0 = sym (own .is (guide p s t) low) ∙ none in
+    ap (λ (q : ℕ). getD row q 0) ef ∙ ap natAbs zero

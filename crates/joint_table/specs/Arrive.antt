@@ -8,10 +8,10 @@ use Rattle.spec.specs.declared.Way.{Way}
 use Rattle.spec.specs.Frame.{Frame}
 use Rattle.spec.specs.Joint.{balanceBox}
 use Rattle.spec.specs.Walk.{arrive}
-use Rattle.joint_search.specs.declared.Cut.{Cut}
+use Rattle.joint_search.specs.declared.find.SearchEnd.{SearchEnd}
 
 -- the cut point, the shifts and the box after it
-pub record Arrives (way : Way) (p : Frame) (s t c n : ℕ) (r : Cut) (bx : List ℤ) : Type 0 where
+pub record Arrives (way : Way) (p : Frame) (s t c n : ℕ) (r : SearchEnd) (bx : List ℤ) : Type 0 where
   pub level : r .level .0 ≡ arrive way p s t c n .cut
   pub shifts : r .shifts ≡ arrive way p s t c n .shifts
   pub box : bx ≡ balanceBox p s t (r .level .0)

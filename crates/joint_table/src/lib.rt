@@ -1,9 +1,10 @@
 // Ways 1 and 4, joint and coarse, in kind 1: a window's part in a walk, its stores and its box being made. The built-in weights are above 0, so that
 // only a file's own can leave a window without weight (document 01: hollow).
 use chain_nodes::FreeList;
+use joint_answer as search;
 use joint_rows::rows;
-use joint_search::Cut;
 use joint_search::Sizes;
+use joint_search::find::SearchEnd;
 use level_search::Tally;
 use spec::Level;
 use spec::Plan;
@@ -35,7 +36,7 @@ pub fn arrive(
     balance_box: &mut [i16; 256],
     counts: &[u16],
     words: &[u64],
-) -> Cut
+) -> SearchEnd
     requires { ⌜ (Counted (now file) plan s t (now counts) (now words)) × (WeightRows plan (now weights)) × (plan .kind ≡ 1) ⌝ }
     requires { ⌜ (cut .0 < plan .levels) × (shifts < 1099511627776) × (now «balance_box» ≡ balanceBox (frameOf (now file)) s t (cut .0)) ⌝ }
     ensures { λ r. ⌜ Arrives way (frameOf (now (file .entry))) s t (cut .0) shifts r (now («balance_box» .exit)) ⌝ }
@@ -44,16 +45,16 @@ pub fn arrive(
         levels: plan.levels,
         guides: plan.guides,
     };
-    let before = Cut { level: cut, shifts };
     let centre = pixel::guide_at(file, plan, t * plan.width + s);
     if plan.weights == 0 {
         let from = 255 - (centre.0 as usize);
         let end = from + 256;
-        return joint_answer::by_row(
+        return search::arrive(
             sizes,
             &weights[from..end],
             way,
-            before,
+            cut,
+            shifts,
             balance_box,
             counts,
             words,
@@ -61,7 +62,8 @@ pub fn arrive(
     }
     let mut row = [0u16; 256];
     rows::own_row(file, plan, centre, &mut row);
-    joint_answer::by_own(sizes, &mut row, way, before, balance_box, counts, words)
+    search::ones_if_hollow(sizes, centre, cut, counts, words, &mut row);
+    search::arrive(sizes, &row, way, cut, shifts, balance_box, counts, words)
 }
 
 // The visit. Nothing runs along.

@@ -1,6 +1,6 @@
 -- `arrive` meets its contract: the centre's guide chooses the row, and by the row the counts give the frame's answer. Assumes nothing.
 use borrow.Author.Needs.{needs}
-use mathlib.Core.Path.{_≡_, refl, _∙_}
+use mathlib.Core.Path.{_≡_, refl, sym, _∙_, subst}
 use native.Mathlib.Omega.{arith}
 use Prim.Native.Nat.{ℕ, _+_, _-_, _≤_}
 use lib.ListN.{take, drop, length-replicate}
@@ -8,9 +8,9 @@ use Rattle.spec.specs.Frame.{frameOf}
 use Rattle.window.proofs.PixelLaws.{place-small}
 use Rattle.joint_search.specs.Window.{RowOwn, RowWeighs}
 use Rattle.joint_search.proofs.WindowLaws.{searchable, row-fits, box-of}
-use Rattle.joint_rows.proofs.RowLaws.{centre-place, centre-low, centre-small, mirror-weighs, row-weighs-own}
+use Rattle.joint_rows.proofs.RowLaws.{centre-place, centre-is, centre-low, centre-small, mirror-weighs, row-weighs-own}
 use Rattle.joint_answer.proofs.AnswerLaws.{counted-weighs}
-use Rattle.joint_table.proofs.ArriveLaws.{arrives-of}
+use Rattle.joint_table.proofs.ArriveLaws.{arrives-of, centre-none}
 use Rattle.joint_table.proofs.arrive.Statement.{statement}
 use Rattle.joint_table.proofs.arrive.Tie as tie
 
@@ -46,17 +46,17 @@ sub-from c = omega (arith, small (read c))
 add-end : tie.Need-add-end
 add-end c = search needs
 
-mul-by-row : tie.Need-mul-by-row
-mul-by-row c = search needs
+mul-arrive : tie.Need-mul-arrive
+mul-arrive c = search needs
 
-sub-by-row : tie.Need-sub-by-row
-sub-by-row c = search needs
+sub-arrive : tie.Need-sub-arrive
+sub-arrive c = search needs
 
-part-by-row-start : tie.Need-part-by-row-start
-part-by-row-start c = search needs
+part-arrive-start : tie.Need-part-arrive-start
+part-arrive-start c = search needs
 
-part-by-row-end : tie.Need-part-by-row-end
-part-by-row-end c =
+part-arrive-end : tie.Need-part-arrive-end
+part-arrive-end c =
     let g = read c in
     omega (arith, small g, start g .pre .0 .1 .mirror (c .before .if1 .taken) .long)
 
@@ -70,8 +70,8 @@ built c e =
     mirror-weighs (k .planned) (k .column) (k .row) (g .guide-at .ensures) (at .pre .0 .2) (c .before .if1 .taken)
     (at .pre .0 .1 .mirror (c .before .if1 .taken)) refl e
 
-by-row-requires : tie.Need-by-row-requires
-by-row-requires c κs =
+arrive-requires : tie.Need-arrive-requires
+arrive-requires c κs =
     let d = c .before .before in
     let at = start (read d) in
     let k = at .pre .0 .0 in
@@ -82,7 +82,7 @@ returns : tie.Need-returns
 returns c =
     let d = c .before .before .before in
     let at = start (read d) in
-    arrives-of (at .pre .0 .0) (built d (omega arith)) (at .pre .0 .2) (at .args .way) (c .by-row .ensures)
+    arrives-of (at .pre .0 .0) (built d (omega arith)) (at .pre .0 .2) (at .args .way) (c .arrive .ensures)
 
 -- the file's own
 own-row-requires : tie.Need-own-row-requires
@@ -103,20 +103,46 @@ own o =
     let k = at .pre .0 .0 in
     row-weighs-own (k .planned) (k .column) (k .row) (g .guide-at .ensures) (at .pre .0 .2) (o .own-row .ensures)
 
-by-own-requires : tie.Need-by-own-requires
-by-own-requires c κs =
-    let o = c .before .before in
+-- the row read
+abbrev filled : tie.After-ones-if-hollow → tie.After-own-row
+filled h = h .before .before
+
+ones-if-hollow-requires : tie.Need-ones-if-hollow-requires
+ones-if-hollow-requires c κs =
+    let o = c .before in
+    let g = o .before .before .before .before in
+    let at = start g in
+    let k = at .pre .0 .0 in
+    let f = centre-is (k .planned) (k .column) (k .row) (g .guide-at .ensures) in (
+      (searchable k, row-fits k (own o), o .own-row .ensures .long),
+      (at .pre .1 .0, omega (arith, small g), λ e. centre-none k (own o) (at .pre .0 .2) f e),
+    )
+
+-- the row that the window is counted with
+counted : (h : tie.After-ones-if-hollow) → let at = start (filled h .before .before .before .before) in
+    RowWeighs (frameOf (at .args .file .now)) (at .args .s) (at .args .t) (h .ones-if-hollow .last .1 .1 .1 .1 .1 .0)
+counted h =
+    let o = filled h in
     let at = start (o .before .before .before .before) in
+    subst (RowWeighs (frameOf (at .args .file .now)) (at .args .s) (at .args .t)) (sym (h .ones-if-hollow .ensures .0))
+    (counted-weighs (at .pre .0 .0) (own o))
+
+slice-aggregate-arrive : tie.Need-slice-aggregate-arrive
+slice-aggregate-arrive c = search needs
+
+arrive-requires-2 : tie.Need-arrive-requires-2
+arrive-requires-2 c κs =
+    let h = c .before .before in
+    let at = start (filled h .before .before .before .before) in
     let k = at .pre .0 .0 in
     let p = at .pre .1 in
-    ((searchable k, row-fits k (own o)), (p .0, p .1, p .2 ∙ box-of k (at .args .cut .0) (p .0)))
+    ((searchable k, row-fits k (counted h)), (p .0, p .1, p .2 ∙ box-of k (at .args .cut .0) (p .0)))
 
 returns-2 : tie.Need-returns-2
 returns-2 c =
-    let o = c .before .before .before in
-    let at = start (o .before .before .before .before) in
-    let k = at .pre .0 .0 in
-    arrives-of k (counted-weighs k (own o)) (at .pre .0 .2) (at .args .way) (c .by-own .ensures .0)
+    let h = c .before .before .before in
+    let at = start (filled h .before .before .before .before) in
+    arrives-of (at .pre .0 .0) (counted h) (at .pre .0 .2) (at .args .way) (c .arrive2 .ensures)
 
 pub arrive-spec : {M : Type 1} → statement M
 arrive-spec =
@@ -128,12 +154,14 @@ arrive-spec =
     cast-from
     sub-from
     add-end
-    mul-by-row
-    sub-by-row
-    part-by-row-start
-    part-by-row-end
-    by-row-requires
+    mul-arrive
+    sub-arrive
+    part-arrive-start
+    part-arrive-end
+    arrive-requires
     returns
     own-row-requires
-    by-own-requires
+    ones-if-hollow-requires
+    slice-aggregate-arrive
+    arrive-requires-2
     returns-2)
