@@ -51,7 +51,8 @@ pub fn ones_if_hollow(
     row: &mut [u16; 256],
 )
     requires { ⌜ (Searchable sizes (now counts) (now words)) × (RowFits (sizes .guides) (now row)) × (length (now row) ≡ 256) ⌝ }
-    requires { ⌜ (cut .0 < sizes .levels) × (centre .0 < 256) × (weightlessIn sizes (now counts) (now row) ≡ true → getD (now row) (centre .0) 0 ≡ 0) ⌝ }
+    requires { ⌜ (cut .0 < sizes .levels) × (centre .0 < 256)
+        × (weightlessIn sizes (now counts) (now row) ≡ true → getD (now row) (centre .0) 0 ≡ 0) ⌝ }
     ensures { λ _. ⌜ (now (row .exit) ≡ countedRow sizes (now (counts .entry)) (now (row .entry))) × (length (now (row .exit)) ≡ 256) ⌝ }
 {
     if row[centre.0 as usize] != 0 {
