@@ -123,24 +123,36 @@ static void test_overlap(void) {
     expect("its third answer", levels[2], ICEMEDIAN_UNKNOWN_MOVE);
 }
 
+/* A frame of guides 0 1 0 under a table of its own. */
+static uint8_t own_table[ICEMEDIAN_FILE_LENGTH(W, H, 4)];
+
+/* Writes it, checks it, and filters it by way 1. */
+static void filter_own_table(const uint16_t *value, const uint16_t *table, const uint16_t *answers, uint64_t shifts) {
+    static const uint16_t picture[PIXELS] = {0, 1, 0};
+    size_t pixel;
+    uint32_t status = icemedian_write(W, H, LEVELS, 2, ICEMEDIAN_TABLE, RADIUS, 0, value, PIXELS, picture, PIXELS, table,
+                                      4, own_table, sizeof own_table, &result.length, &result.offset);
+    expect_status("write, a table of its own", status, 0);
+    expect_status("check of it", icemedian_check(own_table, sizeof own_table, &result.offset), 0);
+    status = icemedian_filter(own_table, sizeof own_table, ICEMEDIAN_JOINT, counts, COUNTS, words, WORDS, NULL, 0, NULL,
+                              0, levels, PIXELS, &result.shifts, &result.offset);
+    expect("its shifts", result.shifts == shifts, 1);
+    expect_status("filter of it", status, 0);
+    for (pixel = 0; pixel < PIXELS; pixel++) expect("its level", levels[pixel], answers[pixel]);
+}
+
+/* The balance of its middle window. */
+static void balance_own_table(uint32_t level, int64_t balance) {
+    uint32_t status = icemedian_balance(own_table, sizeof own_table, 1, 0, level, &result.balance, &result.offset);
+    expect("its balance", result.balance == balance, 1);
+    expect_status("balance of it", status, 0);
+}
+
 /* Levels 1 5 3 under weights 65535 257 / 1 65535. */
 static void test_weights(void) {
-    static const uint16_t value[PIXELS] = {1, 5, 3}, picture[PIXELS] = {0, 1, 0}, table[4] = {65535, 257, 1, 65535};
-    uint8_t output[ICEMEDIAN_FILE_LENGTH(W, H, 4)];
-    uint32_t status = icemedian_write(W, H, LEVELS, 2, ICEMEDIAN_TABLE, RADIUS, 0, value, PIXELS, picture, PIXELS, table,
-                                      4, output, sizeof output, &result.length, &result.offset);
-    expect_status("write, heavy table", status, 0);
-    expect_status("check of it", icemedian_check(output, sizeof output, &result.offset), 0);
-    status = icemedian_filter(output, sizeof output, ICEMEDIAN_JOINT, counts, COUNTS, words, WORDS, NULL, 0, NULL,
-                              0, levels, PIXELS, &result.shifts, &result.offset);
-    expect("its shifts are 7", result.shifts == 7, 1);
-    expect_status("filter of it", status, 0);
-    expect("its first level", levels[0], 1);
-    expect("its second level", levels[1], 5);
-    expect("its third level", levels[2], 3);
-    status = icemedian_balance(output, sizeof output, 1, 0, 3, &result.balance, &result.offset);
-    expect("its balance is -65533", result.balance == -65533, 1);
-    expect_status("balance of it", status, 0);
+    static const uint16_t value[PIXELS] = {1, 5, 3}, table[4] = {65535, 257, 1, 65535};
+    filter_own_table(value, table, value, 7);
+    balance_own_table(3, -65533);
 }
 
 /* Way 4: its count is not the cut's, and its summary is of the last window. */
@@ -161,23 +173,12 @@ static void test_coarse(void) {
 /* A lamp, level 7, alone in its guide class: nothing weighs in its window, which is answered as if each pixel
  * weighed 1. */
 static void test_lamp(void) {
-    static const uint16_t value[PIXELS] = {2, 7, 4}, picture[PIXELS] = {0, 1, 0}, table[4] = {1, 0, 0, 0};
-    uint8_t output[ICEMEDIAN_FILE_LENGTH(W, H, 4)];
-    uint32_t status = icemedian_write(W, H, LEVELS, 2, ICEMEDIAN_TABLE, RADIUS, 0, value, PIXELS, picture, PIXELS, table,
-                                      4, output, sizeof output, &result.length, &result.offset);
-    expect_status("write, a lamp", status, 0);
-    status = icemedian_filter(output, sizeof output, ICEMEDIAN_JOINT, counts, COUNTS, words, WORDS, NULL, 0, NULL,
-                              0, levels, PIXELS, &result.shifts, &result.offset);
-    expect("its shifts are 4", result.shifts == 4, 1);
-    expect_status("filter of a lamp", status, 0);
-    expect("its first level", levels[0], 2);
-    expect("the lamp's level", levels[1], 4);
-    expect("its third level", levels[2], 4);
-    status = icemedian_balance(output, sizeof output, 1, 0, 2, &result.balance, &result.offset);
-    expect("the lamp's balance is -1", result.balance == -1, 1);
-    expect_status("balance of a lamp", status, 0);
-    status = icemedian_walk(output, sizeof output, ICEMEDIAN_COARSE, 1, 0, NULL, 0, counts, COUNTS, words, WORDS, NULL, 0,
-                            summary, BLOCKS, levels, 1, &result.shifts, &result.cut, result.box, &result.offset);
+    static const uint16_t value[PIXELS] = {2, 7, 4}, table[4] = {1, 0, 0, 0}, answers[PIXELS] = {2, 4, 4};
+    uint32_t status;
+    filter_own_table(value, table, answers, 4);
+    balance_own_table(2, -1);
+    status = icemedian_walk(own_table, sizeof own_table, ICEMEDIAN_COARSE, 1, 0, NULL, 0, counts, COUNTS, words, WORDS, NULL,
+                            0, summary, BLOCKS, levels, 1, &result.shifts, &result.cut, result.box, &result.offset);
     expect("its shifts by way 4 are 4", result.shifts == 4, 1);
     expect("its cut by way 4", result.cut, 4);
     expect("its summary is 3", summary[0] == 3, 1);
