@@ -22,7 +22,7 @@ pub fn weigh(slope: i64, offset: i64, x: i64) -> i64
 // The numbers 0 1 2 .., m of them.
 pub fn ramp(row: &mut [u16], m: usize)
     requires { ⌜ (m ≤ length (now row)) × (m ≤ 256) ⌝ }
-    ensures { λ _. ⌜ Ramp m (now (row .exit)) ⌝ }
+    ensures { λ _. ⌜ (Ramp m (now (row .exit))) × (length (now (row .exit)) ≡ length (now (row .entry))) ⌝ }
 {
     let mut k = 0;
     while k < m {

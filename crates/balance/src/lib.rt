@@ -24,6 +24,7 @@ ghost use Rattle.pixels.specs.Pixels.{pixelFold};
 ghost use Rattle.joint_pixel.specs.Side.{side};
 ghost use Rattle.joint_search.specs.Window.{RowOwn, RowWeighs};
 ghost use Rattle.joint_rows.specs.Rows.{TableRow};
+ghost use Rattle.balance.specs.Formula.{Weighs};
 ghost use Rattle.balance.specs.Balance.{signedBy, balanceBy, PixelsWeighed, Weighed};
 
 // A sum with a pixel's weight more, or less where the pixel's level is above the given one.
@@ -156,20 +157,27 @@ pub fn table_balance(file: &[u8], plan: Plan, s: usize, t: usize, top: Level) ->
     own
 }
 
-// Kind 2.
-pub fn guided_balance(file: &[u8], plan: Plan, s: usize, t: usize, top: Level) -> i64
-    requires { ⌜ (Planned (now file) plan) × (plan .kind ≡ 2) × (s < plan .width) × (t < plan .height) ⌝ }
-    ensures { λ r. ⌜ r ≡ balance (frameOf (now (file .entry))) s t (top .0) ⌝ }
+// Kind 2: the numbers 0 1 2 .. in the row, and the window's two coefficients.
+pub fn guided_formula(file: &[u8], plan: Plan, s: usize, t: usize, row: &mut [u16; 256]) -> Formula
+    requires { ⌜ (Planned (now file) plan) × (plan .kind ≡ 2) × (s < plan .width) × (t < plan .height) × (length (now row) ≡ 256) ⌝ }
+    ensures { λ r. ⌜ (Weighs (frameOf (now (file .entry))) s t (now (row .exit)) r) × (length (now (row .exit)) ≡ 256) ⌝ }
 {
     let a = sums::start(file, plan, s, t);
     let coefficients = coefficients::of_window(file, plan, a, s, t);
     let m = plan.guides;
-    let mut row = [0u16; 256];
-    formula::ramp(&mut row, m);
-    let w = Formula {
+    formula::ramp(row, m);
+    Formula {
         slope: coefficients.slope,
         offset: coefficients.offset,
-    };
+    }
+}
+
+pub fn guided_balance(file: &[u8], plan: Plan, s: usize, t: usize, top: Level) -> i64
+    requires { ⌜ (Planned (now file) plan) × (plan .kind ≡ 2) × (s < plan .width) × (t < plan .height) ⌝ }
+    ensures { λ r. ⌜ r ≡ balance (frameOf (now (file .entry))) s t (top .0) ⌝ }
+{
+    let mut row = [0u16; 256];
+    let w = guided_formula(file, plan, s, t, &mut row);
     window_balance(file, plan, &row, w, s, t, top)
 }
 

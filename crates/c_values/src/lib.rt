@@ -1,11 +1,13 @@
 // The numbers that the calls for C take and give: a status (0, or document 01's number), an offset with number 7 alone, results that a refusal leaves
 // as they were, and settings of 32-bit numbers.
+use spec::Cause;
+use spec::Grounds;
 use spec::Settings;
 use spec::Verdict;
 ghost use mathlib.Core.Path.{_≡_};
 ghost use Prim.Native.Nat.{min};
 ghost use Rattle.spec.specs.Refusal.{numbered};
-ghost use Rattle.c_values.specs.Results.{given, Reported};
+ghost use Rattle.c_values.specs.Results.{given, Reported, causeNumber, lentGrounds, GroundsGiven};
 ghost use Rattle.c_values.specs.Settings.{Narrowed, settingsFrom};
 
 // A verdict as a status, and the offset of number 7.
@@ -43,6 +45,43 @@ pub fn give_walk(
         *lent_shifts = shifts;
         *lent_cut = cut;
         *lent_box = balance_box;
+    }
+}
+
+// The number that a cause is given as.
+pub fn cause_number(cause: Cause) -> u32
+    ensures { λ r. ⌜ r ≡ causeNumber cause ⌝ }
+{
+    match cause {
+        Cause::Ordinary => 1,
+        Cause::Hollow => 2,
+        Cause::NegativeAtZero => 3,
+        Cause::NegativeAtLast => 4,
+    }
+}
+
+// The lent results of an explanation, where it is accepted.
+pub fn give_grounds(
+    verdict: Verdict,
+    grounds: Grounds,
+    pixels: &mut usize,
+    total: &mut i64,
+    level: &mut u16,
+    below: &mut i64,
+    reached: &mut i64,
+    cause: &mut u32,
+)
+    ensures { λ _. ⌜ GroundsGiven (numbered verdict) grounds
+        (lentGrounds (now (pixels .entry)) (now (total .entry)) (now (level .entry)) (now (below .entry)) (now (reached .entry)) (now (cause .entry)))
+        (lentGrounds (now (pixels .exit)) (now (total .exit)) (now (level .exit)) (now (below .exit)) (now (reached .exit)) (now (cause .exit))) ⌝ }
+{
+    if let Verdict::Accepted = verdict {
+        *pixels = grounds.pixels;
+        *total = grounds.total;
+        *level = grounds.level.0;
+        *below = grounds.below;
+        *reached = grounds.reached;
+        *cause = cause_number(grounds.cause);
     }
 }
 

@@ -8,7 +8,7 @@ use spec::Room;
 use spec::Verdict;
 ghost use mathlib.Core.Path.{_≡_};
 ghost use Rattle.spec.specs.Refusal.{numbered};
-ghost use Rattle.spec.specs.Calls.{walkChecks, filterChecks, balanceChecks};
+ghost use Rattle.spec.specs.Calls.{walkChecks, filterChecks, balanceChecks, explainChecks};
 ghost use Rattle.spec.specs.Checks.{SettingsLimits};
 ghost use Rattle.spec.specs.Frame.{settingsIn};
 
@@ -59,6 +59,15 @@ pub fn balance_verdict(plan: Plan, column: usize, row: usize, level: usize) -> V
         return Verdict::Refused(Refusal::Start);
     }
     if plan.levels <= level {
+        return Verdict::Refused(Refusal::Start);
+    }
+    Verdict::Accepted
+}
+
+pub fn explain_verdict(plan: Plan, column: usize, row: usize) -> Verdict
+    ensures { λ r. ⌜ numbered r ≡ explainChecks (settingsIn plan) column row ⌝ }
+{
+    if bad_pixel(plan, column, row) {
         return Verdict::Refused(Refusal::Start);
     }
     Verdict::Accepted

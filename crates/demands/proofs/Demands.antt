@@ -1,7 +1,8 @@
--- The three demands, proved from the contracts of the calls and the laws of the definitions; specs/Demands.antt has the statements.
+-- The three demands and request 4, proved from the contracts of the calls and the laws of the definitions; specs/Demands.antt has the statements.
 -- Assumes nothing.
 use Prim.Native.Nat.{ℕ, zero, suc, _+_, _*_, _/_, _%_, _≤_, _<_}
 use mathlib.Core.Path.{_≡_, refl, sym, ap, ap₂, _∙_, subst}
+use mathlib.Core.Bool.{true}
 use mathlib.Core.Logic.{_⊎_, inl, inr}
 use mathlib.Core.List.{List, _++_}
 use native.Mathlib.Omega.{arith}
@@ -13,6 +14,9 @@ use lib.IntN.{ℤ, pos, _*ℤ_}
 use lib.Signed.{_≤ℤ_, _<ℤ_}
 use Rattle.ints.specs.Linear.{ints}
 use Rattle.spec.specs.declared.Move.the-variants.{To}
+use Rattle.spec.specs.declared.Cause.{Cause}
+use Rattle.spec.specs.declared.Cause.the-variants.{Hollow}
+use Rattle.spec.specs.declared.Grounds.{Grounds}
 use Rattle.spec.specs.declared.Verdict.{Verdict}
 use Rattle.spec.specs.declared.Verdict.the-variants.{Accepted, Refused}
 use Rattle.spec.specs.Refusal.{Outcome, accepted, refused, numbered}
@@ -21,14 +25,18 @@ use Rattle.spec.specs.Window.{pixelCount}
 use Rattle.spec.specs.Median.{totalWeight, cumulative, balance, median, answer}
 use Rattle.spec.specs.Walk.{State, move, step, walkEnd, walkAnswers}
 use Rattle.spec.specs.Filter.{filtered, filterEnd}
-use Rattle.spec.specs.Calls.{wayOf, walkOutcome, filterOutcome, balanceOutcome}
+use Rattle.spec.specs.Weight.{weightless}
+use Rattle.spec.specs.Explain.{cumulativeBelow, Applies, causeOf, Grounded}
+use Rattle.spec.specs.Calls.{wayOf, walkOutcome, filterOutcome, balanceOutcome, explainOutcome}
 use Rattle.spec.specs.Writer.{written, writtenSize, writerOutcome, stored}
 use Rattle.spec.proofs.Checks.{not-refused}
 use Rattle.spec.proofs.Limits.{FrameLimits, Pixel, limits-of, in-plane}
-use Rattle.spec.proofs.Calls.{walk-accepted, filter-accepted}
+use Rattle.spec.proofs.Calls.{walk-accepted, filter-accepted, explain-accepted}
 use Rattle.spec.proofs.Own.{weight-own, total-one, cumulative-one, total-weightless, total-weighs}
 use Rattle.spec.proofs.Totals.{median-low, median-at, median-before, balance-le, balance-lt, answer-median}
 use Rattle.spec.proofs.Minimum.{minimum}
+use Rattle.spec.proofs.Climb.{cumulativeBelow-zero, cumulativeBelow-suc}
+use Rattle.spec.proofs.Causes.{never-both, applies, applies-once, below-half, reached-half}
 use Rattle.spec.proofs.Walks.{
   StateBounded,
   marks,
@@ -50,12 +58,15 @@ use Rattle.frame_write.specs.declared.Written.{Written}
 use Rattle.frame_write.specs.declared.Written.the-variants.{Length, Refused as Declined}
 use Rattle.frame_write.specs.Write.{Report, wrote, declined, reported, reportOf}
 use Rattle.frame_write.proofs.Reopening.{wrote-returned}
-use Rattle.ice.specs.Contract.{Untouched, Ended, Walks, Filters}
-use Rattle.demands.proofs.Table.{walk-table, filter-table, balance-table, writer-table}
+use Rattle.ice.specs.declared.Explained.{Explained}
+use Rattle.ice.specs.Result.{noGrounds}
+use Rattle.ice.specs.Contract.{Untouched, Ended, Walks, Filters, Explains}
+use Rattle.demands.proofs.Table.{walk-table, filter-table, balance-table, explain-table, writer-table}
 use Rattle.demands.specs.Demands.{
   WalkedOrRefused,
   FilteredOrRefused,
   BalancedOrRefused,
+  ExplainedOrRefused,
   WrittenOrRefused,
   Demand1,
   pixelsUpTo,
@@ -68,6 +79,10 @@ use Rattle.demands.specs.Demands.{
   OneRule,
   FilterMinimises,
   Demand3,
+  Justified,
+  EveryExplanation,
+  ExplainsTheAnswer,
+  Request4,
 }
 
 -- ---- a verdict and its outcome
@@ -111,6 +126,15 @@ balanced-or-refused b s t i r h = by (balanceOutcome b s t i) refl
     by accepted e = inl (accepted-verdict (r .verdict) (h .verdict ∙ e), e, h .balanced e)
     by (refused n l) e = inr (n, l, h .verdict ∙ e, e, h .refused (λ q. not-refused (sym e ∙ q)))
 
+explained-or-refused : ExplainedOrRefused
+explained-or-refused b s t r h = by (explainOutcome b s t) refl
+  where
+    by : (o : Outcome) → explainOutcome b s t ≡ o
+        → ((r .verdict ≡ Accepted) × (explainOutcome b s t ≡ accepted) × Grounded (frameOf b) s t (r .grounds))
+        ⊎ ((n : ℕ) × (l : List ℕ) × (numbered (r .verdict) ≡ refused n l) × (explainOutcome b s t ≡ refused n l) × (r .grounds ≡ noGrounds))
+    by accepted e = inl (accepted-verdict (r .verdict) (h .verdict ∙ e), e, h .explained e)
+    by (refused n l) e = inr (n, l, h .verdict ∙ e, e, h .refused (λ q. not-refused (sym e ∙ q)))
+
 -- an answer that reports a length is that length
 length-reported : (r : Written) (n : ℕ) → reported r ≡ wrote n → r ≡ Length n
 length-reported (Length m) n e = ap Length cc
@@ -147,9 +171,10 @@ demand-1 =
       walk = walked-or-refused;
       filter = filtered-or-refused;
       balance = balanced-or-refused;
+      explain = explained-or-refused;
       writer = written-or-refused;
       table =
-          record { walk = walk-table; filter = filter-table; balance = balance-table; writer = writer-table };
+          record { walk = walk-table; filter = filter-table; balance = balance-table; explain = explain-table; writer = writer-table };
     }
 
 -- ---- demand 2
@@ -294,3 +319,52 @@ one-rule (suc (suc (suc (suc n)))) l h = absurd (omega arith)
 
 pub demand-3 : Demand3
 demand-3 = record { agree = all-ways-agree; rule = one-rule; minimum = filter-minimises }
+
+-- ---- request 4
+justified : {p : Frame} {s t : ℕ} → Pixel p s t → (g : Grounds) → Grounded p s t g → Justified p s t g
+justified {p} {s} {t} k g h =
+    record {
+      lowest = subst (LowestLevel p s t) (sym (h .level)) (lowest-answer k);
+      below-half = rw (h .below, h .total) (below-half k);
+      reaches-half = rw (h .reached, h .total) (reached-half k);
+      none-below = λ z. h .below ∙ ap (cumulativeBelow p s t) (sym (h .level) ∙ z) ∙ cumulativeBelow-zero p s t;
+      applies = subst (Applies p s t) (sym (h .cause)) (applies k);
+      only = λ c a. applies-once k c (causeOf p s t) a (applies k) ∙ sym (h .cause);
+      one-end = never-both k;
+      hollow-total = λ e. h .total ∙ total-one p s t (hollow e) ∙ ap pos (sym (h .pixels));
+      hollow-below = λ e i l. h .below ∙ ap (cumulativeBelow p s t) (sym (h .level) ∙ l) ∙ cumulativeBelow-suc p s t i
+          ∙ cumulative-one p s t i (hollow e);
+      hollow-reached = λ e. h .reached ∙ ap (cumulative p s t) (sym (h .level)) ∙ cumulative-one p s t (g .level .0) (hollow e);
+    }
+  where
+    hollow : g .cause ≡ Hollow → weightless p s t ≡ true
+    hollow e = subst (Applies p s t) (sym (h .cause) ∙ e) (applies k)
+
+module _ (b : List ℕ) (s t : ℕ) (r : Explained) (h : Explains b s t r) (ok : r .verdict ≡ Accepted) where
+  explain-passes : explainOutcome b s t ≡ accepted
+  explain-passes = sym (h .verdict) ∙ ap numbered ok
+
+  explained-pixel : Pixel (frameOf b) s t
+  explained-pixel = explain-accepted b s t explain-passes .pixel
+
+  explained-level : r .grounds .level .0 ≡ answer (frameOf b) s t
+  explained-level = h .explained explain-passes .level
+
+every-explanation : EveryExplanation
+every-explanation b s t r h ok = justified (explained-pixel b s t r h ok) (r .grounds) (h .explained (explain-passes b s t r h ok))
+
+explains-the-answer : ExplainsTheAnswer
+explains-the-answer b s t r h ok =
+    let p = frameOf b in
+    let k = explained-pixel b s t r h ok in
+    let level = sym (explained-level b s t r h ok) in
+    record {
+      filtered = λ way a z old new w f o. plane-at b way a z old new w f o s t (k .in-column) (k .in-row) ∙ level;
+      started = λ way moves a z old new w f o. answer-is b s t moves way a z old new w f o 0 (omega arith) ∙ walk-first p s t moves ∙ level;
+      led = λ way u v moves a z old new w f o j l e. ap (λ (q : ℕ). getD new q 0) (add-one j)
+          ∙ answer-is b u v moves way a z old new w f o (suc j) l ∙ walk-next (wayOf way) p u v moves j l
+          ∙ step-level p (walkEnd (wayOf way) p u v (take j moves)) (getD moves j 0) s t e ∙ level;
+    }
+
+pub request-4 : Request4
+request-4 = record { grounds = every-explanation; level = explains-the-answer }

@@ -30,10 +30,10 @@ use Rattle.spec.specs.Checks.{
   trailerOutcome,
   verdict,
 }
-use Rattle.spec.specs.Calls.{badWay, badPixel, short, walkChecks, walkOutcome, filterChecks, filterOutcome, balanceChecks, balanceOutcome}
+use Rattle.spec.specs.Calls.{badWay, badPixel, short, walkChecks, walkOutcome, filterChecks, filterOutcome, balanceChecks, balanceOutcome, explainChecks, explainOutcome}
 use Rattle.spec.specs.Writer.{writtenSize, badLength, scanList, writerOutcome}
 use Rattle.spec.proofs.Checks.{not-refused, both-accepted}
-use Rattle.demands.specs.Table.{fileRows, walkRows, filterRows, balanceRows, writerRows, ByTable}
+use Rattle.demands.specs.Table.{fileRows, walkRows, filterRows, balanceRows, explainRows, writerRows, ByTable}
 
 -- ---- the first row that fires
 abbrev firstOf : List Outcome → Outcome
@@ -205,6 +205,15 @@ balance-table b s t i =
     let own : List Outcome = accepted ∷ refuse 9 x ∷ [] in
     by-table (fileRows b own) (balanceOutcome b s t i) (file-numbered b own (refuses-accepted 8, (refuses-refuse 9 x, tt)))
     (file-first b (balanceChecks k s t i) own (last (refuse 9 x)))
+
+pub explain-table : (b : List ℕ) (s t : ℕ) → ByTable (explainRows b s t) (explainOutcome b s t)
+unfolding explainOutcome explainChecks
+explain-table b s t =
+    let k = settingsOf b in
+    let x = badPixel k s t in
+    let own : List Outcome = accepted ∷ refuse 9 x ∷ [] in
+    by-table (fileRows b own) (explainOutcome b s t) (file-numbered b own (refuses-accepted 8, (refuses-refuse 9 x, tt)))
+    (file-first b (explainChecks k s t) own (last (refuse 9 x)))
 
 refuses-list : (l : List ℕ) (limit offset : ℕ) → RefusesAs 7 (scanList l limit offset)
 unfolding scanList

@@ -1,7 +1,8 @@
--- The three demands, as statements about the promises of the calls. A reader starts here; proofs/Demands.antt proves each.
+-- The three demands, and document 02's request 4, as statements about the promises of the calls. A reader starts here; proofs/Demands.antt proves
+-- each.
 -- b are a file's bytes, before and after the stores around a call, old and new its answers or output, r its result.
 -- Assumes nothing.
-use Prim.Native.Nat.{ℕ, _+_, _*_, _≤_, _<_}
+use Prim.Native.Nat.{ℕ, suc, _+_, _-_, _*_, _≤_, _<_}
 use mathlib.Core.Path.{_≡_}
 use mathlib.Core.Bool.{false}
 use mathlib.Core.Logic.{_⊎_, _↔_}
@@ -14,6 +15,9 @@ use Rattle.spec.specs.declared.Settings.{Settings}
 use Rattle.spec.specs.declared.Room.{Room}
 use Rattle.spec.specs.declared.Way.{Way}
 use Rattle.spec.specs.declared.Move.the-variants.{To, Nowhere}
+use Rattle.spec.specs.declared.Cause.{Cause}
+use Rattle.spec.specs.declared.Cause.the-variants.{Hollow}
+use Rattle.spec.specs.declared.Grounds.{Grounds}
 use Rattle.spec.specs.declared.Verdict.the-variants.{Accepted}
 use Rattle.spec.specs.Base.{if_then_else_, sum}
 use Rattle.spec.specs.Refusal.{accepted, refused, numbered}
@@ -23,16 +27,19 @@ use Rattle.spec.specs.Weight.{ownWeight, ownTotal, weight}
 use Rattle.spec.specs.Median.{totalWeight, cumulative, balance, differences, NoneNegative, NotAllZero}
 use Rattle.spec.specs.Walk.{State, byBlocks, adds, move, start, walkEnd, walkAnswers, addedAt}
 use Rattle.spec.specs.Filter.{filtered, filterEnd}
-use Rattle.spec.specs.Calls.{wayOf, walkOutcome, filterOutcome, balanceOutcome}
+use Rattle.spec.specs.Explain.{Applies, Grounded}
+use Rattle.spec.specs.Calls.{wayOf, walkOutcome, filterOutcome, balanceOutcome, explainOutcome}
 use Rattle.spec.specs.Writer.{written, writtenSize, writerOutcome}
 use Rattle.ice_step.specs.declared.Walked.{Walked}
 use Rattle.ice_step.specs.Finished.{Lent, roomIn}
 use Rattle.ice.specs.declared.Balanced.{Balanced}
+use Rattle.ice.specs.declared.Explained.{Explained}
 use Rattle.frame_write.specs.declared.Written.{Written}
 use Rattle.frame_write.specs.declared.Written.the-variants.{Length}
 use Rattle.frame_write.specs.Write.{declined, reported, Writes, Returned}
-use Rattle.ice.specs.Contract.{Untouched, Ended, Walks, Filters, Balances}
-use Rattle.demands.specs.Table.{walkRows, filterRows, balanceRows, writerRows, ByTable}
+use Rattle.ice.specs.Result.{noGrounds}
+use Rattle.ice.specs.Contract.{Untouched, Ended, Walks, Filters, Balances, Explains}
+use Rattle.demands.specs.Table.{walkRows, filterRows, balanceRows, explainRows, writerRows, ByTable}
 
 -- ---- demand 1
 
@@ -63,6 +70,13 @@ BalancedOrRefused =
     → ((r .verdict ≡ Accepted) × (balanceOutcome b s t i ≡ accepted) × (r .balance ≡ balance (frameOf b) s t i))
     ⊎ ((n : ℕ) × (l : List ℕ) × (numbered (r .verdict) ≡ refused n l) × (balanceOutcome b s t i ≡ refused n l) × (r .balance ≡ pos 0))
 
+-- an explanation, which is lent nothing
+abbrev pub ExplainedOrRefused : Type 0
+ExplainedOrRefused =
+    (b : List ℕ) (s t : ℕ) (r : Explained) → Explains b s t r
+    → ((r .verdict ≡ Accepted) × (explainOutcome b s t ≡ accepted) × Grounded (frameOf b) s t (r .grounds))
+    ⊎ ((n : ℕ) × (l : List ℕ) × (numbered (r .verdict) ≡ refused n l) × (explainOutcome b s t ≡ refused n l) × (r .grounds ≡ noGrounds))
+
 -- a writing: the file and then the rest of the output, or the output as it was
 abbrev pub WrittenOrRefused : Type 0
 WrittenOrRefused =
@@ -75,12 +89,14 @@ pub record EachNumber : Type 0 where
   pub walk : (b : List ℕ) (way s t n : ℕ) (have : Room) (out : ℕ) → ByTable (walkRows b way s t n have out) (walkOutcome b way s t n have out)
   pub filter : (b : List ℕ) (way : ℕ) (have : Room) (out : ℕ) → ByTable (filterRows b way have out) (filterOutcome b way have out)
   pub balance : (b : List ℕ) (s t i : ℕ) → ByTable (balanceRows b s t i) (balanceOutcome b s t i)
+  pub explain : (b : List ℕ) (s t : ℕ) → ByTable (explainRows b s t) (explainOutcome b s t)
   pub writer : (settings : Settings) (v g a : List ℕ) (room : ℕ) → ByTable (writerRows settings v g a room) (writerOutcome settings v g a room)
 
 pub record Demand1 : Type 0 where
   pub walk : WalkedOrRefused
   pub filter : FilteredOrRefused
   pub balance : BalancedOrRefused
+  pub explain : ExplainedOrRefused
   pub writer : WrittenOrRefused
   pub table : EachNumber
 
@@ -170,3 +186,42 @@ pub record Demand3 : Type 0 where
   pub agree : AllWaysAgree
   pub rule : OneRule
   pub minimum : FilterMinimises
+
+-- ---- document 02's request 4: why this level
+
+-- the grounds g of the level at (s, t): it is demand 2's, the sums lie on either side of half, and the cause is the one that applies
+pub record Justified (p : Frame) (s t : ℕ) (g : Grounds) : Type 0 where
+  pub lowest : LowestLevel p s t (g .level .0)
+  pub below-half : (pos 2 *ℤ g .below) <ℤ g .total
+  pub reaches-half : g .total ≤ℤ (pos 2 *ℤ g .reached)
+  pub none-below : g .level .0 ≡ 0 → g .below ≡ pos 0
+  pub applies : Applies p s t (g .cause)
+  pub only : (c : Cause) → Applies p s t c → c ≡ g .cause
+  -- the formula is not negative at both ends of the guides
+  pub one-end : ownWeight p s t 0 <ℤ pos 0 → ownWeight p s t (p .set .guides - 1) <ℤ pos 0 → ⊥
+  -- the sums of a hollow window are of weight 1 for each pixel
+  pub hollow-total : g .cause ≡ Hollow → g .total ≡ pos (g .pixels)
+  pub hollow-below : g .cause ≡ Hollow → (i : ℕ) → g .level .0 ≡ suc i → g .below ≡ pos (pixelsUpTo p s t i)
+  pub hollow-reached : g .cause ≡ Hollow → g .reached ≡ pos (pixelsUpTo p s t (g .level .0))
+
+abbrev pub EveryExplanation : Type 0
+EveryExplanation = (b : List ℕ) (s t : ℕ) (r : Explained) → Explains b s t r → r .verdict ≡ Accepted → Justified (frameOf b) s t (r .grounds)
+
+-- its level m is what the filter gives at that pixel, a walk that starts there, and a walk that a byte leads there
+pub record AnsweredSo (b : List ℕ) (s t m : ℕ) : Type 0 where
+  pub filtered : (way : ℕ) (before after : Lent) (old new : List ℕ) (r : Walked) → Filters b way before after old new r → r .verdict ≡ Accepted
+      → atPixel (frameOf b) new s t ≡ m
+  pub started : (way : ℕ) (moves : List ℕ) (before after : Lent) (old new : List ℕ) (r : Walked) → Walks b way s t moves before after old new r
+      → r .verdict ≡ Accepted → getD new 0 0 ≡ m
+  pub led : (way u v : ℕ) (moves : List ℕ) (before after : Lent) (old new : List ℕ) (r : Walked) → Walks b way u v moves before after old new r
+      → r .verdict ≡ Accepted → (j : ℕ) → j < length moves
+      → move (frameOf b .set) (walkEnd (wayOf way) (frameOf b) u v (take j moves) .column)
+      (walkEnd (wayOf way) (frameOf b) u v (take j moves) .row) (getD moves j 0) ≡ To s t
+      → getD new (j + 1) 0 ≡ m
+
+abbrev pub ExplainsTheAnswer : Type 0
+ExplainsTheAnswer = (b : List ℕ) (s t : ℕ) (r : Explained) → Explains b s t r → r .verdict ≡ Accepted → AnsweredSo b s t (r .grounds .level .0)
+
+pub record Request4 : Type 0 where
+  pub grounds : EveryExplanation
+  pub level : ExplainsTheAnswer

@@ -36,6 +36,9 @@ filterRows b way have out =
 abbrev pub balanceRows : List ℕ → ℕ → ℕ → ℕ → List Outcome
 balanceRows b s t i = fileRows b (accepted ∷ refuse 9 (badPixel (settingsOf b) s t || not (ltb i (settingsOf b .levels))) ∷ [])
 
+abbrev pub explainRows : List ℕ → ℕ → ℕ → List Outcome
+explainRows b s t = fileRows b (accepted ∷ refuse 9 (badPixel (settingsOf b) s t) ∷ [])
+
 abbrev pub writerRows : Settings → List ℕ → List ℕ → List ℕ → ℕ → List Outcome
 writerRows settings v g a room =
     accepted ∷ refuse 2 (badSize settings) ∷ refuse 3 (badCounts settings) ∷ refuse 4 (badKind settings) ∷ refuse 5 (badRadius settings)

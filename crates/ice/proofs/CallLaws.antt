@@ -17,17 +17,19 @@ use Rattle.spec.specs.Checks.{verdict, Planned}
 use Rattle.spec.specs.Walk.{State, walkEnd, walkAnswers}
 use Rattle.spec.specs.Filter.{filtered, filterEnd}
 use Rattle.spec.specs.Median.{balance}
-use Rattle.spec.specs.Calls.{wayOf, BothKinds, roomOf, countsOf, wordsOf, walkOutcome, filterOutcome, balanceOutcome}
+use Rattle.spec.specs.Explain.{Grounded}
+use Rattle.spec.specs.Calls.{wayOf, BothKinds, roomOf, countsOf, wordsOf, walkOutcome, filterOutcome, balanceOutcome, explainOutcome}
 use Rattle.spec.proofs.Plans.{facts}
-use Rattle.spec.proofs.Calls.{way-serves, RoomFits, walk-accepted, filter-accepted, balance-accepted}
+use Rattle.spec.proofs.Calls.{way-serves, RoomFits, walk-accepted, filter-accepted, balance-accepted, explain-accepted}
 use Rattle.frame.specs.declared.plan.Opened.{Opened}
 use Rattle.frame.specs.Plan.{openedPlan}
 use Rattle.ice_step.specs.declared.Walked.{Walked}
 use Rattle.ice.specs.declared.Balanced.{Balanced}
+use Rattle.ice.specs.declared.Explained.{Explained}
 use Rattle.ways.specs.Visit.{Serves}
 use Rattle.ice_step.specs.Finished.{Lent, roomIn, LentFits, Finished}
-use Rattle.ice.specs.Result.{Zeroed}
-use Rattle.ice.specs.Contract.{Untouched, Ended, Walks, Filters, Balances}
+use Rattle.ice.specs.Result.{Zeroed, Unexplained}
+use Rattle.ice.specs.Contract.{Untouched, Ended, Walks, Filters, Balances, Explains}
 use Rattle.ways.proofs.WayLaws.{settings-same}
 use Rattle.ice.proofs.OutcomeLaws.{set-of, stopped, fires-not, quiet}
 
@@ -192,3 +194,23 @@ balance-granted {b} k s t i o =
       rw (f .levels)
           (f .limits .sound .levels-high),
     )
+
+-- ---- explain
+pub explains-refused : (b : List ℕ) (s t : ℕ) (v : Verdict) (r : Explained) → Unexplained v r → fires (numbered v) ≡ true
+    → numbered v ≡ explainOutcome b s t → Explains b s t r
+explains-refused b s t v r u f e =
+    record {
+      verdict = ap numbered (u .verdict) ∙ e;
+      refused = λ _. u .grounds;
+      explained = λ q. absurd (fires-not (numbered v) f (e ∙ q));
+    }
+
+pub explains-done : (b : List ℕ) (s t : ℕ) (r : Explained) → numbered (r .verdict) ≡ explainOutcome b s t → explainOutcome b s t ≡ accepted
+    → Grounded (frameOf b) s t (r .grounds) → Explains b s t r
+explains-done b s t r e o g = record { verdict = e; refused = λ n. absurd (n o); explained = λ _. g }
+
+pub explain-granted : {b : List ℕ} {z : Plan} → Planned b z → (s t : ℕ) → explainOutcome b s t ≡ accepted → (s < z .width) × (t < z .height)
+explain-granted {b} k s t o =
+    let h = explain-accepted b s t o in
+    let f = facts k in
+    (rw (f .width) (h .pixel .in-column), rw (f .height) (h .pixel .in-row))

@@ -1,4 +1,4 @@
--- What walk, filter and balance promise, of every input: the verdict; on refusal, that nothing changed; else the result and every buffer.
+-- What walk, filter, balance and explain promise, of every input: the verdict; on refusal, that nothing changed; else the result and every buffer.
 -- Assumes nothing.
 use Prim.Native.Nat.{ℕ, _+_}
 use mathlib.Core.Path.{_≡_}
@@ -11,12 +11,15 @@ use Rattle.spec.specs.declared.Way.{Way}
 use Rattle.spec.specs.Refusal.{Outcome, accepted, numbered}
 use Rattle.spec.specs.Frame.{Frame, frameOf, pixels}
 use Rattle.spec.specs.Median.{balance}
+use Rattle.spec.specs.Explain.{Grounded}
 use Rattle.spec.specs.Walk.{State, walkEnd, walkAnswers}
 use Rattle.spec.specs.Filter.{filtered, filterEnd}
-use Rattle.spec.specs.Calls.{wayOf, roomOf, countsOf, wordsOf, NumbersOf, summaryOf, boxOf, zeros, walkOutcome, filterOutcome, balanceOutcome}
+use Rattle.spec.specs.Calls.{wayOf, roomOf, countsOf, wordsOf, NumbersOf, summaryOf, boxOf, zeros, walkOutcome, filterOutcome, balanceOutcome, explainOutcome}
 use Rattle.ice_step.specs.declared.Walked.{Walked}
 use Rattle.ice.specs.declared.Balanced.{Balanced}
+use Rattle.ice.specs.declared.Explained.{Explained}
 use Rattle.ice_step.specs.Finished.{Lent, roomIn}
+use Rattle.ice.specs.Result.{noGrounds}
 
 -- a refused call: zeros in the result, and every buffer as it was
 pub record Untouched (before after : Lent) (old new : List ℕ) (r : Walked) : Type 0 where
@@ -64,3 +67,9 @@ pub record Balances (b : List ℕ) (s t i : ℕ) (r : Balanced) : Type 0 where
   pub verdict : numbered (r .verdict) ≡ balanceOutcome b s t i
   pub refused : (balanceOutcome b s t i ≡ accepted → ⊥) → r .balance ≡ pos 0
   pub balanced : balanceOutcome b s t i ≡ accepted → r .balance ≡ balance (frameOf b) s t i
+
+-- explain
+pub record Explains (b : List ℕ) (s t : ℕ) (r : Explained) : Type 0 where
+  pub verdict : numbered (r .verdict) ≡ explainOutcome b s t
+  pub refused : (explainOutcome b s t ≡ accepted → ⊥) → r .grounds ≡ noGrounds
+  pub explained : explainOutcome b s t ≡ accepted → Grounded (frameOf b) s t (r .grounds)

@@ -1,18 +1,22 @@
-// The public calls: walk, filter and balance. Each makes checks 1 to 7 on the bytes that it is handed, then its own, and changes no buffer where one
+// The public calls: walk, filter, balance and explain. Each makes checks 1 to 7 on the bytes that it is handed, then its own, and changes no buffer where one
 // fires.
 use crate::Balanced;
+use crate::Explained;
 use balance::balance_at;
+use explain::grounds;
 use frame::plan::open_plan;
 use ice_filter::sweep;
 use ice_step::Walked;
 use ice_walk::travel;
+use spec::Cause;
+use spec::Grounds;
 use spec::Level;
 use spec::Room;
 use spec::Verdict;
 use spec::stops;
 ghost use Rattle.ice_step.specs.Finished.{lent};
-ghost use Rattle.ice.specs.Result.{Zeroed};
-ghost use Rattle.ice.specs.Contract.{Walks, Filters, Balances};
+ghost use Rattle.ice.specs.Result.{Zeroed, Unexplained};
+ghost use Rattle.ice.specs.Contract.{Walks, Filters, Balances, Explains};
 
 // The result of a refused call.
 fn refused(verdict: Verdict) -> Walked
@@ -136,5 +140,44 @@ pub fn balance(file: &[u8], column: usize, row: usize, level: usize) -> Balanced
     Balanced {
         verdict: w,
         balance: b,
+    }
+}
+
+// The result of a refused explanation.
+fn unexplained(verdict: Verdict) -> Explained
+    ensures { λ r. ⌜ Unexplained verdict r ⌝ }
+{
+    let none = Grounds {
+        pixels: 0,
+        total: 0,
+        level: Level(0),
+        below: 0,
+        reached: 0,
+        cause: Cause::Ordinary,
+    };
+    Explained {
+        verdict,
+        grounds: none,
+    }
+}
+
+// Why the window at a pixel has its level.
+pub fn explain(file: &[u8], column: usize, row: usize) -> Explained
+    ensures { λ r. ⌜ Explains (now (file .entry)) column row r ⌝ }
+{
+    let opened = open_plan(file);
+    let v = opened.verdict;
+    if stops(v) {
+        return unexplained(v);
+    }
+    let plan = opened.plan;
+    let w = checks::explain_verdict(plan, column, row);
+    if stops(w) {
+        return unexplained(w);
+    }
+    let found = grounds(file, plan, column, row);
+    Explained {
+        verdict: w,
+        grounds: found,
     }
 }

@@ -19,15 +19,16 @@ use Rattle.spec.specs.Writer.{writerOutcome}
 use Rattle.ice_step.specs.declared.Walked.{Walked}
 use Rattle.ice_step.specs.Finished.{Lent, lent}
 use Rattle.ice.specs.declared.Balanced.{Balanced}
-use Rattle.ice.specs.Contract.{Untouched, Ended, Walks, Filters, Balances}
+use Rattle.ice.specs.declared.Explained.{Explained}
+use Rattle.ice.specs.Contract.{Untouched, Ended, Walks, Filters, Balances, Explains}
 use Rattle.frame_write.specs.declared.Written.{Written}
 use Rattle.frame_write.specs.declared.Written.the-variants as written
 use Rattle.frame_write.specs.Write.{declined, reportOf, Writes}
 use Rattle.frame_write.proofs.Reopening.{answered}
-use Rattle.c_values.specs.Results.{statusOf, given, Reported}
+use Rattle.c_values.specs.Results.{statusOf, given, Reported, causeNumber, LentGrounds, GroundsGiven}
 use Rattle.c_values.specs.Settings.{Narrowed}
 use Rattle.c_values.proofs.ResultLaws.{passes}
-use Rattle.icemedian_c.specs.Exports.{Called, resultAt, WalkCall, FilterCall, BalanceCall, WriteCall}
+use Rattle.icemedian_c.specs.Exports.{Called, resultAt, WalkCall, FilterCall, BalanceCall, ExplainCall, WriteCall}
 
 module _ (v : Verdict) {o : Outcome} {r old new : ℕ} (is : numbered v ≡ o) (h : Reported (numbered v) r old new) where
   pub reported : Reported o r old new
@@ -131,6 +132,21 @@ module _ {b : List ℕ} {s t i : ℕ} {w : Balanced} (h : Balances b s t i w) {r
   balance-passed l is =
       let e = passed (w .verdict) (h .verdict) q l in
       record { reported = reported (w .verdict) (h .verdict) q; balance-is = is ∙ h .balanced e ∙ gained _ _ _ e }
+
+-- ---- explain
+pub explain-called : {b : List ℕ} {s t : ℕ} {w : Explained} → Explains b s t w → {r offset₀ offset : ℕ}
+    → Reported (numbered (w .verdict)) r offset₀ offset → {before after : LentGrounds} → GroundsGiven (numbered (w .verdict)) (w .grounds) before after
+    → ExplainCall b s t r before after offset₀ offset
+explain-called {w = w} h q g =
+    record {
+      reported = reported (w .verdict) (h .verdict) q;
+      pixels-is = lends _ (h .verdict) (g .pixels) (λ e. h .explained e .pixels);
+      total-is = lends _ (h .verdict) (g .total) (λ e. h .explained e .total);
+      level-is = lends _ (h .verdict) (g .level) (λ e. h .explained e .level);
+      below-is = lends _ (h .verdict) (g .below) (λ e. h .explained e .below);
+      reached-is = lends _ (h .verdict) (g .reached) (λ e. h .explained e .reached);
+      cause-is = lends _ (h .verdict) (g .cause) (λ e. ap causeNumber (h .explained e .cause));
+    }
 
 -- ---- the writer
 declined-refused : (o : Outcome) (n k : ℕ) (l : List ℕ) → declined k l ≡ reportOf o n → o ≡ refused k l

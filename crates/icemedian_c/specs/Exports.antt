@@ -10,12 +10,14 @@ use Rattle.spec.specs.declared.Way.{Way}
 use Rattle.spec.specs.declared.Verdict.the-variants.{Accepted}
 use Rattle.spec.specs.Refusal.{Outcome, accepted}
 use Rattle.spec.specs.Frame.{Frame, frameOf, pixels}
-use Rattle.spec.specs.Median.{balance}
+use Rattle.spec.specs.Window.{pixelCount}
+use Rattle.spec.specs.Median.{totalWeight, cumulative, balance, answer}
+use Rattle.spec.specs.Explain.{cumulativeBelow, causeOf}
 use Rattle.spec.specs.Walk.{State, walkEnd, walkAnswers}
 use Rattle.spec.specs.Filter.{filtered, filterEnd}
-use Rattle.spec.specs.Calls.{wayOf, boxOf, walkOutcome, filterOutcome, balanceOutcome}
+use Rattle.spec.specs.Calls.{wayOf, boxOf, walkOutcome, filterOutcome, balanceOutcome, explainOutcome}
 use Rattle.spec.specs.Writer.{written, writtenSize, writerOutcome, stored}
-use Rattle.c_values.specs.Results.{given, Reported}
+use Rattle.c_values.specs.Results.{given, Reported, causeNumber, LentGrounds}
 use Rattle.ice_step.specs.declared.Walked.{Walked}
 use Rattle.ice_step.specs.Finished.{Lent, roomIn}
 use Rattle.ice.specs.Contract.{Ended}
@@ -59,6 +61,17 @@ pub record FilterCall (b : List ℕ) (way : ℕ) (before after : Lent) (old new 
 pub record BalanceCall (b : List ℕ) (s t i r : ℕ) (old new : ℤ) (offset₀ offset : ℕ) : Type 0 where
   pub reported : Reported (balanceOutcome b s t i) r offset₀ offset
   pub balance-is : new ≡ given (balanceOutcome b s t i) (balance (frameOf b) s t i) old
+
+-- ---- explain
+
+pub record ExplainCall (b : List ℕ) (s t r : ℕ) (before after : LentGrounds) (offset₀ offset : ℕ) : Type 0 where
+  pub reported : Reported (explainOutcome b s t) r offset₀ offset
+  pub pixels-is : after .pixels ≡ given (explainOutcome b s t) (pixelCount (frameOf b) s t) (before .pixels)
+  pub total-is : after .total ≡ given (explainOutcome b s t) (totalWeight (frameOf b) s t) (before .total)
+  pub level-is : after .level ≡ given (explainOutcome b s t) (answer (frameOf b) s t) (before .level)
+  pub below-is : after .below ≡ given (explainOutcome b s t) (cumulativeBelow (frameOf b) s t (answer (frameOf b) s t)) (before .below)
+  pub reached-is : after .reached ≡ given (explainOutcome b s t) (cumulative (frameOf b) s t (answer (frameOf b) s t)) (before .reached)
+  pub cause-is : after .cause ≡ given (explainOutcome b s t) (causeNumber (causeOf (frameOf b) s t)) (before .cause)
 
 -- ---- write
 

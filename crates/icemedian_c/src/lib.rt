@@ -1,6 +1,7 @@
 // The calls for C and Rust: numbers and slices as pointer and length, a status out (0, or document 01's number), every other result through a lent
 // number. A refused call writes nothing but the offset of number 7. include/icemedian.h documents them. Each takes any arguments; the work and the
 // promises are those of frame, frame_write and ice.
+use c_values::give_grounds;
 use c_values::give_walk;
 use c_values::report;
 use c_values::settings_from;
@@ -9,9 +10,9 @@ use ice::calls;
 use spec::Verdict;
 ghost use Rattle.spec.specs.Checks.{verdict};
 ghost use Rattle.ice_step.specs.Finished.{lent};
-ghost use Rattle.c_values.specs.Results.{Reported};
+ghost use Rattle.c_values.specs.Results.{Reported, lentGrounds};
 ghost use Rattle.c_values.specs.Settings.{settingsFrom};
-ghost use Rattle.icemedian_c.specs.Exports.{WalkCall, FilterCall, BalanceCall, WriteCall};
+ghost use Rattle.icemedian_c.specs.Exports.{WalkCall, FilterCall, BalanceCall, ExplainCall, WriteCall};
 
 // Checks 1 to 7.
 #[no_mangle]
@@ -120,6 +121,33 @@ pub extern "C" fn icemedian_balance(
         let n = balanced.balance;
         *balance = n;
     }
+    status
+}
+
+// Why the window at a pixel has its level.
+#[no_mangle]
+pub extern "C" fn icemedian_explain(
+    file: &[u8],
+    column: usize,
+    row: usize,
+    pixels: &mut usize,
+    total: &mut i64,
+    level: &mut u16,
+    below: &mut i64,
+    reached: &mut i64,
+    cause: &mut u32,
+    offset: &mut u64,
+) -> u32
+    ensures { λ r. ⌜ ExplainCall (now (file .entry)) column row r
+        (lentGrounds (now (pixels .entry)) (now (total .entry)) (now (level .entry)) (now (below .entry)) (now (reached .entry)) (now (cause .entry)))
+        (lentGrounds (now (pixels .exit)) (now (total .exit)) (now (level .exit)) (now (below .exit)) (now (reached .exit)) (now (cause .exit)))
+        (now (offset .entry)) (now (offset .exit)) ⌝ }
+{
+    let explained = calls::explain(file, column, row);
+    let v = explained.verdict;
+    let status = report(v, offset);
+    let grounds = explained.grounds;
+    give_grounds(v, grounds, pixels, total, level, below, reached, cause);
     status
 }
 

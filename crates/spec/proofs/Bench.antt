@@ -9,6 +9,8 @@ use lib.IntN.{ℤ, pos, negsuc}
 use Rattle.spec.specs.declared.Settings.{Settings}
 use Rattle.spec.specs.declared.Room.{Room}
 use Rattle.spec.specs.declared.Way.the-variants.{Joint, Coarse}
+use Rattle.spec.specs.declared.Cause.{Cause}
+use Rattle.spec.specs.declared.Cause.the-variants.{Ordinary, Hollow, NegativeAtZero, NegativeAtLast}
 use Rattle.spec.specs.Base.{fold, foldRect, first, tabulateFrom, tabulate}
 use Rattle.spec.specs.Bytes.{be16, be32, to16, to32, all16}
 use Rattle.spec.specs.Refusal.{Outcome, accepted, refused}
@@ -52,6 +54,7 @@ use Rattle.spec.specs.Joint.{jointCounts, occupancyWord, occupancyWords,
 use Rattle.spec.specs.Columns.{columnSum, columnStore}
 use Rattle.spec.specs.Chain.{Entry, entryOf, entries, Reads, ChainStore}
 use Rattle.spec.specs.Coarse.{blockWeight, summary}
+use Rattle.spec.specs.Explain.{cumulativeBelow, causeOf}
 use Rattle.spec.specs.Calls.{
   wayOf,
   badWay,
@@ -65,6 +68,8 @@ use Rattle.spec.specs.Calls.{
   filterOutcome,
   balanceChecks,
   balanceOutcome,
+  explainChecks,
+  explainOutcome,
 }
 use Rattle.spec.specs.Writer.{fieldBytes, distanceBytes, written, writtenSize, badLength, scanList, writerOutcome}
 use Rattle.spec.specs.Program.{digits, spaced, rows, ways, tooLarge, programOutcome, beside, outputText, printed}
@@ -87,6 +92,7 @@ pub data Question : Type 0 where
   stores : List ℕ → ℕ → ℕ → List ℕ → Question
   coarse : List ℕ → ℕ → ℕ → List ℕ → Question
   coarseFilter : List ℕ → Question
+  explain : List ℕ → ℕ → ℕ → Question
 
 pub data Reply : Type 0 where
   says : Outcome → Reply
@@ -95,6 +101,7 @@ pub data Reply : Type 0 where
   prints : List ℕ → Reply
   holds : List ℕ → List ℕ → List ℤ → List ℕ → List Entry → Reply
   sums : List ℕ → ℕ → List ℤ → Reply
+  grounds : ℕ → ℤ → ℕ → ℤ → ℤ → Cause → Reply
 
 abbrev closed : State → List ℕ → Reply
 closed x l = gives l (x .shifts)
@@ -110,7 +117,7 @@ unfolding fold foldRect first tabulateFrom tabulate be16 be32 to16 to32 all16 tr
     ownTotal isZero weightless weight monotone totalWeight cumulative balance median answer differences adds arrive move follow step after answers
     walkEnd walkAnswers turn serpentine filtered filterEnd jointCounts occupancyWord occupancyWords balanceBox columnSum columnStore entryOf entries
     blockWeight summary wayOf badWay roomOf badPixel lacks short walkChecks walkOutcome filterChecks filterOutcome balanceChecks balanceOutcome
-    fieldBytes distanceBytes written writtenSize badLength scanList writerOutcome digits spaced rows ways tooLarge programOutcome beside outputText
+    explainChecks explainOutcome cumulativeBelow causeOf fieldBytes distanceBytes written writtenSize badLength scanList writerOutcome digits spaced rows ways tooLarge programOutcome beside outputText
     printed
 reply (accept b) = says (verdict b)
 reply (walk b s t l) = let p = frameOf b in closed (walkEnd Joint p s t l) (walkAnswers p s t l)
@@ -139,6 +146,10 @@ reply (coarseFilter b) =
     let p = frameOf b in
     let x = filterEnd Coarse p in
     sums (filtered p) (x .shifts) (summary p (x .column) (x .row))
+reply (explain b s t) =
+    let p = frameOf b in
+    let m = answer p s t in
+    grounds (pixelCount p s t) (totalWeight p s t) m (cumulativeBelow p s t m) (cumulative p s t m) (causeOf p s t)
 
 -- ---- the files
 
@@ -363,6 +374,23 @@ cases =
     ∷ coarse fileEnds 0 0 (0 ∷ 0 ∷ 0 ∷ 1 ∷ 1 ∷ []) ⇒ sums (2 ∷ 33 ∷ 17 ∷ 17 ∷ 17 ∷ 33 ∷ []) 14 (pos 1 ∷ pos 0 ∷ pos 4 ∷ [])
     ∷ coarseFilter fileEnds ⇒ sums (2 ∷ 33 ∷ 17 ∷ 17 ∷ []) 9 (pos 0 ∷ pos 1 ∷ pos 1 ∷ [])
     ∷ filter fileOthers ⇒ gives (5 ∷ 1 ∷ 5 ∷ []) 13
+    ∷ call (explainOutcome fileB 5 0) ⇒ says (refused 9 [])
+    ∷ call (explainOutcome fileB 0 1) ⇒ says (refused 9 [])
+    ∷ call (explainOutcome fileB 4 0) ⇒ says accepted
+    ∷ call (explainOutcome (take 39 fileA ++ (0x32 ∷ [])) 9 9) ⇒ says (refused 1 [])
+    ∷ explain fileA 1 0 ⇒ grounds 3 (pos 51) 3 (pos 21) (pos 30) Ordinary
+    ∷ explain fileB 0 0 ⇒ grounds 3 (pos 411) 2 (pos 201) (pos 402) Ordinary
+    ∷ explain fileB 1 0 ⇒ grounds 4 (pos 832) 2 (pos 272) (pos 544) Ordinary
+    ∷ explain fileB 2 0 ⇒ grounds 5 (pos 2945) 3 (pos 1100) (pos 1650) NegativeAtZero
+    ∷ explain fileB 3 0 ⇒ grounds 4 (pos 1868) 3 (pos 468) (pos 936) Ordinary
+    ∷ explain fileB 4 0 ⇒ grounds 3 (pos 1041) 4 (pos 369) (pos 1200) NegativeAtLast
+    ∷ explain fileC 1 0 ⇒ grounds 2 (pos 2) 2 (pos 0) (pos 1) Ordinary
+    ∷ explain fileD 0 0 ⇒ grounds 2 (pos 2) 2 (pos 0) (pos 1) Hollow
+    ∷ explain fileLamp 0 0 ⇒ grounds 2 (pos 1) 2 (pos 0) (pos 1) Ordinary
+    ∷ explain fileLamp 1 0 ⇒ grounds 3 (pos 3) 4 (pos 1) (pos 2) Hollow
+    ∷ explain fileHeavy 1 0 ⇒ grounds 3 (pos 65537) 5 (pos 2) (pos 65537) Ordinary
+    ∷ explain fileApart 2 0 ⇒ grounds 5 (pos 2945) 37 (pos 835) (pos 2945) NegativeAtZero
+    ∷ explain (made 2 1 8 2 1 1 0 (0 ∷ 6 ∷ []) (0 ∷ 0 ∷ []) (1 ∷ 1 ∷ 1 ∷ 1 ∷ [])) 1 0 ⇒ grounds 2 (pos 2) 0 (pos 0) (pos 1) Ordinary
     ∷ []
 
 benches : map given cases ≡ map due cases

@@ -22,7 +22,7 @@ use Rattle.spec.specs.Checks.{SettingsLimits}
 use Rattle.spec.proofs.Limits.{FrameLimits, Pixel}
 use Rattle.spec.proofs.Plans.{smoothing-of}
 use Rattle.spec.proofs.Own.{own-table, weight-table, tableWeight-high, weight-guided, variance-pos}
-use Rattle.spec.proofs.Levels.{cell, balance-signed}
+use Rattle.spec.proofs.Levels.{levelWeight, cell, balance-signed}
 
 span-high : (r c n : ℕ) → span r c n ≤ 2 * r + 1
 unfolding span
@@ -113,6 +113,10 @@ module _ {p : Frame} {s t : ℕ} (k : Pixel p s t) (B : ℕ) (low : (g : ℕ) �
   pub cumulative-abs : (i : ℕ) → natAbs (cumulative p s t i) ≤ 961 * B
   unfolding cumulative
   cumulative-abs i = window-size k _ B (λ x y h. if-abs (leb (level p x y) i) (weight p s t (guide p x y)) B (weight-size x y h))
+
+  pub level-abs : (i : ℕ) → natAbs (levelWeight p s t i) ≤ 961 * B
+  unfolding levelWeight
+  level-abs i = window-size k _ B (λ x y h. if-abs (eqb (level p x y) i) (weight p s t (guide p x y)) B (weight-size x y h))
 
   pub balance-abs : (c : ℕ) → natAbs (balance p s t c) ≤ 961 * B
   balance-abs c =

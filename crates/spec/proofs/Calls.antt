@@ -29,6 +29,8 @@ use Rattle.spec.specs.Calls.{
   filterOutcome,
   balanceChecks,
   balanceOutcome,
+  explainChecks,
+  explainOutcome,
 }
 use Rattle.spec.proofs.Checks.{both-accepted, not-fired, neither, both}
 use Rattle.spec.proofs.Limits.{FrameLimits, Pixel, limits-of}
@@ -152,6 +154,16 @@ balance-accepted b s t i e =
     let a = both-accepted (verdict b) (refuse 9 (badPixel k s t || not (ltb i (k .levels)))) e in
     let g = neither (badPixel k s t) (not (ltb i (k .levels))) (not-fired 9 _ (a .1)) in
     record { file = a .0; pixel = pixel-of-call b s t (a .0) (g .0); level = ltb-true _ _ (not-false _ (g .1)) }
+
+pub record ExplainAccepted (b : List ℕ) (s t : ℕ) : Type 0 where
+  pub file : verdict b ≡ accepted
+  pub pixel : Pixel (frameOf b) s t
+
+pub explain-accepted : (b : List ℕ) (s t : ℕ) → explainOutcome b s t ≡ accepted → ExplainAccepted b s t
+unfolding explainOutcome explainChecks
+explain-accepted b s t e =
+    let a = both-accepted (verdict b) (refuse 9 (badPixel (settingsOf b) s t)) e in
+    record { file = a .0; pixel = pixel-of-call b s t (a .0) (not-fired 9 _ (a .1)) }
 
 -- ---- such a pixel is to be had: bench window A's, in the middle of its row
 pixel-A : Pixel (frameOf fileA) 1 0

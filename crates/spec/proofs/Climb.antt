@@ -17,6 +17,7 @@ use Rattle.spec.specs.Frame.{Frame, guide}
 use Rattle.spec.specs.Median.{totalWeight, cumulative, balance, median}
 use Rattle.spec.specs.Window.{levelSum}
 use Rattle.spec.specs.Chain.{Entry, entries, entryOf}
+use Rattle.spec.specs.Explain.{cumulativeBelow}
 use Rattle.spec.specs.Checks.{SettingsLimits}
 use Rattle.spec.proofs.Limits.{FrameLimits, Pixel}
 use Rattle.spec.specs.Weight.{slope, offset}
@@ -35,10 +36,6 @@ use Rattle.spec.proofs.Totals.{
 use Rattle.spec.proofs.Present.{levelCount, absent-weight}
 
 -- ---- from level 0 upward: U below level a
-unfoldable pub cumulativeBelow : Frame → ℕ → ℕ → ℕ → ℤ
-cumulativeBelow p s t zero = pos 0
-cumulativeBelow p s t (suc a) = cumulative p s t a
-
 pub cumulativeBelow-zero : (p : Frame) (s t : ℕ) → cumulativeBelow p s t 0 ≡ pos 0
 unfolding cumulativeBelow
 cumulativeBelow-zero p s t = refl

@@ -19,6 +19,7 @@ pub mod Bounds
 pub mod Walks
 pub mod Blocks
 pub mod Climb
+pub mod Causes
 pub mod Moves
 pub mod Serpentine
 pub mod Calls

@@ -1,4 +1,4 @@
--- Which way a number names, how long its stores are and what they hold; and the outcomes of walk, filter and balance.
+-- Which way a number names, how long its stores are and what they hold; and the outcomes of walk, filter, balance and explain.
 -- Assumes nothing.
 use Prim.Native.Nat.{ℕ, _+_, _*_}
 use mathlib.Core.Path.{_≡_}
@@ -120,3 +120,9 @@ balanceChecks settings s t i = refuse 9 (badPixel settings s t || not (ltb i (se
 
 unfoldable pub balanceOutcome : List ℕ → ℕ → ℕ → ℕ → Outcome
 balanceOutcome b s t i = verdict b ▷ balanceChecks (settingsOf b) s t i
+
+unfoldable pub explainChecks : Settings → ℕ → ℕ → Outcome
+explainChecks settings s t = refuse 9 (badPixel settings s t)
+
+unfoldable pub explainOutcome : List ℕ → ℕ → ℕ → Outcome
+explainOutcome b s t = verdict b ▷ explainChecks (settingsOf b) s t

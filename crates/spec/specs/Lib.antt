@@ -12,6 +12,7 @@ pub mod Joint
 pub mod Columns
 pub mod Chain
 pub mod Coarse
+pub mod Explain
 pub mod Calls
 pub mod Writer
 pub mod Program

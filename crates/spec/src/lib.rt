@@ -99,7 +99,29 @@ pub enum Way {
 // The levels of a block: way 4 counts and adds up by blocks, and the searches pass over them.
 pub const BLOCK: u16 = 16;
 
+// A level's block is the level without so many low bits.
+pub const BLOCK_BITS: u32 = 4;
+
 const BLOCK_OF_SHIFTS: u64 = BLOCK as u64;
+
+// Why a window has its level (document 02): the formula of a window that is not steady is negative at one end of the guides, 0 or M - 1.
+pub enum Cause {
+    Ordinary,
+    Hollow,
+    NegativeAtZero,
+    NegativeAtLast,
+}
+
+// The grounds of a window's level: how many pixels the window has, what they weigh, the level, what the levels below it weigh, and what they weigh
+// with it.
+pub struct Grounds {
+    pub pixels: usize,
+    pub total: i64,
+    pub level: Level,
+    pub below: i64,
+    pub reached: i64,
+    pub cause: Cause,
+}
 
 // How many numbers of each store: 16-bit counts, 64-bit occupancy words, 32-bit numbers, and the signed 64-bit weight sums of the summary.
 pub struct Room {

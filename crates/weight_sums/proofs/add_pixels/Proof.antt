@@ -1,22 +1,22 @@
 -- `add_pixels` meets its contract: after k turns the list's first k pixels are in their blocks. Assumes nothing.
 use mathlib.Core.Path.{_≡_, subst}
 use native.Mathlib.Omega.{arith}
-use Prim.Native.Nat.{ℕ, _+_, _-_, _*_, _/_, _≤_, _<_}
+use Prim.Native.Nat.{ℕ, _+_, _-_, _*_, _/_, _^_, _≤_, _<_}
 use lib.ListN.{length, getD}
 use Rattle.pixels.specs.Pixels.{countOf, levelIn, guideIn}
 use Rattle.pixels.proofs.Laws.{places-in}
 use Rattle.balance.specs.Formula.{weightBy}
 use Rattle.balance.proofs.BalanceLaws.{weight-asks, weight-is}
-use Rattle.summary.specs.Summary.{BlocksAdded}
-use Rattle.summary.proofs.SummaryLaws.{added-none, place-in, sum-asks, added-next}
-use Rattle.summary.proofs.add_pixels.Statement.{statement}
-use Rattle.summary.proofs.add_pixels.Tie as tie
+use Rattle.weight_sums.specs.Sums.{blockOf, BlocksAdded}
+use Rattle.weight_sums.proofs.SumLaws.{added-none, place-in, sum-asks, added-next}
+use Rattle.weight_sums.proofs.add_pixels.Statement.{statement}
+use Rattle.weight_sums.proofs.add_pixels.Tie as tie
 
 abbrev Inv-loop : tie.InvT-loop
-Inv-loop p weights formula summary₀ n k₀ summary k = (k ≤ n) × BlocksAdded p weights formula k summary₀ summary
+Inv-loop p weights formula bits sums₀ n k₀ sums k = (k ≤ n) × BlocksAdded (2 ^ bits) p weights formula k sums₀ sums
 
 abbrev μ-loop : tie.MeasureT-loop
-μ-loop p weights formula summary₀ n k₀ summary k = n - k
+μ-loop p weights formula bits sums₀ n k₀ sums k = n - k
 
 abbrev start : tie.At-loop Inv-loop μ-loop → tie.Start Inv-loop μ-loop
 start h = h .before .before .before
@@ -51,11 +51,11 @@ number-low c = let t = turn (c .before) in let at =
 
 -- its block is among the numbers
 placed : (t : tie.In-loop Inv-loop μ-loop) → let at = start (t .before) in
-    levelIn (at .args .p .now) (t .before .loop .k) / 16 < length (t .before .loop .summary)
+    blockOf (2 ^ at .args .bits) (levelIn (at .args .p .now) (t .before .loop .k)) < length (t .before .loop .sums)
 placed t = let at = start (t .before) in place-in (at .pre .0) (at .pre .1) (t .loop-test .taken) (t .before .loop .inv .1)
 
 loop-holds : tie.Need-loop-holds Inv-loop μ-loop
-loop-holds c = (omega arith, added-none _ _ _ _)
+loop-holds c = (omega arith, added-none _ _ _ _ _)
 
 mul-at : tie.Need-mul-at Inv-loop μ-loop
 mul-at c = omega (arith, turn-low c)
@@ -121,8 +121,8 @@ add-requires c κs =
 mul-t15 : tie.Need-mul-t15 Inv-loop μ-loop
 mul-t15 c = omega (arith, numbers (read (c .before .before) .before .before .before .before))
 
-slice-set-from-summary : tie.Need-slice-set-from-summary Inv-loop μ-loop
-slice-set-from-summary c = omega (arith, placed (turn (read (c .before .before) .before)))
+slice-set-from-sums : tie.Need-slice-set-from-sums Inv-loop μ-loop
+slice-set-from-sums c = omega (arith, placed (turn (read (c .before .before) .before)))
 
 add-k : tie.Need-add-k Inv-loop μ-loop
 add-k c = omega (arith, turn-low (turn (read (c .before .before) .before)))
@@ -148,8 +148,8 @@ returns c =
     let h = c .before in
     let at = start h in
     let done : h .loop .k ≡ countOf (at .args .p .now) = omega (arith, h .loop .inv .0, c .loop-test .left) in
-    let added = BlocksAdded (at .args .p .now) (at .args .weights .now) (at .args .formula) in
-    subst (λ (k : ℕ). added k (at .args .summary .now) (h .loop .summary)) done (h .loop .inv .1)
+    let added = BlocksAdded (2 ^ at .args .bits) (at .args .p .now) (at .args .weights .now) (at .args .formula) in
+    subst (λ (k : ℕ). added k (at .args .sums .now) (h .loop .sums)) done (h .loop .inv .1)
 
 pub add-pixels-spec : {M : Type 1} → statement M
 add-pixels-spec =
@@ -174,7 +174,7 @@ add-pixels-spec =
     slice-copy-out-add
     add-requires
     mul-t15
-    slice-set-from-summary
+    slice-set-from-sums
     add-k
     loop-less
     loop-again

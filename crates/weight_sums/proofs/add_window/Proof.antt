@@ -1,47 +1,25 @@
--- `fill_by` meets its contract: after k turns the window's first k columns are in the blocks. Assumes nothing.
+-- `add_window` meets its contract: after k turns the window's first k columns are in the sums. Assumes nothing.
 use mathlib.Core.Path.{_≡_, _∙_, subst}
 use native.Mathlib.Omega.{arith}
 use borrow.Author.Needs.{needs}
-use Prim.Native.Nat.{ℕ, _+_, _-_, _≤_, _<_}
+use Prim.Native.Nat.{ℕ, _+_, _-_, _^_, _≤_, _<_}
 use lib.ListN.{length, take, drop}
-use Rattle.spec.specs.Frame.{frameOf}
-use Rattle.spec.specs.Coarse.{blockCount}
-use Rattle.spec.proofs.Plans.{facts}
-use Rattle.window.proofs.PixelLaws.{plan-limits, levels-high}
+use Rattle.window.proofs.PixelLaws.{plan-limits}
 use Rattle.window.proofs.LineLaws.{column-in, span-in, span-high}
 use Rattle.pixels.specs.Pixels.{LinePixels}
 use Rattle.pixels.proofs.Laws.{line-part}
-use Rattle.summary.specs.Summary.{Cleared}
-use Rattle.summary.proofs.SummaryLaws.{cleared-count, ColumnsAdded, columns-start, list-asks, columns-next, columns-all}
-use Rattle.summary.proofs.fill_by.Statement.{statement}
-use Rattle.summary.proofs.fill_by.Tie as tie
+use Rattle.weight_sums.proofs.SumLaws.{ColumnsAdded, columns-start, list-asks, columns-next, columns-all}
+use Rattle.weight_sums.proofs.add_window.Statement.{statement}
+use Rattle.weight_sums.proofs.add_window.Tie as tie
 
 abbrev Inv-loop : tie.InvT-loop
-Inv-loop file plan weights formula s t summary₀ x n k₀ summary k =
-    (k ≤ n) × ColumnsAdded file plan s t x (blockCount (frameOf file .set)) k summary₀ summary
+Inv-loop file plan weights formula s t bits sums₀ x n k₀ sums k = (k ≤ n) × ColumnsAdded (2 ^ bits) file plan s t x k sums₀ sums
 
 abbrev μ-loop : tie.MeasureT-loop
-μ-loop file plan weights formula s t summary₀ x n k₀ summary k = n - k
-
--- the places passed: the start, and the numbers cleared
-abbrev origin : tie.After-clear Inv-loop μ-loop → tie.Start Inv-loop μ-loop
-origin e = e .before .before .before .before .before
-
-abbrev zeros : tie.At-loop Inv-loop μ-loop → tie.After-clear Inv-loop μ-loop
-zeros h = h .before .before .before .before
+μ-loop file plan weights formula s t bits sums₀ x n k₀ sums k = n - k
 
 abbrev start : tie.At-loop Inv-loop μ-loop → tie.Start Inv-loop μ-loop
-start h = origin (zeros h)
-
-abbrev count : tie.Start Inv-loop μ-loop → ℕ
-count at = blockCount (frameOf (at .args .file .now) .set)
-
--- the plan's levels are the frame's, so as many numbers are cleared as there are blocks
-cleared : (e : tie.After-clear Inv-loop μ-loop) → Cleared (count (origin e)) (count (origin e)) (origin e .args .summary .now) (e .clear .last .0)
-cleared e = cleared-count (e .clear .ensures) (omega (arith, facts (origin e .pre .0 .0 .planned) .levels))
-
-room : (h : tie.At-loop Inv-loop μ-loop) → count (start h) ≤ length (zeros h .clear .last .0)
-room h = omega (arith, cleared (zeros h) .long, start h .pre .1)
+start h = h .before .before .before .before
 
 -- the column that a turn adds is in the picture, and the columns are few
 wide : (c : tie.In-loop Inv-loop μ-loop) → c .before .before .before .low .result + c .before .loop .k < (start (c .before)) .args .plan .width
@@ -82,27 +60,15 @@ listed : (r : tie.After-read Inv-loop μ-loop) → let at =
     (take (r .read .result - 0) (drop 0 (r .read .last .1 .1 .1 .0)))
 listed r = line-part (r .read .result) (r .read .last .1 .1 .1 .0) (r .read .ensures .1)
 
-sub-clear : tie.Need-sub-clear Inv-loop μ-loop
-sub-clear c = omega arith
-
-add-clear : tie.Need-add-clear Inv-loop μ-loop
-add-clear c = let at = c .before .before .before .before in omega (arith, levels-high (at .pre .0 .0 .planned))
-
-clear-requires : tie.Need-clear-requires Inv-loop μ-loop
-clear-requires c κs = let at = c .before .before .before .before in omega (arith, facts (at .pre .0 .0 .planned) .levels, at .pre .1)
-
 low-requires : tie.Need-low-requires Inv-loop μ-loop
 low-requires c κs = tt
 
 span-of-requires : tie.Need-span-of-requires Inv-loop μ-loop
 span-of-requires c κs = let at =
-    origin (c .before .before) in (at .pre .0 .0 .column, plan-limits (at .pre .0 .0 .planned) .width, plan-limits (at .pre .0 .0 .planned) .radius)
+    c .before .before .before in (at .pre .0 .0 .column, plan-limits (at .pre .0 .0 .planned) .width, plan-limits (at .pre .0 .0 .planned) .radius)
 
 loop-holds : tie.Need-loop-holds Inv-loop μ-loop
-loop-holds c =
-    let e = c .before .before .before in
-    let at = origin e in
-    (omega arith, columns-start (at .args .file .now) (at .args .plan) (at .args .s) (at .args .t) (c .before .low .result) (cleared e))
+loop-holds c = let at = c .before .before .before .before in (omega arith, columns-start _ _ _ _ _ _ (at .pre .1 .0))
 
 add-column-line : tie.Need-add-column-line Inv-loop μ-loop
 add-column-line c = let at = start (c .before) in omega (arith, wide c, plan-limits (at .pre .0 .0 .planned) .width)
@@ -133,7 +99,9 @@ add-pixels-requires : tie.Need-add-pixels-requires Inv-loop μ-loop
 add-pixels-requires c κs =
     let r = c .before .before .before .before in
     let h = turn r .before in
-    list-asks (start h .pre .0 .0) (start h .pre .0 .1) (listed r) (h .loop .inv .1) (room h) (few (turn r))
+    let at = start h in
+    let q = list-asks (at .pre .0 .0) (at .pre .0 .1) (listed r) (h .loop .inv .1) (at .pre .1 .1) (few (turn r)) in
+    (q .0, q .1, at .pre .1 .2)
 
 add-k : tie.Need-add-k Inv-loop μ-loop
 add-k c = omega (arith, few (turn (list (c .before))))
@@ -145,31 +113,28 @@ loop-again : tie.Need-loop-again Inv-loop μ-loop
 loop-again c =
     let e = c .before in
     let r = list e in
-    let h = turn r .before in (
+    let h = turn r .before in
+    let at = start h in (
       omega (arith, turn r .loop-test .taken),
-      columns-next (start h .pre .0 .0) (start h .pre .0 .1) (listed r) (h .loop .inv .1) (line r .column-line .ensures) (e .add-pixels .ensures),
+      columns-next (at .pre .0 .0) (at .pre .0 .1) (listed r) (h .loop .inv .1) (line r .column-line .ensures) (e .add-pixels .ensures),
     )
 
 same-length : tie.Need-same-length Inv-loop μ-loop
-same-length c = let h = c .before in h .loop .inv .1 .long ∙ cleared (zeros h) .long
+same-length c = c .before .loop .inv .1 .long
 
 returns : tie.Need-returns Inv-loop μ-loop
 returns c =
     let h = c .before in
     let at = start h in
     let done : h .loop .k ≡ h .before .span-of .result = omega (arith, h .loop .inv .0, c .loop-test .left) in
-    columns-all (at .pre .0 .0) (at .pre .0 .1) (at .pre .1) (cleared (zeros h)) (h .before .before .low .ensures)
-    (done ∙ h .before .span-of .ensures) (h .loop .inv .1)
+    columns-all (at .pre .0 .0) (at .pre .0 .1) (h .before .before .low .ensures) (done ∙ h .before .span-of .ensures) (h .loop .inv .1)
 
-pub fill-by-spec : {M : Type 1} → statement M
-fill-by-spec =
+pub add-window-spec : {M : Type 1} → statement M
+add-window-spec =
     tie.close
     (tie.spec
     Inv-loop
     μ-loop
-    sub-clear
-    add-clear
-    clear-requires
     low-requires
     span-of-requires
     loop-holds

@@ -1,0 +1,49 @@
+-- The cause by what the two ends of the guides weigh is the window's.
+-- Assumes nothing.
+use mathlib.Core.Path.{_≡_, refl, sym, ap, ap₂, _∙_}
+use mathlib.Core.Bool.{Bool, true, false, _&&_, _||_}
+use mathlib.Core.Logic.{_⊎_, inl, inr}
+use Prim.Native.Nat.{ℕ, _-_, _≤_, _<_}
+use native.Mathlib.Omega.{arith}
+use lib.Dec.{eqb}
+use lib.IntN.{ℤ, pos}
+use lib.Signed.{_<ℤ_, _≤ℤ_, nonNeg}
+use borrow.Author.Tests.{eq-eqb, ne-eqb}
+use Rattle.spec.specs.declared.Settings.{Settings}
+use Rattle.spec.specs.declared.Cause.{Cause}
+use Rattle.spec.specs.declared.Cause.the-variants.{Ordinary, Hollow, NegativeAtZero, NegativeAtLast}
+use Rattle.spec.specs.Base.{if_then_else_}
+use Rattle.spec.specs.Frame.{Frame}
+use Rattle.spec.specs.Weight.{weightless, weight, monotone}
+use Rattle.spec.specs.Explain.{causeOf}
+use Rattle.spec.specs.Checks.{SettingsLimits}
+use Rattle.spec.proofs.Limits.{FrameLimits, Pixel}
+use Rattle.spec.proofs.Own.{weight-table}
+use Rattle.explain.specs.Cause.{causeBy}
+
+-- kind 1 has no negative weight, so that its kind need not be asked
+both-ends : {p : Frame} {s t : ℕ} → Pixel p s t → monotone p s t ≡ (nonNeg (weight p s t 0) && nonNeg (weight p s t (p .set .guides - 1)))
+unfolding monotone
+both-ends {p} {s} {t} k = go (k .good .sound .kinds)
+  where
+    go : ((p .set .kind ≡ 1) × (p .set .smoothing ≡ 0)) ⊎ ((p .set .kind ≡ 2) × (1 ≤ p .set .smoothing) × (p .set .smoothing ≤ 65025)) →
+        (eqb (p .set .kind) 1 || (nonNeg (weight p s t 0) && nonNeg (weight p s t (p .set .guides - 1))))
+        ≡ (nonNeg (weight p s t 0) && nonNeg (weight p s t (p .set .guides - 1)))
+    go (inl h) =
+        rw (eq-eqb (p .set .kind) 1 (h .0), weight-table p s t 0 (h .0), weight-table p s t (p .set .guides - 1) (h .0)) refl
+    go (inr h) = rw (ne-eqb (p .set .kind) 1 (λ e. omega (arith, h .0))) refl
+
+-- the three tests in one order and in the other
+tests : (h x y : Bool) → (if h then Hollow else if x then (if y then Ordinary else NegativeAtLast) else NegativeAtZero)
+    ≡ (if h then Hollow else if x && y then Ordinary else if x then NegativeAtLast else NegativeAtZero)
+tests true x y = refl
+tests false true true = refl
+tests false true false = refl
+tests false false y = refl
+
+pub cause-is : {p : Frame} {s t : ℕ} → Pixel p s t → causeBy (weightless p s t) (weight p s t 0) (weight p s t (p .set .guides - 1)) ≡ causeOf p s t
+unfolding causeBy causeOf
+cause-is {p} {s} {t} k =
+    tests (weightless p s t) (nonNeg (weight p s t 0)) (nonNeg (weight p s t (p .set .guides - 1)))
+    ∙ ap (λ (b : Bool). if weightless p s t then Hollow else if b then Ordinary else if nonNeg (weight p s t 0) then NegativeAtLast else NegativeAtZero)
+    (sym (both-ends k))

@@ -1,0 +1,2 @@
+pub mod HalfLaws
+pub mod CauseLaws

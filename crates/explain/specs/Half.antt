@@ -1,0 +1,38 @@
+-- The lowest of some levels at which their sums reach half of a total.
+-- Assumes nothing.
+use mathlib.Core.Path.{_≡_}
+use mathlib.Core.List.{List}
+use Prim.Native.Nat.{ℕ, suc, _≤_, _<_}
+use lib.ListN.{length, getD}
+use lib.IntN.{ℤ, pos, natAbs, _*ℤ_}
+use lib.Signed.{_≤ℤ_, _<ℤ_}
+use Rattle.spec.specs.Base.{sumℤ}
+use Rattle.spec.specs.Frame.{Frame}
+use Rattle.spec.specs.Median.{cumulative, answer}
+use Rattle.spec.specs.Explain.{cumulativeBelow}
+use Rattle.explain.specs.declared.Half.{Half}
+
+-- the sum of the first i
+unfoldable pub upTo : List ℤ → ℕ → ℤ
+upTo xs i = sumℤ (λ k. getD xs k (pos 0)) 0 i
+
+-- all of them together reach half of the total, and no sum is too large
+pub record HalfInReach (xs : List ℤ) (total : ℤ) : Type 0 where
+  pub few : length xs ≤ 1024
+  pub each : (i : ℕ) → i < length xs → natAbs (getD xs i (pos 0)) ≤ 173129780571075
+  pub small : (i : ℕ) → i ≤ length xs → natAbs (upTo xs i) ≤ 173129780571075
+  pub reaches : total ≤ℤ (pos 2 *ℤ upTo xs (length xs))
+
+-- r's level reaches it and none below does
+pub record HalfReached (xs : List ℤ) (total : ℤ) (r : Half) : Type 0 where
+  pub inside : r .level .0 < length xs
+  pub below : r .below ≡ upTo xs (r .level .0)
+  pub reached : r .reached ≡ upTo xs (suc (r .level .0))
+  pub reaches : total ≤ℤ (pos 2 *ℤ r .reached)
+  pub lowest : (i : ℕ) → i < r .level .0 → (pos 2 *ℤ upTo xs (suc i)) <ℤ total
+
+-- in the window at (s, t) that level is the answer
+pub record AnswerReached (p : Frame) (s t : ℕ) (r : Half) : Type 0 where
+  pub level : r .level .0 ≡ answer p s t
+  pub below : r .below ≡ cumulativeBelow p s t (answer p s t)
+  pub reached : r .reached ≡ cumulative p s t (answer p s t)
