@@ -11,7 +11,7 @@ use spec::Level;
 use spec::Plan;
 use weight_sums::Counting;
 use weight_sums::add_window;
-use weight_sums::counting;
+use weight_sums::weights_of;
 ghost use mathlib.Core.Path.{_≡_};
 ghost use Prim.Native.Nat.{_-_, _<_, _≤_};
 ghost use lib.ListN.{length};
@@ -103,7 +103,7 @@ pub fn grounds(file: &[u8], plan: Plan, s: usize, t: usize) -> Grounds
     ensures { λ r. ⌜ Grounded (frameOf (now (file .entry))) s t r ⌝ }
 {
     let mut row = [0u16; 256];
-    let counted = counting(file, plan, s, t, &mut row);
+    let counted = weights_of(file, plan, s, t, &mut row);
     let formula = counted.formula;
     let last = Level((plan.levels - 1) as u16);
     let total = window_balance(file, plan, &row, formula, s, t, last);

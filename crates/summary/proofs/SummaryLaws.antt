@@ -3,9 +3,9 @@
 use mathlib.Core.Path.{_≡_, refl, sym, ap, ap₂, _∙_, subst}
 use mathlib.Core.Logic.{⊎-elim}
 use mathlib.Core.List.{List, _++_}
-use Prim.Native.Nat.{ℕ, _+_, _≤_, _<_}
+use Prim.Native.Nat.{ℕ, _+_, _-_, _/_, _≤_, _<_}
 use native.Mathlib.Omega.{arith}
-use lib.ListN.{length, getD, set, take, drop, length-set}
+use lib.ListN.{length, getD, set, take, drop, length-set, length-append, length-drop, List·getD-eq-default}
 use lib.Seq.{getD-set-same, getD-set-other, drop-set-lt, ext-getD, length-take-le, getD-take}
 use lib.IntN.{ℤ, pos}
 use Rattle.ints.specs.Order.{eq-or-ne, lt-or-le}
@@ -36,3 +36,33 @@ unfolding summary blockWeight weightIn blockOf
 gathered-summary {p} {s} {t} {xs} {ys} long g =
     ext-getD (pos 0) ys (summary p s t) (g .long ∙ long ∙ sym (length-tabulate (blockCount (p .set)) (blockWeight p s t)))
     (λ j l. g .blocks j ∙ sym (getD-tabulate (blockCount (p .set)) (blockWeight p s t) j (pos 0) (omega (arith, g .long, long))))
+
+-- ---- the part of a summary that is gathered into
+module _ {n : ℕ} {xs ys : List ℤ} (room : n ≤ length xs) (g : Cleared n n xs ys) where
+  part-long : length (take n ys) ≡ n
+  part-long = length-take-le n ys (omega (arith, g .long))
+
+  -- from place 0 on
+  from-zero : n - 0 ≡ n
+  from-zero = omega arith
+
+  part-is : take (n - 0) (drop 0 ys) ≡ take n ys
+  part-is = ap (λ (k : ℕ). take k ys) from-zero
+
+  pub zeros-part : Zeros (take (n - 0) (drop 0 ys))
+  zeros-part = rw part-is (record {
+    zero = λ b. ⊎-elim (λ h. getD-take n ys b (pos 0) h ∙ g .zeros b h) (λ h. List·getD-eq-default (take n ys) (pos 0) (omega (arith, part-long)))
+        (lt-or-le b n);
+  })
+
+  pub blocks-part : (levels : ℕ) → n ≡ (levels + 15) / 16 → BlocksFit 16 levels (take (n - 0) (drop 0 ys))
+  unfolding blockOf
+  blocks-part levels e = rw part-is (record { inside = λ i l. omega (arith, part-long) })
+
+  -- with the sums in it, and what lies beyond
+  pub filled : {p : Frame} {s t : ℕ} {zs : List ℤ} → n ≡ blockCount (p .set) → Gathered 16 p s t (take (n - 0) (drop 0 ys)) zs
+      → zs ++ drop (n - 0) (drop 0 ys) ≡ summary p s t ++ drop (blockCount (p .set)) xs
+  filled e h = ap₂ _++_ (gathered-summary (ap length part-is ∙ part-long ∙ e) h) (ap (λ (k : ℕ). drop k ys) from-zero ∙ g .rest ∙ ap (λ (k : ℕ). drop k xs) e)
+
+  pub filled-long : {p : Frame} {s t : ℕ} {zs : List ℤ} → Gathered 16 p s t (take (n - 0) (drop 0 ys)) zs → length (zs ++ drop (n - 0) (drop 0 ys)) ≡ length xs
+  filled-long {zs = zs} h = length-append zs (drop (n - 0) (drop 0 ys)) ∙ omega (arith, h .long, ap length part-is, part-long, length-drop (n - 0) ys, g .long)

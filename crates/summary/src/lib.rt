@@ -1,7 +1,7 @@
 // Way 4's summary of a window: its weight sums over blocks of 16 levels, from the file alone.
 use spec::Plan;
 use weight_sums::add_window;
-use weight_sums::counting;
+use weight_sums::weights_of;
 ghost use mathlib.Core.Path.{_≡_};
 ghost use mathlib.Core.List.{_++_};
 ghost use Prim.Native.Nat.{_<_, _≤_};
@@ -35,7 +35,7 @@ pub fn fill(file: &[u8], plan: Plan, s: usize, t: usize, summary: &mut [i64])
     let n = (plan.levels + (BLOCK - 1)) / BLOCK;
     clear(summary, n);
     let mut row = [0u16; 256];
-    let c = counting(file, plan, s, t, &mut row);
+    let c = weights_of(file, plan, s, t, &mut row);
     let formula = c.formula;
     add_window(
         file,

@@ -51,7 +51,7 @@ added-none width p ns w xs = record {
   blocks = λ b. rw (pixels-none _+ℤ_ (pos 0) p (blockShare width ns w b)) (sym (+ℤ-idr (getD xs b (pos 0))));
 }
 
-module _ {width : ℕ} {p ns : List ℕ} {w : Formula} (v : PixelsWeighed p ns w) where
+module _ (width : ℕ) {p ns : List ℕ} {w : Formula} (v : PixelsWeighed p ns w) where
   abbrev added : ℕ → ℕ → ℤ
   added b k = pixelFoldTo _+ℤ_ (pos 0) p (blockShare width ns w b) k
 
@@ -135,8 +135,8 @@ columns-start width b z s t x g = record {
   low = λ j. rw (g .zero j) (omega arith);
 }
 
-module _ {b : List ℕ} {z : Plan} {s t : ℕ} {ns : List ℕ} {w : Formula} (wd : Weighed b z s t ns w) (gives : Weighs (frameOf b) s t ns w)
-    {width : ℕ} where
+module _ (width : ℕ) {b : List ℕ} {z : Plan} {s t : ℕ} {ns : List ℕ} {w : Formula} (wd : Weighed b z s t ns w)
+    (gives : Weighs (frameOf b) s t ns w) where
   -- a column's list p
   module _ {d : Line} {p : List ℕ} (v : LinePixels b z d p) where
     list-adds : (j : ℕ) → pixelFold _+ℤ_ (pos 0) p (blockShare width ns w j) ≡ pixelFold _+ℤ_ (pos 0) p (windowShare width (frameOf b) s t j)
@@ -168,7 +168,7 @@ module _ {b : List ℕ} {z : Plan} {s t : ℕ} {ns : List ℕ} {w : Formula} (wd
           arith,
           abs-add (getD ys j (pos 0)) (pixelFold _+ℤ_ (pos 0) p (blockShare width ns w j)),
           g .low j,
-          list-small (pixels-weighed wd v) j,
+          list-small width (pixels-weighed wd v) j,
         ));
       }
 

@@ -29,7 +29,7 @@ pub struct Counting {
 }
 
 // The row and the formula of the window at (s, t), whatever the row held. Each pixel of a hollow window weighs 1; kind 2 has none.
-pub fn counting(file: &[u8], plan: Plan, s: usize, t: usize, row: &mut [u16; 256]) -> Counting
+pub fn weights_of(file: &[u8], plan: Plan, s: usize, t: usize, row: &mut [u16; 256]) -> Counting
     requires { ⌜ (Planned (now file) plan) × (s < plan .width) × (t < plan .height) × (length (now row) ≡ 256) ⌝ }
     ensures { λ r. ⌜ CountedBy (frameOf (now (file .entry))) s t (now (row .exit)) r ⌝ }
 {

@@ -49,10 +49,16 @@ number-low : (c : tie.After-shared-slice-known5 Inv-loop μ-loop) → let t = tu
 number-low c = let t = turn (c .before) in let at =
     start (t .before) in omega (arith, c .shared-slice-known5 .given (guideIn (at .args .p .now) (t .before .loop .k)))
 
--- its block is among the numbers
+-- its block is among the sums
 placed : (t : tie.In-loop Inv-loop μ-loop) → let at = start (t .before) in
-    blockOf (2 ^ at .args .bits) (levelIn (at .args .p .now) (t .before .loop .k)) < length (t .before .loop .sums)
-placed t = let at = start (t .before) in place-in (at .pre .0) (at .pre .1) (t .loop-test .taken) (t .before .loop .inv .1)
+    levelIn (at .args .p .now) (t .before .loop .k) / 2 ^ at .args .bits < length (t .before .loop .sums)
+unfolding blockOf
+placed t = let at = start (t .before) in place-in (2 ^ at .args .bits) (at .pre .0) (at .pre .1) (t .loop-test .taken) (t .before .loop .inv .1)
+
+-- so its place has 64 bits
+place-low : (t : tie.In-loop Inv-loop μ-loop) → let at = start (t .before) in
+    (levelIn (at .args .p .now) (t .before .loop .k) / 2 ^ at .args .bits) * 8 < 2 ^ 64
+place-low t = let h = t .before in let at = start h in omega (arith, placed t, h .loop .inv .1 .long, at .good)
 
 loop-holds : tie.Need-loop-holds Inv-loop μ-loop
 loop-holds c = (omega arith, added-none _ _ _ _ _)
@@ -71,6 +77,9 @@ shared-slice-read-x c = let t = c .before in places-in (start (t .before) .args 
 
 cast-b : tie.Need-cast-b Inv-loop μ-loop
 cast-b c = omega (arith, numbers (c .before))
+
+shr-b : tie.Need-shr-b Inv-loop μ-loop
+shr-b c = omega (arith, start (c .before .before .before) .pre .2)
 
 mul-x-2 : tie.Need-mul-x-2 Inv-loop μ-loop
 mul-x-2 c = omega (arith, turn-low (c .before .before))
@@ -105,21 +114,22 @@ weighed e =
     weight-is (start (t .before) .pre .0) 0 (t .loop-test .taken) (number-low (read e)) (e .weigh .result) (e .weigh .ensures)
 
 mul-add : tie.Need-mul-add Inv-loop μ-loop
-mul-add c = omega (arith, numbers (read c .before .before .before .before))
+mul-add c = omega (arith, place-low (turn (read c .before)))
 
 slice-copy-out-add : tie.Need-slice-copy-out-add Inv-loop μ-loop
 slice-copy-out-add c = omega (arith, placed (turn (read c .before)))
 
 add-requires : tie.Need-add-requires Inv-loop μ-loop
+unfolding blockOf
 add-requires c κs =
     let e = c .before in
     let t = turn (read e .before) in
     let at = start (t .before) in
-    let q = sum-asks (at .pre .0) (at .pre .1) (t .loop-test .taken) (t .before .loop .inv .1) (e .weigh .result) (weighed e) in
+    let q = sum-asks (2 ^ at .args .bits) (at .pre .0) (at .pre .1) (t .loop-test .taken) (t .before .loop .inv .1) (e .weigh .result) (weighed e) in
     (q .0, omega (arith, q .1))
 
-mul-t15 : tie.Need-mul-t15 Inv-loop μ-loop
-mul-t15 c = omega (arith, numbers (read (c .before .before) .before .before .before .before))
+mul-t21 : tie.Need-mul-t21 Inv-loop μ-loop
+mul-t21 c = omega (arith, place-low (turn (read (c .before .before) .before)))
 
 slice-set-from-sums : tie.Need-slice-set-from-sums Inv-loop μ-loop
 slice-set-from-sums c = omega (arith, placed (turn (read (c .before .before) .before)))
@@ -131,12 +141,13 @@ loop-less : tie.Need-loop-less Inv-loop μ-loop
 loop-less c = omega (arith, turn (read (c .before .before) .before) .loop-test .taken)
 
 loop-again : tie.Need-loop-again Inv-loop μ-loop
+unfolding blockOf
 loop-again c =
     let e = c .before .before in
     let t = turn (read e .before) in
     let at = start (t .before) in (
       omega (arith, t .loop-test .taken),
-      added-next (at .pre .0) (at .pre .1) (t .loop-test .taken) (t .before .loop .inv .1) (e .weigh .result) (weighed e)
+      added-next (2 ^ at .args .bits) (at .pre .0) (at .pre .1) (t .loop-test .taken) (t .before .loop .inv .1) (e .weigh .result) (weighed e)
           (c .add .result) (c .add .ok) (c .add .ensures),
     )
 
@@ -163,6 +174,7 @@ add-pixels-spec =
     mul-x
     shared-slice-read-x
     cast-b
+    shr-b
     mul-x-2
     shared-slice-read-x-2
     cast-x
@@ -173,7 +185,7 @@ add-pixels-spec =
     mul-add
     slice-copy-out-add
     add-requires
-    mul-t15
+    mul-t21
     slice-set-from-sums
     add-k
     loop-less

@@ -19,7 +19,7 @@ abbrev μ-loop : tie.MeasureT-loop
 μ-loop file plan weights formula s t bits sums₀ x n k₀ sums k = n - k
 
 abbrev start : tie.At-loop Inv-loop μ-loop → tie.Start Inv-loop μ-loop
-start h = h .before .before .before .before
+start h = h .before .before .before .before .before
 
 -- the column that a turn adds is in the picture, and the columns are few
 wide : (c : tie.In-loop Inv-loop μ-loop) → c .before .before .before .low .result + c .before .loop .k < (start (c .before)) .args .plan .width
@@ -100,7 +100,7 @@ add-pixels-requires c κs =
     let r = c .before .before .before .before in
     let h = turn r .before in
     let at = start h in
-    let q = list-asks (at .pre .0 .0) (at .pre .0 .1) (listed r) (h .loop .inv .1) (at .pre .1 .1) (few (turn r)) in
+    let q = list-asks (2 ^ at .args .bits) (at .pre .0 .0) (at .pre .0 .1) (listed r) (h .loop .inv .1) (at .pre .1 .1) (few (turn r)) in
     (q .0, q .1, at .pre .1 .2)
 
 add-k : tie.Need-add-k Inv-loop μ-loop
@@ -116,7 +116,7 @@ loop-again c =
     let h = turn r .before in
     let at = start h in (
       omega (arith, turn r .loop-test .taken),
-      columns-next (at .pre .0 .0) (at .pre .0 .1) (listed r) (h .loop .inv .1) (line r .column-line .ensures) (e .add-pixels .ensures),
+      columns-next (2 ^ at .args .bits) (at .pre .0 .0) (at .pre .0 .1) (listed r) (h .loop .inv .1) (line r .column-line .ensures) (e .add-pixels .ensures),
     )
 
 same-length : tie.Need-same-length Inv-loop μ-loop
@@ -127,7 +127,7 @@ returns c =
     let h = c .before in
     let at = start h in
     let done : h .loop .k ≡ h .before .span-of .result = omega (arith, h .loop .inv .0, c .loop-test .left) in
-    columns-all (at .pre .0 .0) (at .pre .0 .1) (h .before .before .low .ensures) (done ∙ h .before .span-of .ensures) (h .loop .inv .1)
+    columns-all (2 ^ at .args .bits) (at .pre .0 .0) (at .pre .0 .1) (h .before .before .low .ensures) (done ∙ h .before .span-of .ensures) (h .loop .inv .1)
 
 pub add-window-spec : {M : Type 1} → statement M
 add-window-spec =
