@@ -7,11 +7,12 @@ use Prim.Native.Nat.{ℕ, zero, suc, _+_, _-_, _*_, _≤_, _<_}
 use native.Mathlib.Nat.{zero-add, div-one}
 use native.Mathlib.Omega.{arith}
 use lib.Dec.{eqb}
-use lib.ListN.{length, getD}
+use lib.ListN.{length, getD, replicate, getD-replicate, length-replicate, List·getD-eq-default}
 use lib.IntN.{ℤ, pos, natAbs, _+ℤ_, _*ℤ_}
 use lib.Signed.{_≤ℤ_, _<ℤ_, clashℤ}
-use Rattle.ints.specs.Order.{lt-or-le, eq-or-ne}
+use Rattle.ints.specs.Order.{add-parts, lt-or-le, eq-or-ne}
 use Rattle.ints.specs.Linear.{ints}
+use Rattle.ints.specs.Polynomial.{_⊕_, _⊗_, #_, _≐_, solve1}
 use Rattle.spec.specs.Base.{if_then_else_, fold}
 use Rattle.spec.specs.declared.Settings.{Settings}
 use Rattle.spec.specs.Frame.{Frame, level, guide}
@@ -25,13 +26,17 @@ use Rattle.spec.proofs.Limits.{FrameLimits, Pixel}
 use Rattle.spec.proofs.Own.{total-pos}
 use Rattle.spec.proofs.Levels.{levelWeight, cumulative-all, cumulative-last}
 use Rattle.spec.proofs.Totals.{median-is, le-balance, lt-balance, answer-median}
-use Rattle.spec.proofs.Bounds.{level-abs, cumulative-abs}
+use Rattle.spec.proofs.Bounds.{total-abs, level-abs, cumulative-abs}
 use Rattle.spec.proofs.Climb.{cumulativeBelow-zero, cumulativeBelow-suc, cumulativeBelow-next}
 use Rattle.balance.specs.declared.formula.Formula.{Formula}
 use Rattle.balance.specs.Formula.{Weighs}
-use Rattle.weight_sums.specs.Sums.{blockOf, weightIn, Gathered}
+use Rattle.weight_sums.specs.Sums.{blockOf, weightIn, Zeros, BlocksFit, Gathered}
 use Rattle.explain.specs.declared.Half.{Half}
 use Rattle.explain.specs.Half.{upTo, HalfInReach, HalfReached, AnswerReached}
+
+-- ---- twice a number
+pub twice : (u : ℤ) → pos 2 *ℤ u ≡ u +ℤ u
+twice = solve1 (λ u. # 2 ⊗ u ≐ u ⊕ u) refl
 
 -- ---- sums of lists
 pub upTo-none : (xs : List ℤ) → upTo xs 0 ≡ pos 0
@@ -47,6 +52,30 @@ pub short-next : (xs : List ℤ) (total : ℤ) (i : ℕ) → ((j : ℕ) → j < 
     → (j : ℕ) → j < i + 1 → (pos 2 *ℤ upTo xs (suc j)) <ℤ total
 short-next xs total i before here j h =
     ⊎-elim (λ e. subst (λ (k : ℕ). (pos 2 *ℤ upTo xs (suc k)) <ℤ total) (sym e) here) (λ d. before j (omega arith)) (eq-or-ne j i)
+
+-- not all of them do
+pub not-all-short : {xs : List ℤ} {total : ℤ} → HalfInReach xs total → ((j : ℕ) → j < length xs → (pos 2 *ℤ upTo xs (suc j)) <ℤ total) → ⊥
+not-all-short {xs} {total} h short =
+    let last : suc (length xs - 1) ≡ length xs = omega (arith, h .some) in
+    clashℤ (subst (λ (n : ℕ). (pos 2 *ℤ upTo xs n) <ℤ total) last (short (length xs - 1) (omega (arith, h .some)))) (h .reaches)
+
+-- ---- T and U have 64 bits
+weights-low : (p : Frame) (s t : ℕ) {row : List ℕ} {formula : Formula} → Weighs p s t row formula → (f : ℕ) → f < p .set .guides
+    → natAbs (weight p s t f) ≤ 180155859075
+weights-low p s t w f h = rw (w .is f h) (w .fits .low f h)
+
+pub total-small : {p : Frame} {s t : ℕ} → Pixel p s t → {row : List ℕ} {formula : Formula} → Weighs p s t row formula
+    → natAbs (totalWeight p s t) ≤ 173129780571075
+total-small {p} {s} {t} k w = omega (arith, total-abs k 180155859075 (weights-low p s t w))
+
+pub reached-small : {p : Frame} {s t : ℕ} → Pixel p s t → {row : List ℕ} {formula : Formula} → Weighs p s t row formula → (i : ℕ)
+    → natAbs (cumulative p s t i) ≤ 173129780571075
+reached-small {p} {s} {t} k w i = omega (arith, cumulative-abs k 180155859075 (weights-low p s t w) i)
+
+pub below-small : {p : Frame} {s t : ℕ} → Pixel p s t → {row : List ℕ} {formula : Formula} → Weighs p s t row formula → (i : ℕ)
+    → natAbs (cumulativeBelow p s t i) ≤ 173129780571075
+below-small {p} {s} {t} k w zero = rw (cumulativeBelow-zero p s t) (omega arith)
+below-small {p} {s} {t} k w (suc i) = rw (cumulativeBelow-suc p s t i) (reached-small k w i)
 
 -- ---- a window's levels
 module _ {p : Frame} {s t : ℕ} (k : Pixel p s t) {xs ys : List ℤ} (g : Gathered 1 p s t xs ys) where
@@ -68,19 +97,14 @@ module _ {p : Frame} {s t : ℕ} (k : Pixel p s t) {xs ys : List ℤ} (g : Gathe
   -- no sum is too large, and all of them reach T
   pub in-reach : {row : List ℕ} {formula : Formula} → Weighs p s t row formula → length xs ≡ 1024 → HalfInReach ys (totalWeight p s t)
   in-reach w long = record {
+    some = omega (arith, g .long);
     few = omega (arith, g .long);
-    each = λ i h. rw (by-level i) (omega (arith, level-abs k 180155859075 low i));
-    small = λ i h. sized i;
-    reaches = subst (λ (u : ℤ). totalWeight p s t ≤ℤ (pos 2 *ℤ u)) (sym all) (let h = total-pos k in omega (arith, ints, h));
+    each = λ i h. rw (by-level i) (omega (arith, level-abs k 180155859075 (weights-low p s t w) i));
+    small = λ i h. rw (below-is i) (below-small k w i);
+    total-small = total-small k w;
+    reaches = subst (λ (u : ℤ). totalWeight p s t ≤ℤ (pos 2 *ℤ u)) (sym all) (rw (twice (totalWeight p s t)) (let h = total-pos k in omega (arith, ints, h, add-parts (totalWeight p s t) (totalWeight p s t))));
   }
     where
-      low : (f : ℕ) → f < p .set .guides → natAbs (weight p s t f) ≤ 180155859075
-      low f h = rw (w .is f h) (w .fits .low f h)
-
-      sized : (i : ℕ) → natAbs (upTo ys i) ≤ 173129780571075
-      sized zero = rw (upTo-none ys) (omega arith)
-      sized (suc i) = rw (reached-is i) (omega (arith, cumulative-abs k 180155859075 low i))
-
       all : upTo ys (length ys) ≡ totalWeight p s t
       all = ap (upTo ys) (g .long ∙ long) ∙ reached-is 1023
           ∙ cumulative-all p s t 1023 (λ x y h. omega (arith, k .good .level-low x y (h .wide) (h .high), k .good .sound .levels-high))
@@ -107,10 +131,20 @@ module _ {p : Frame} {s t : ℕ} (k : Pixel p s t) {xs ys : List ℤ} (g : Gathe
           clash q =
               let h = total-pos k in
               let z = subst (λ (u : ℤ). (pos 2 *ℤ u) <ℤ totalWeight p s t) (cumulative-last k) q in
-              absurd (omega (arith, ints, h, z))
+              let y = rw (twice (totalWeight p s t)) at z in
+              absurd (omega (arith, ints, h, y, add-parts (totalWeight p s t) (totalWeight p s t)))
 
       is : answer p s t ≡ m
       is = answer-median p s t
           ∙ median-is p s t m inside
           (le-balance p s t m (subst (λ (u : ℤ). totalWeight p s t ≤ℤ (pos 2 *ℤ u)) (h .reached ∙ reached-is m) (h .reaches)))
           (λ i l. lt-balance p s t i (short i l))
+
+-- ---- the array of sums
+pub zeros-made : (n : ℕ) → Zeros (replicate n (pos 0))
+zeros-made n = record { zero = λ b. ⊎-elim (λ h. getD-replicate n b (pos 0) (pos 0) h) (λ h. List·getD-eq-default (replicate n (pos 0)) (pos 0)
+    (omega (arith, length-replicate {A = ℤ} n (pos 0)))) (lt-or-le b n) }
+
+pub levels-fit : {levels : ℕ} → levels ≤ 1024 → BlocksFit 1 levels (replicate 1024 (pos 0))
+unfolding blockOf
+levels-fit h = record { inside = λ i l. omega (arith, div-one i, length-replicate {A = ℤ} 1024 (pos 0)) }

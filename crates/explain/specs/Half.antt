@@ -18,9 +18,11 @@ upTo xs i = sumℤ (λ k. getD xs k (pos 0)) 0 i
 
 -- all of them together reach half of the total, and no sum is too large
 pub record HalfInReach (xs : List ℤ) (total : ℤ) : Type 0 where
+  pub some : 1 ≤ length xs
   pub few : length xs ≤ 1024
   pub each : (i : ℕ) → i < length xs → natAbs (getD xs i (pos 0)) ≤ 173129780571075
   pub small : (i : ℕ) → i ≤ length xs → natAbs (upTo xs i) ≤ 173129780571075
+  pub total-small : natAbs total ≤ 173129780571075
   pub reaches : total ≤ℤ (pos 2 *ℤ upTo xs (length xs))
 
 -- r's level reaches it and none below does

@@ -7,6 +7,7 @@ use balance::window_balance;
 use pixels::sums;
 use spec::Cause;
 use spec::Grounds;
+use spec::Guide;
 use spec::Level;
 use spec::Plan;
 use weight_sums::Counting;
@@ -20,7 +21,7 @@ ghost use Rattle.spec.specs.Frame.{frameOf};
 ghost use Rattle.spec.specs.Checks.{Planned};
 ghost use Rattle.spec.specs.Median.{totalWeight};
 ghost use Rattle.spec.specs.Explain.{Grounded};
-ghost use Rattle.balance.specs.Formula.{FormulaFits, weightBy, Weighs};
+ghost use Rattle.balance.specs.Formula.{FormulaInBounds, FormulaFits, weightBy, Weighs};
 ghost use Rattle.balance.specs.Balance.{Weighed};
 ghost use Rattle.explain.specs.Half.{HalfInReach, HalfReached, AnswerReached};
 ghost use Rattle.explain.specs.Cause.{causeBy};
@@ -33,7 +34,7 @@ pub struct Half {
 }
 
 // Level by level, from 0 on: a sum may fall again where weights are negative, so none is passed over.
-pub fn half(sums: &[i64], total: i64) -> Half
+pub fn reach_half(sums: &[i64], total: i64) -> Half
     requires { ⌜ HalfInReach (now sums) total ⌝ }
     ensures { λ r. ⌜ HalfReached (now (sums .entry)) total r ⌝ }
 {
@@ -60,7 +61,7 @@ pub fn half(sums: &[i64], total: i64) -> Half
 }
 
 // The answer of the window at (s, t), by a row of weights.
-pub fn window_half(
+pub fn answer_half(
     file: &[u8],
     plan: Plan,
     weights: &[u16],
@@ -75,12 +76,21 @@ pub fn window_half(
 {
     let mut sums = [0i64; 1024];
     add_window(file, plan, weights, formula, s, t, 0, &mut sums);
-    half(&sums, total)
+    reach_half(&sums, total)
+}
+
+// What a guide weighs, by a row of weights.
+pub fn weight_of(row: &[u16], formula: Formula, g: Guide) -> i64
+    requires { ⌜ (FormulaInBounds formula) × (g .0 < length (now row)) ⌝ }
+    ensures { λ r. ⌜ r ≡ weightBy (now (row .entry)) formula (g .0) ⌝ }
+{
+    let x = row[g.0 as usize] as i64;
+    formula::weigh(formula.slope, formula.offset, x)
 }
 
 // The cause, from what the two ends of m guides weigh.
-pub fn cause(row: &[u16], counted: Counting, m: usize) -> Cause
-    requires { ⌜ (FormulaFits m (now row) (counted .formula)) × (2 ≤ m) ⌝ }
+pub fn cause_of(row: &[u16], counted: Counting, m: usize) -> Cause
+    requires { ⌜ (FormulaFits m (now row) (counted .formula)) × (2 ≤ m) × (m ≤ 256) ⌝ }
     ensures { λ r. ⌜ r ≡ causeBy (counted .hollow) (weightBy (now (row .entry)) (counted .formula) 0)
         (weightBy (now (row .entry)) (counted .formula) (m - 1)) ⌝ }
 {
@@ -88,10 +98,10 @@ pub fn cause(row: &[u16], counted: Counting, m: usize) -> Cause
         return Cause::Hollow;
     }
     let formula = counted.formula;
-    if formula::weigh(formula.slope, formula.offset, row[0] as i64) < 0 {
+    if weight_of(row, formula, Guide(0)) < 0 {
         return Cause::NegativeAtZero;
     }
-    if formula::weigh(formula.slope, formula.offset, row[m - 1] as i64) < 0 {
+    if weight_of(row, formula, Guide((m - 1) as u16)) < 0 {
         return Cause::NegativeAtLast;
     }
     Cause::Ordinary
@@ -107,15 +117,16 @@ pub fn grounds(file: &[u8], plan: Plan, s: usize, t: usize) -> Grounds
     let formula = counted.formula;
     let last = Level((plan.levels - 1) as u16);
     let total = window_balance(file, plan, &row, formula, s, t, last);
-    let reached = window_half(file, plan, &row, formula, s, t, total);
-    let why = cause(&row, counted, plan.guides);
+    let reached = answer_half(file, plan, &row, formula, s, t, total);
+    let level = reached.level;
+    let cause = cause_of(&row, counted, plan.guides);
     let a = sums::start(file, plan, s, t);
     Grounds {
         pixels: a.count,
         total,
-        level: reached.level,
+        level,
         below: reached.below,
         reached: reached.reached,
-        cause: why,
+        cause,
     }
 }
