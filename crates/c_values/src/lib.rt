@@ -76,12 +76,16 @@ pub fn give_grounds(
         (lentGrounds (now (pixels .exit)) (now (total .exit)) (now (level .exit)) (now (below .exit)) (now (reached .exit)) (now (cause .exit))) ⌝ }
 {
     if let Verdict::Accepted = verdict {
+        let all = grounds.total;
+        let less = grounds.below;
+        let enough = grounds.reached;
+        let why = grounds.cause;
         *pixels = grounds.pixels;
-        *total = grounds.total;
+        *total = all;
         *level = grounds.level.0;
-        *below = grounds.below;
-        *reached = grounds.reached;
-        *cause = cause_number(grounds.cause);
+        *below = less;
+        *reached = enough;
+        *cause = cause_number(why);
     }
 }
 

@@ -1,6 +1,5 @@
 -- `explain` meets its contract: who decides, the file's checks or the call's own, or none. Assumes nothing.
-use mathlib.Core.Path.{_≡_, refl, sym, ap, _∙_}
-use mir.Facts.{toZ-ofZ}
+use mathlib.Core.Path.{_≡_, sym, _∙_}
 use Rattle.spec.specs.declared.Settings.{Settings}
 use Rattle.spec.specs.Refusal.{Outcome, accepted, numbered}
 use Rattle.spec.specs.Frame.{settingsOf}
@@ -43,7 +42,13 @@ unexplained-requires c κs = search needs
 
 returns : tie.Need-returns
 unfolding explainOutcome
-returns c = search needs
+returns c =
+    let t = c .before in
+    let o = t .before .before in
+    let at = o .before .before in
+    let f = known (t .before .stops .ensures) (t .if1 .taken) in
+    explains-refused _ _ _ (o .open-plan .result .verdict) _ (c .unexplained .ensures) f
+    (file-decides (at .args .file .now) (own at (settingsOf (at .args .file .now))) (o .open-plan .result .verdict) (o .open-plan .ensures .0) f)
 
 explain-verdict-requires : tie.Need-explain-verdict-requires
 explain-verdict-requires c κs = search needs
@@ -56,14 +61,24 @@ unexplained-requires-2 c κs = search needs
 
 returns-2 : tie.Need-returns-2
 unfolding explainOutcome
-returns-2 c = search needs
+returns-2 c =
+    let t = c .before in
+    let w = t .before .before in
+    let i = w .before .before in
+    let o = i .before .before in
+    let at = o .before .before in
+    let k = planned-of (o .open-plan .result) (o .open-plan .ensures) (known (i .before .stops .ensures) (i .if1 .left)) in
+    let f = known (t .before .stops2 .ensures) (t .if2 .taken) in
+    explains-refused _ _ _ (w .explain-verdict .result) _ (c .unexplained2 .ensures) f (w .explain-verdict .ensures ∙ own-decides k (own at))
 
 grounds-requires : tie.Need-grounds-requires
 grounds-requires c κs = let k = plan-at c in let q = explain-granted k _ _ (outcome-at c) in (k, q .0, q .1)
 
 returns-3 : tie.Need-returns-3
 unfolding explainOutcome
-returns-3 c = search needs
+returns-3 c =
+    let d = c .before in
+    explains-done _ _ _ _ (d .before .before .explain-verdict .ensures ∙ own-decides (plan-at d) (own (start d))) (outcome-at d) (c .grounds .ensures)
 
 pub explain-spec : {M : Type 1} → statement M
 explain-spec =
