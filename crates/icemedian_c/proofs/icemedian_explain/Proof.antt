@@ -13,7 +13,9 @@ give-grounds-requires : tie.Need-give-grounds-requires
 give-grounds-requires c κs = search needs
 
 returns : tie.Need-returns
-returns c = search needs
+returns c =
+    let r = c .before .before .before .before .before .before .before .before in
+    explain-called (r .before .before .explain .ensures) (r .report .ensures) (c .give-grounds .ensures)
 
 pub icemedian-explain-spec : {M : Type 1} → statement M
 icemedian-explain-spec = tie.close (tie.spec explain-requires report-requires give-grounds-requires returns)
