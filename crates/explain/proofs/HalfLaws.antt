@@ -142,8 +142,10 @@ module _ {p : Frame} {s t : ℕ} (k : Pixel p s t) {xs ys : List ℤ} (g : Gathe
 
 -- ---- the array of sums
 pub zeros-made : (n : ℕ) → Zeros (replicate n (pos 0))
-zeros-made n = record { zero = λ b. ⊎-elim (λ h. getD-replicate n b (pos 0) (pos 0) h) (λ h. List·getD-eq-default (replicate n (pos 0)) (pos 0)
-    (omega (arith, length-replicate {A = ℤ} n (pos 0)))) (lt-or-le b n) }
+zeros-made n = record {
+  zero = λ b. ⊎-elim (λ h. getD-replicate n b (pos 0) (pos 0) h) (λ h. List·getD-eq-default (replicate n (pos 0)) (pos 0)
+      (omega (arith, length-replicate {A = ℤ} n (pos 0)))) (lt-or-le b n);
+}
 
 pub levels-fit : {levels : ℕ} → levels ≤ 1024 → BlocksFit 1 levels (replicate 1024 (pos 0))
 unfolding blockOf

@@ -99,8 +99,11 @@ module _ {p : Frame} {s t : ℕ} (k : Pixel p s t) where
     where
       end : (b : Bool) → nonNeg (weight p s t 0) ≡ b → weightless p s t ≡ false → monotone p s t ≡ false
           → Applies p s t (if b then NegativeAtLast else NegativeAtZero)
-      end true first e m = (m, subst (λ (z : ℤ). z <ℤ pos 0) (weight-own p s t (p .set .guides - 1) e)
-          (negative (weight p s t (p .set .guides - 1)) (last (unmet (eqb (p .set .kind) 1) (nonNeg (weight p s t 0)) (nonNeg (weight p s t (p .set .guides - 1))) m .1))))
+      end true first e m = (
+        m,
+        subst (λ (z : ℤ). z <ℤ pos 0) (weight-own p s t (p .set .guides - 1) e)
+            (negative (weight p s t (p .set .guides - 1)) (last (unmet (eqb (p .set .kind) 1) (nonNeg (weight p s t 0)) (nonNeg (weight p s t (p .set .guides - 1))) m .1))),
+      )
         where
           last : (nonNeg (weight p s t 0) ≡ false) ⊎ (nonNeg (weight p s t (p .set .guides - 1)) ≡ false) → nonNeg (weight p s t (p .set .guides - 1)) ≡ false
           last (inl h) = absurd (true≢false (sym first ∙ h))

@@ -26,9 +26,11 @@ returns c =
     let e = c .before in
     let k = e .before .before in
     let at = start k in
-    let known = k .of-window .ensures in
-    (ramp-weighs (at .pre .0) (at .pre .1) (at .pre .2) (at .pre .3) (e .ramp .ensures .0) (known .0) (known .1)
-    (read-bounded w64 235497855 (known .1 .slope) tt) (read-bounded w64 180155859075 (known .1 .offset) tt), e .ramp .ensures .1 ∙ at .pre .4)
+    let known = k .of-window .ensures in (
+      ramp-weighs (at .pre .0) (at .pre .1) (at .pre .2) (at .pre .3) (e .ramp .ensures .0) (known .0) (known .1)
+          (read-bounded w64 235497855 (known .1 .slope) tt) (read-bounded w64 180155859075 (known .1 .offset) tt),
+      e .ramp .ensures .1 ∙ at .pre .4,
+    )
 
 pub guided-formula-spec : {M : Type 1} → statement M
 guided-formula-spec =

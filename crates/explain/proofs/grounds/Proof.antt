@@ -67,9 +67,10 @@ answer-half-requires c κs =
     let e = c .before in
     let w = counted (e .before) in
     let at = start w in
-    let by = w .weights-of .ensures .weighs in
-    ((record { planned = at .pre .0; column = at .pre .1; row = at .pre .2; fits = by .fits }, by),
-    toZ-ofZ (record { sfits = e .window-balance .ok }) ∙ total e)
+    let by = w .weights-of .ensures .weighs in (
+      (record { planned = at .pre .0; column = at .pre .1; row = at .pre .2; fits = by .fits }, by),
+      toZ-ofZ (record { sfits = e .window-balance .ok }) ∙ total e,
+    )
 
 slice-aggregate-cause-of : tie.Need-slice-aggregate-cause-of
 slice-aggregate-cause-of c = search needs

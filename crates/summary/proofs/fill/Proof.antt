@@ -53,9 +53,10 @@ add-window-requires c κs =
     let z = w .before .before .before in
     let at = z .before .before .before .before in
     let by = w .weights-of .ensures in
-    let a = at .pre .0 in
-    ((record { planned = a .0; column = a .1; row = a .2; fits = by .weighs .fits }, by .weighs),
-    (zeros-part (room at) (z .clear .ensures), blocks-part (room at) (z .clear .ensures) (at .args .plan .levels) refl, omega arith))
+    let a = at .pre .0 in (
+      (record { planned = a .0; column = a .1; row = a .2; fits = by .weighs .fits }, by .weighs),
+      (zeros-part (room at) (z .clear .ensures), blocks-part (room at) (z .clear .ensures) (at .args .plan .levels) refl, omega arith),
+    )
 
 -- the places passed: the numbers cleared
 abbrev zeros : tie.After-summary2 → tie.After-clear

@@ -40,12 +40,14 @@ same-length c = c .before .loop .inv .1 .long
 
 returns : tie.Need-returns Inv-loop μ-loop
 returns c =
-    let h = c .before in
-    (record {
-      long = omega (arith, h .loop .inv .1 .long, h .before .pre .0);
-      is =
-          λ f l. h .loop .inv .1 .is f (omega arith) (omega (arith, h .loop .inv .0, c .loop-test .left));
-    }, h .loop .inv .1 .long)
+    let h = c .before in (
+      record {
+        long = omega (arith, h .loop .inv .1 .long, h .before .pre .0);
+        is =
+            λ f l. h .loop .inv .1 .is f (omega arith) (omega (arith, h .loop .inv .0, c .loop-test .left));
+      },
+      h .loop .inv .1 .long,
+    )
 
 pub ramp-spec : {M : Type 1} → statement M
 ramp-spec =
