@@ -203,7 +203,7 @@ fn count_window(frame: &Frame, (column, row): (usize, usize), tally: &mut Tally)
         tally.hollow.almost += u64::from(frame.table_weight(centre, centre) == 0 && !window.hollow());
     }
     tally.negative += u64::from(window.has_negative_weight());
-    tally.unsteady += u64::from(!window.steady);
+    tally.unsteady += u64::from(!window.steady());
 }
 
 fn count_hollow(way: Way, walked: &calls::Walked, tally: &mut Tally) {
