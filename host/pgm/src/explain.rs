@@ -44,7 +44,8 @@ pub fn sentences((column, row): (usize, usize), value: u16, why: &Explanation) -
     )
 }
 
-/// Red, green and blue of a cause.
+/// Red, green and blue of a cause. Hollow windows, purple, need a table of the file's own, which this program writes
+/// for none.
 fn colour(cause: Cause) -> [u8; 3] {
     match cause {
         Cause::Ordinary => [208, 212, 216],
@@ -89,7 +90,7 @@ mod tests {
         assert_eq!(texts, ["0", "12", "-123", "1,234", "-815,000", "48,120,007"]);
     }
 
-    // The program writes no table of its own, so that it meets no hollow window: what it would say of one.
+    // The program itself meets no hollow window: what it would say of one.
     #[test]
     fn a_hollow_window_in_words() {
         let why = Explanation { pixels: 1, total: 1, level: 4, below: 0, reached: 1, cause: Cause::Hollow };

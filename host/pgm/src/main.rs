@@ -66,7 +66,10 @@ fn refused(refusal: Refusal, thermal: &Picture, options: &Options) -> String {
         Refusal::Size => {
             format!("{place} is {width}x{height}: width and height may be 1 to 1024, with at most 262144 pixels in all")
         }
-        Refusal::Place => format!("{place} is {width}x{height}: it has no such column and row to explain"),
+        Refusal::Place => {
+            let (column, row) = options.explained.unwrap_or_default();
+            format!("{place} is {width}x{height}: counted from 0, it has no column {column}, row {row} to explain")
+        }
         other => format!("{place}: {other}"),
     }
 }

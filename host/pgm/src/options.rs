@@ -12,7 +12,7 @@ icemedian-pgm THERMAL PICTURE OUTPUT [options]
 Filters the thermal picture THERMAL by a weighted median, guided by the plain PICTURE of the same
 size, and writes OUTPUT. All are binary PGM files (P5) of 8 or 16 bits, at most 1,024 pixels wide and
 high and 262,144 in all. Values that span more than 1,024 steps (PICTURE: 256) are rounded to as many.
-For THERMAL or PICTURE - is standard input, for OUTPUT it is standard output.
+For THERMAL or PICTURE - is standard input, for OUTPUT or FILE it is standard output.
 
   --radius N      pixels to each side of the window, 0 to 15 (default 7)
   --smoothing N   how much guide variance counts as flat, 1 to 65025 (default 64)
@@ -24,8 +24,7 @@ For THERMAL or PICTURE - is standard input, for OUTPUT it is standard output.
   --causes FILE   writes a colour picture (PPM, P6) of what sort of window each pixel has: grey for an
                   ordinary one; orange where the pixel is brighter than its window's average, by so much
                   that pixels near PICTURE's dark end count against their own value; blue where it is
-                  darker, by so much that those near the bright end do; purple where nothing weighs and
-                  each pixel counts 1
+                  darker, by so much that those near the bright end do
   -h, --help      this text
 ";
 

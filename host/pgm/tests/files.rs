@@ -221,8 +221,8 @@ fn wrong_options_are_named() {
     {
         wrong(words, "--explain COLUMN ROW needs a number from 0 to 1023");
     }
-    wrong(&["--explain", "1", "0"], "options.pgm is 1x1: it has no such column and row to explain");
-    wrong(&["--explain", "0", "1"], "options.pgm is 1x1: it has no such column and row to explain");
+    wrong(&["--explain", "1", "0"], "options.pgm is 1x1: counted from 0, it has no column 1, row 0 to explain");
+    wrong(&["--explain", "0", "1"], "options.pgm is 1x1: counted from 0, it has no column 0, row 1 to explain");
     wrong(&["--causes"], "--causes needs a file");
     wrong(&["--causes", "-", "--explain", "0", "0"], "standard output can take one of OUTPUT, --causes and --explain");
     for words in [["--explain", "0", "0"].as_slice(), &["--causes", "-"]] {
