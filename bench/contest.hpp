@@ -49,6 +49,14 @@ inline Walk by_yardstick(Contest contest, const Frame &frame, const std::vector<
     return made;
 }
 
+// What the library gives as the grounds of a pixel's level.
+struct Explanation {
+    size_t pixels;
+    int64_t total, below, reached;
+    uint32_t cause;
+    uint16_t level;
+};
+
 // The library's calls with their buffers, which a caller makes once and uses for many frames.
 class Library {
   public:
@@ -93,13 +101,22 @@ class Library {
         accept(icemedian_check(file.data(), file.size(), &offset));
 #endif
     }
-    // Of the first pixel's window at level 1.
-    void balance() {
+    int64_t balance([[maybe_unused]] size_t column, [[maybe_unused]] size_t row, [[maybe_unused]] uint32_t level) {
+        int64_t balance = 0;
 #ifdef WITH_LIBRARY
         uint64_t offset;
-        int64_t balance;
-        accept(icemedian_balance(file.data(), file.size(), 0, 0, 1, &balance, &offset));
+        accept(icemedian_balance(file.data(), file.size(), column, row, level, &balance, &offset));
 #endif
+        return balance;
+    }
+    Explanation explain([[maybe_unused]] size_t column, [[maybe_unused]] size_t row) {
+        Explanation why{};
+#ifdef WITH_LIBRARY
+        uint64_t offset;
+        accept(icemedian_explain(file.data(), file.size(), column, row, &why.pixels, &why.total, &why.level, &why.below,
+                                 &why.reached, &why.cause, &offset));
+#endif
+        return why;
     }
     // The contestants must have done the same work.
     void compare(const Walk &yardstick, const char *name) const {

@@ -1,5 +1,6 @@
 // The goals, each held against the times of the run.
 #pragma once
+#include "explaining.hpp"
 #include "rows.hpp"
 #include "text.hpp"
 
@@ -43,7 +44,19 @@ inline Goal slowest(const Rows &rows) {
     return goal;
 }
 
-inline std::vector<Goal> goals_of(const Rows &rows) {
+// The window whose explanation takes longest beside its balance.
+inline Goal longest(const Explained &all) {
+    Goal goal{"explanation's time / balance's, every window", Goal::AT_MOST, 5, NOT_TIMED};
+    auto shorter = [](const Explaining &one, const Explaining &other) { return one.times() < other.times(); };
+    auto most = std::max_element(all.begin(), all.end(), shorter);
+    if (most == all.end() || most->times() == NOT_TIMED) return goal;
+    goal.seen = most->times();
+    goal.what += std::string(" (most: ") + most->weights() + " " + most->size() + ", L " + std::to_string(most->k.levels) +
+                 ", answer " + std::to_string(most->level) + ")";
+    return goal;
+}
+
+inline std::vector<Goal> goals_of(const Rows &rows, const Explained &explained) {
     std::vector<Goal> goals;
     for (Picture picture : {ICE, NOISE})
         goals.push_back({"OpenCV's time / library's, joint, kind 1," + place(picture), Goal::AT_LEAST,
@@ -65,12 +78,13 @@ inline std::vector<Goal> goals_of(const Rows &rows) {
     for (int c = 0; c < CONTESTS; c++)
         goals.push_back({std::string("library's time at r 15 / at r 3, ") + NAMES[c] + "," + place(ICE), Goal::AT_MOST,
                          growth[c], growth_in_radius(on(ICE, rows), library(c))});
+    goals.push_back(longest(explained));
     return goals;
 }
 
-inline void print_goals(const Rows &rows) {
+inline void print_goals(const Rows &rows, const Explained &explained) {
     std::printf("\n## Goals\n\nGeometric means over the frames of this run.\n\n| goal | seen | |\n|---|---|---|\n");
-    for (const Goal &goal : goals_of(rows)) goal.print();
+    for (const Goal &goal : goals_of(rows, explained)) goal.print();
 }
 
 }  // namespace bench

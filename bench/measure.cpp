@@ -181,9 +181,11 @@ int main(int count, char **words) {
     print_beside(rows);
     print_growth(rows);
     print_all_sideways();
+    Explained explained = measure_all_explaining();
+    print_explaining(explained);
     print_full_frames(rows);
     print_memory();
-    print_goals(rows);
+    print_goals(rows, explained);
     print_headline(rows);
     std::chrono::duration<double> passed = std::chrono::steady_clock::now() - start;
     std::printf("\nThe measurements took %.0f seconds.\n", passed.count());

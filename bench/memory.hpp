@@ -36,7 +36,7 @@ inline double call_stack(Contest contest, void (*call)(Library &)) {
 }
 
 inline void print_stack(const char *what, void (*call)(Library &)) {
-    std::printf("| stack of a %s |", what);
+    std::printf("| stack of %s |", what);
     for (int c = 0; c < CONTESTS; c++) std::printf(" %s |", number("%.1f", call_stack(Contest(c), call) / 1024).c_str());
     std::printf("\n");
 }
@@ -59,10 +59,11 @@ inline void print_memory() {
     std::printf("\n");
     for (int levels : {256, 1024})
         for (int radius : {3, 7, 15}) print_stores(levels, radius);
-    print_stack("filter", [](Library &library) { library.filter(); });
-    print_stack("walk", [](Library &library) { library.walk({RIGHT, DOWN, LEFT, UP}); });
-    print_stack("balance", [](Library &library) { library.balance(); });
-    print_stack("check", [](Library &library) { library.check(); });
+    print_stack("a filter", [](Library &library) { library.filter(); });
+    print_stack("a walk", [](Library &library) { library.walk({RIGHT, DOWN, LEFT, UP}); });
+    print_stack("a balance", [](Library &library) { library.balance(0, 0, 1); });
+    print_stack("an explanation", [](Library &library) { library.explain(0, 0); });
+    print_stack("a check", [](Library &library) { library.check(); });
 }
 
 }  // namespace bench

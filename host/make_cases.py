@@ -114,7 +114,15 @@ def shaped_cases():
     # Both sides of 32,768, and a row of 0.
     middle = frame(3, 3, 16, 4, TABLE, 1, 0, [4, 13, 2, 9, 0, 15, 7, 7, 11], [0, 1, 2, 3, 0, 1, 2, 3, 0],
                    [32767, 32768, 65535, 1, 32768, 32767, 1, 65535, 65535, 0, 32768, 32767, 0, 0, 0, 0])
-    return [
+    # At the first pixel the formula is 0 or -2 at guide 0, or at the last guide.
+    at_ends = {"zero_at_0": [3, 1], "below_at_0": [4, 1], "zero_at_last": [1, 3], "below_at_last": [0, 3]}
+    ends = [(name, row([3, 1], guide, 8, 5, GUIDED, 1, 1), 0, 0, "0") for name, guide in at_ends.items()]
+    # B's guides: at the middle pixel the levels below its answer weigh less than 0, or those up to it more than all.
+    negative_below = row([4, 5, 4, 5, 3], [7, 7, 15, 7, 0], 8, 16, GUIDED, 2, 1)
+    more_than_all = row([4, 4, 4, 4, 5], [7, 7, 15, 7, 0], 8, 16, GUIDED, 2, 1)
+    return ends + [
+        ("negative_below", negative_below, 0, 0, "0000"),
+        ("more_than_all", more_than_all, 0, 0, "0000"),
         ("not_steady_around", lonely, 0, 0, around),
         ("not_steady_up", lonely, 3, 3, "3331222"),
         ("hollow_around", islands, 1, 1, "0211330002"),

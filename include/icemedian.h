@@ -35,9 +35,10 @@
  * that is cut down, by C and before the call.
  *
  * Pointers must be aligned for their type. A pointer may be NULL where its length is 0; pointers to
- * results (`shifts`, `cut`, `balance_box`, `balance`, `length`, `offset`) never. What is only read (`file`,
- * `moves`, `values`, `guide`, `table`) may overlap. Whatever is written (stores, `answers`, `output`, every
- * result) must overlap nothing else of the same call, nor one result another.
+ * results (`shifts`, `cut`, `balance_box`, `balance`, `pixels`, `total`, `level`, `below`, `reached`, `cause`,
+ * `length`, `offset`) never. What is only read (`file`, `moves`, `values`, `guide`, `table`) may overlap. Whatever
+ * is written (stores, `answers`, `output`, every result) must overlap nothing else of the same call, nor one result
+ * another.
  */
 #ifndef ICEMEDIAN_H
 #define ICEMEDIAN_H
@@ -52,9 +53,10 @@
  * 0.3: a weight may be any 16-bit number, 0 to 65,535; icemedian_check and icemedian_write refuse none.
  * 0.4: way 4, coarse; icemedian_filter and icemedian_walk take its summary, a store behind `numbers`.
  * 0.5: no call takes other arguments, but a window in which no pixel weighs anything is answered as if each pixel
- * weighed 1. Before, it gave the centre's level and balance 0, added nothing and left the cut point. */
+ * weighed 1. Before, it gave the centre's level and balance 0, added nothing and left the cut point.
+ * 0.6: icemedian_explain and its causes are new; nothing else changes. */
 #define ICEMEDIAN_VERSION_MAJOR 0
-#define ICEMEDIAN_VERSION_MINOR 5
+#define ICEMEDIAN_VERSION_MINOR 6
 
 #ifdef __cplusplus
 #define ICEMEDIAN_SIZE(number) static_cast<size_t>(number)
@@ -73,6 +75,13 @@ enum { ICEMEDIAN_JOINT = 1, ICEMEDIAN_COLUMNS = 2, ICEMEDIAN_CHAIN = 3, ICEMEDIA
  * weighed 1: its answer is then their plain median (the lower one of two), and its balance and way 4's summary
  * count pixels. */
 enum { ICEMEDIAN_TABLE = 1, ICEMEDIAN_GUIDED = 2 };
+
+/* What sort of window icemedian_explain finds; exactly one applies. Hollow: no pixel weighs anything, so that each
+ * counts 1; only a table of the file's own leaves such windows. Negative: kind 2's weight formula is below 0 for
+ * guide 0, or for the last guide, never for both; a pixel of such a guide counts against its own level, so that the
+ * levels up to one may weigh less than those up to a lower one. Ordinary: none of these, and no pixel weighs less
+ * than 0. */
+enum { ICEMEDIAN_ORDINARY = 1, ICEMEDIAN_HOLLOW = 2, ICEMEDIAN_NEGATIVE_AT_ZERO = 3, ICEMEDIAN_NEGATIVE_AT_LAST = 4 };
 
 /* Move bytes, and the answers to a byte that moves nothing. */
 enum { ICEMEDIAN_RIGHT = 0, ICEMEDIAN_LEFT = 1, ICEMEDIAN_DOWN = 2, ICEMEDIAN_UP = 3 };
@@ -106,8 +115,8 @@ enum { ICEMEDIAN_DEFAULT_RADIUS = 7, ICEMEDIAN_DEFAULT_SMOOTHING = 64 };
 #define ICEMEDIAN_RADIUS(file, length) ((file)[(length) - 19])
 #define ICEMEDIAN_SMOOTHING(file, length) ICEMEDIAN_TRAILER16(file, length, 10)
 
-/* Stack: icemedian_filter and icemedian_walk take under 16 KB of it, icemedian_balance under 2 KB, the other
- * calls under 1 KB. */
+/* Stack: icemedian_filter, icemedian_walk and icemedian_explain take under 16 KB of it, icemedian_balance under 2 KB,
+ * the other calls under 1 KB. */
 
 /* Checks 1 to 7. */
 uint32_t icemedian_check(const uint8_t *file, size_t file_length, uint64_t *offset);
@@ -142,6 +151,16 @@ uint32_t icemedian_walk(const uint8_t *file, size_t file_length, uint32_t way,
 uint32_t icemedian_balance(const uint8_t *file, size_t file_length,
                            size_t column, size_t row, uint32_t level,
                            int64_t *balance, uint64_t *offset);
+
+/* Why a pixel has its level: checks 1 to 7 and 9. `pixels` is how many pixels the window there has and `total` what
+ * they weigh in all; `level` is the pixel's answer, as icemedian_filter and icemedian_walk give it; `below` is what
+ * the pixels of lower levels weigh (0 for level 0) and `reached` the same with those of `level` itself. Always
+ * 2 * below < total <= 2 * reached. `cause` is what sort of window it is; where that is hollow, all three sums count
+ * pixels. In kind 2 `below` may be under 0 and `reached` above `total`. */
+uint32_t icemedian_explain(const uint8_t *file, size_t file_length,
+                           size_t column, size_t row,
+                           size_t *pixels, int64_t *total, uint16_t *level, int64_t *below, int64_t *reached,
+                           uint32_t *cause, uint64_t *offset);
 
 /* Writes a frame without gaps: checks 2 to 7 and 11. A table has a row of weights, 0 to 65,535 each, for each
  * guide of the centre; one of length 0 means, in kind 1, the built-in weights. `length` is the file's length

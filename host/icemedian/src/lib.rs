@@ -26,11 +26,13 @@
 //! assert!(refusal.to_string().starts_with("refused 1: "));
 //! ```
 
+mod explanation;
 pub mod raw;
 mod refusal;
 mod settings;
 mod stores;
 
+pub use explanation::{Cause, Explanation};
 pub use refusal::{Part, Refusal};
 pub use settings::{Settings, Way, Weights};
 pub use stores::Stores;
@@ -198,6 +200,32 @@ pub fn balance(file: &[u8], pixel: (usize, usize), level: u16) -> Result<i64, Re
     let status = raw::balance(file, pixel, level.into(), &mut balance, &mut offset);
     Refusal::of_reading(status, offset, file)?;
     Ok(balance)
+}
+
+/// Why a pixel has its level.
+///
+/// ```
+/// use icemedian::{explain, write, Cause, Explanation, Refusal, Settings, Weights};
+///
+/// let weights = Weights::Guided { smoothing: 1 };
+/// let settings = Settings { width: 5, height: 1, levels: 8, guides: 16, weights, radius: 2 };
+/// let file = write(&settings, &[1, 2, 5, 3, 4], &[7, 7, 15, 7, 0], &[])?;
+/// let ordinary = Explanation { pixels: 4, total: 832, level: 2, below: 272, reached: 544, cause: Cause::Ordinary };
+/// assert_eq!(explain(&file, (1, 0)), Ok(ordinary));
+/// // The brightest pixel: one of guide 0 counts against its own level.
+/// let bright = explain(&file, (2, 0))?;
+/// assert_eq!((bright.level, bright.below, bright.reached, bright.total), (3, 1100, 1650, 2945));
+/// assert_eq!(bright.cause, Cause::NegativeAtZero);
+/// // The darkest: one of guide 15 does.
+/// assert_eq!(explain(&file, (4, 0))?.cause, Cause::NegativeAtLast);
+/// assert_eq!(explain(&file, (5, 0)), Err(Refusal::Place));
+/// # Ok::<(), Refusal>(())
+/// ```
+pub fn explain(file: &[u8], pixel: (usize, usize)) -> Result<Explanation, Refusal> {
+    let (mut explained, mut offset) = (raw::Explained::default(), 0);
+    let status = raw::explain(file, pixel, &mut explained, &mut offset);
+    Refusal::of_reading(status, offset, file)?;
+    Explanation::of(&explained)
 }
 
 /// The file of a frame. In kind 1 a table has a row of weights, 0 to 65,535 each, for each guide of the

@@ -59,6 +59,20 @@ mod c {
             offset: *mut u64,
         ) -> u32;
 
+        pub fn icemedian_explain(
+            file: *const u8,
+            file_length: usize,
+            column: usize,
+            row: usize,
+            pixels: *mut usize,
+            total: *mut i64,
+            level: *mut u16,
+            below: *mut i64,
+            reached: *mut i64,
+            cause: *mut u32,
+            offset: *mut u64,
+        ) -> u32;
+
         pub fn icemedian_write(
             width: u32,
             height: u32,
@@ -89,6 +103,17 @@ pub struct Lent<'a> {
     pub numbers: &'a mut [u32],
     pub summary: &'a mut [i64],
     pub answers: &'a mut [u16],
+}
+
+/// The results of `icemedian_explain`, the cause by its number.
+#[derive(Clone, Copy, Debug, Default, PartialEq, Eq)]
+pub struct Explained {
+    pub pixels: usize,
+    pub total: i64,
+    pub level: u16,
+    pub below: i64,
+    pub reached: i64,
+    pub cause: u32,
 }
 
 /// The settings of a frame to write: wider than the trailer's numbers, since the library checks them.
@@ -175,6 +200,26 @@ pub fn walk(
 pub fn balance(file: &[u8], (column, row): (usize, usize), level: u32, balance: &mut i64, offset: &mut u64) -> u32 {
     // SAFETY: pointer and length are the slice's; the results are lent for the call.
     unsafe { c::icemedian_balance(file.as_ptr(), file.len(), column, row, level, balance, offset) }
+}
+
+/// `icemedian_explain`.
+pub fn explain(file: &[u8], (column, row): (usize, usize), explained: &mut Explained, offset: &mut u64) -> u32 {
+    // SAFETY: pointer and length are the slice's; the results are lent for the call.
+    unsafe {
+        c::icemedian_explain(
+            file.as_ptr(),
+            file.len(),
+            column,
+            row,
+            &mut explained.pixels,
+            &mut explained.total,
+            &mut explained.level,
+            &mut explained.below,
+            &mut explained.reached,
+            &mut explained.cause,
+            offset,
+        )
+    }
 }
 
 /// `icemedian_write`.

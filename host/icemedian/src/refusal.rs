@@ -53,6 +53,8 @@ pub enum Refusal {
     Room,
     /// A status that document 01 does not have: the archive is not the one that this crate is written for.
     Unknown { status: u32 },
+    /// An explanation whose cause document 02 does not have, though no check fired: likewise.
+    UnknownCause { cause: u32 },
 }
 
 impl Refusal {
@@ -114,7 +116,7 @@ impl Refusal {
         Refusal::Length { part: Part::Table, length: table.len(), wanted }
     }
 
-    /// Document 01's number.
+    /// Document 01's number; 0 where no check fired.
     pub fn number(self) -> u32 {
         match self {
             Refusal::Trailer => 1,
@@ -129,6 +131,7 @@ impl Refusal {
             Refusal::Moves => 10,
             Refusal::Room => 11,
             Refusal::Unknown { status } => status,
+            Refusal::UnknownCause { .. } => 0,
         }
     }
 }
@@ -171,6 +174,7 @@ impl fmt::Display for Refusal {
             Refusal::Moves => write!(f, "there are over 1048576 moves"),
             Refusal::Room => write!(f, "a store, answer buffer or output is too short"),
             Refusal::Unknown { .. } => write!(f, "a status that document 01 does not have"),
+            Refusal::UnknownCause { cause } => write!(f, "a cause, {cause}, that document 02 does not have"),
         }
     }
 }

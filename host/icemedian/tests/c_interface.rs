@@ -49,7 +49,8 @@ fn run(name: &str, source: &Path) -> Output {
 fn the_example_prints_bench_a() {
     let output = run("example", &example());
     assert!(output.status.success());
-    assert_eq!(String::from_utf8_lossy(&output.stdout), "1 3 3, shifts 3\n");
+    let text = "1 3 3, shifts 3\nlevel 3: of 51, the levels below it weigh 21, with it 30\n";
+    assert_eq!(String::from_utf8_lossy(&output.stdout), text);
 }
 
 #[test]

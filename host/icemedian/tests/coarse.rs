@@ -1,30 +1,9 @@
 //! The coarse way on chosen rows: the other ways' answers, a count of its own and the summary of the last window.
 
-use icemedian::{filter_into, walk, write, Refusal, Settings, Stores, Way, Weights};
+mod rows;
 
-fn row(
-    levels: u16,
-    guides: u16,
-    weights: Weights,
-    radius: u8,
-    values: &[u16],
-    guide: &[u16],
-    table: &[u16],
-) -> Vec<u8> {
-    let settings = Settings { width: values.len() as u16, height: 1, levels, guides, weights, radius };
-    write(&settings, values, guide, table).unwrap()
-}
-
-const GUIDED: Weights = Weights::Guided { smoothing: 1 };
-
-/// Document 01's bench windows A and B.
-fn frame_a() -> Vec<u8> {
-    row(8, 4, GUIDED, 1, &[5, 1, 3], &[0, 0, 2], &[])
-}
-
-fn frame_b() -> Vec<u8> {
-    row(8, 16, GUIDED, 2, &[1, 2, 5, 3, 4], &[7, 7, 15, 7, 0], &[])
-}
+use icemedian::{filter_into, walk, Refusal, Stores, Way, Weights};
+use rows::{frame_a, frame_b, row, GUIDED};
 
 /// Three blocks, the last of 8 levels, under a table whose rows differ.
 fn three_blocks(values: &[u16], guide: &[u16], table: &[u16]) -> Vec<u8> {

@@ -1,29 +1,10 @@
 //! Windows in which no pixel weighs anything are answered and balanced as if each pixel weighed 1, and the cut point
 //! moves with them.
 
-use icemedian::{balance, filter, filter_into, walk, write, Settings, Stores, Way, Weights};
+mod rows;
 
-/// A row of up to 7 levels under two guides and a table of its own, radius 1.
-fn row(values: &[u16], guide: &[u16], table: &[u16; 4]) -> Vec<u8> {
-    let (width, weights) = (values.len() as u16, Weights::Table);
-    let settings = Settings { width, height: 1, levels: 8, guides: 2, weights, radius: 1 };
-    write(&settings, values, guide, table).unwrap()
-}
-
-/// Bench window D, as document 02's request 3 has it.
-fn frame_d() -> Vec<u8> {
-    row(&[2, 6], &[0, 0], &[0; 4])
-}
-
-/// Only the middle window has nothing that weighs: its guide's row of the table is 0.
-fn middle() -> Vec<u8> {
-    row(&[7, 2, 4], &[0, 1, 0], &[1, 1, 0, 0])
-}
-
-/// A lamp's reflection alone in its guide class, which has no weight even for itself.
-fn lamp() -> Vec<u8> {
-    row(&[2, 7, 4], &[0, 1, 0], &[1, 0, 0, 0])
-}
+use icemedian::{balance, filter, filter_into, walk, Stores, Way};
+use rows::{frame_d, lamp, middle};
 
 /// The levels, which are the same by ways 1 and 4, and both shift counts.
 fn filtered(file: &[u8]) -> (Vec<u16>, u64, u64) {

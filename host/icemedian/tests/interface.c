@@ -1,6 +1,7 @@
 /* What the header promises a C program: NULL where a length is 0, numbers that are too wide refused and not
  * cut down, results left alone by refusals, what is read may overlap, a weight may be any number, way 4's
- * count and summary, a window in which nothing weighs, and the macros. It prints each promise that is not kept. */
+ * count and summary, a window in which nothing weighs, an explanation of each cause, and the macros. It prints each
+ * promise that is not kept. */
 #include "icemedian.h"
 #include <stdio.h>
 #include <string.h>
@@ -20,9 +21,10 @@ static int failures;
 /* All results of a call, full of one byte before it. */
 static struct {
     uint64_t shifts, offset;
-    int64_t balance;
-    size_t length;
-    uint16_t cut;
+    int64_t balance, total, below, reached;
+    size_t length, pixels;
+    uint32_t cause;
+    uint16_t cut, level;
     int16_t box[ICEMEDIAN_BOX_LENGTH];
 } result, untouched;
 
@@ -61,6 +63,11 @@ static uint32_t balance(size_t file_length, uint32_t level) {
     return icemedian_balance(file_length ? file : NULL, file_length, 1, 0, level, &result.balance, &result.offset);
 }
 
+static uint32_t explain(const uint8_t *frame, size_t frame_length, size_t column, size_t row) {
+    return icemedian_explain(frame, frame_length, column, row, &result.pixels, &result.total, &result.level,
+                             &result.below, &result.reached, &result.cause, &result.offset);
+}
+
 static uint32_t write_parts(size_t values_length, size_t guide_length, size_t output_length) {
     return icemedian_write(W, H, LEVELS, GUIDES, ICEMEDIAN_GUIDED, RADIUS, SMOOTHING, values_length ? values : NULL,
                            values_length, guide_length ? guide : NULL, guide_length, NULL, 0,
@@ -85,6 +92,7 @@ static void test_null(void) {
     expect_status("filter, no file", filter(0, 1, COUNTS, WORDS, 0, 0, PIXELS), 1);
     expect_status("walk, no file", walk(0, 1, 2, COUNTS, WORDS, 0, 0, 3), 1);
     expect_status("balance, no file", balance(0, 0), 1);
+    expect_status("explain, no file", explain(NULL, 0, 0, 0), 1);
     expect_status("filter, no counts", filter(FILE_BYTES, 1, 0, WORDS, 0, 0, PIXELS), 11);
     expect_status("filter, no words", filter(FILE_BYTES, 1, COUNTS, 0, 0, 0, PIXELS), 11);
     expect_status("filter, no numbers", filter(FILE_BYTES, 2, 0, 0, 0, 0, PIXELS), 11);
@@ -148,11 +156,25 @@ static void balance_own_table(uint32_t level, int64_t balance) {
     expect_status("balance of it", status, 0);
 }
 
+/* Why a pixel of the first row has its level. */
+static void expect_explained(const uint8_t *frame, size_t frame_length, size_t column, size_t pixels, int64_t total,
+                             uint16_t level, int64_t below, int64_t reached, uint32_t cause) {
+    uint32_t status = explain(frame, frame_length, column, 0);
+    expect("its pixels", result.pixels == pixels, 1);
+    expect("its weight", result.total == total, 1);
+    expect("its level", result.level, level);
+    expect("the weight below", result.below == below, 1);
+    expect("the weight reached", result.reached == reached, 1);
+    expect("its cause", result.cause, cause);
+    expect_status("explain", status, 0);
+}
+
 /* Levels 1 5 3 under weights 65535 257 / 1 65535. */
 static void test_weights(void) {
     static const uint16_t value[PIXELS] = {1, 5, 3}, table[4] = {65535, 257, 1, 65535};
     filter_own_table(value, table, value, 7);
     balance_own_table(3, -65533);
+    expect_explained(own_table, sizeof own_table, 1, 3, 65537, 5, 2, 65537, ICEMEDIAN_ORDINARY);
 }
 
 /* Way 4: its count is not the cut's, and its summary is of the last window. */
@@ -177,6 +199,7 @@ static void test_lamp(void) {
     uint32_t status;
     filter_own_table(value, table, answers, 4);
     balance_own_table(2, -1);
+    expect_explained(own_table, sizeof own_table, 1, 3, 3, 4, 1, 2, ICEMEDIAN_HOLLOW);
     status = icemedian_walk(own_table, sizeof own_table, ICEMEDIAN_COARSE, 1, 0, NULL, 0, counts, COUNTS, words, WORDS, NULL,
                             0, summary, BLOCKS, levels, 1, &result.shifts, &result.cut, result.box, &result.offset);
     expect("its shifts by way 4 are 4", result.shifts == 4, 1);
@@ -185,10 +208,27 @@ static void test_lamp(void) {
     expect_status("walk to a lamp by way 4", status, 0);
 }
 
+/* Bench windows A and B; in B the weight formula is negative at one end of the guides, then at the other. */
+static void test_explain(void) {
+    static const uint16_t value[5] = {1, 2, 5, 3, 4}, picture[5] = {7, 7, 15, 7, 0};
+    uint8_t b[ICEMEDIAN_FILE_LENGTH(5, 1, 0)];
+    uint32_t status = icemedian_write(5, 1, LEVELS, 16, ICEMEDIAN_GUIDED, 2, SMOOTHING, value, 5, picture, 5, NULL, 0, b,
+                                      sizeof b, &result.length, &result.offset);
+    expect_status("write, bench window B", status, 0);
+    expect_explained(file, FILE_BYTES, 0, 2, 8, 1, 0, 4, ICEMEDIAN_ORDINARY);
+    expect_explained(file, FILE_BYTES, 1, 3, 51, 3, 21, 30, ICEMEDIAN_ORDINARY);
+    expect_explained(b, sizeof b, 2, 5, 2945, 3, 1100, 1650, ICEMEDIAN_NEGATIVE_AT_ZERO);
+    expect_explained(b, sizeof b, 4, 3, 1041, 4, 369, 1200, ICEMEDIAN_NEGATIVE_AT_LAST);
+    expect_status("explain, column 5", explain(b, sizeof b, 5, 0), 9);
+    expect_status("explain, row 1", explain(b, sizeof b, 0, 1), 9);
+    expect_status("explain, without the mark", explain(b, sizeof b - 1, 5, 0), 1);
+}
+
 static void test_wide(void) {
     expect_status("filter, way 257", filter(FILE_BYTES, 257, COUNTS, WORDS, NUMBERS, BLOCKS, PIXELS), 8);
     expect_status("walk, way 257", walk(FILE_BYTES, 257, 2, COUNTS, WORDS, NUMBERS, BLOCKS, 3), 8);
     expect_status("balance, level 65537", balance(FILE_BYTES, 65537), 9);
+    expect_status("explain, column 65536", explain(file, FILE_BYTES, 65536, 0), 9);
     expect_status("write, width 65539", write_ints(65539, H, LEVELS, GUIDES, 2, RADIUS, SMOOTHING), 2);
     expect_status("write, width -1", write_ints(-1, H, LEVELS, GUIDES, 2, RADIUS, SMOOTHING), 2);
     expect_status("write, height 65537", write_ints(W, 65537, LEVELS, GUIDES, 2, RADIUS, SMOOTHING), 2);
@@ -202,7 +242,7 @@ static void test_wide(void) {
 
 static void test_macros(void) {
     expect("version, major", ICEMEDIAN_VERSION_MAJOR, 0);
-    expect("version, minor", ICEMEDIAN_VERSION_MINOR, 5);
+    expect("version, minor", ICEMEDIAN_VERSION_MINOR, 6);
     expect("width", ICEMEDIAN_WIDTH(file, FILE_BYTES), W);
     expect("height", ICEMEDIAN_HEIGHT(file, FILE_BYTES), H);
     expect("levels", ICEMEDIAN_LEVELS(file, FILE_BYTES), LEVELS);
@@ -234,6 +274,7 @@ int main(void) {
     test_weights();
     test_coarse();
     test_lamp();
+    test_explain();
     test_wide();
     test_macros();
     return failures != 0;

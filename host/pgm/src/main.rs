@@ -1,5 +1,6 @@
 //! Filters a thermal picture with a plain one as its guide.
 
+mod explain;
 mod options;
 mod pgm;
 mod scale;
@@ -65,11 +66,24 @@ fn refused(refusal: Refusal, thermal: &Picture, options: &Options) -> String {
         Refusal::Size => {
             format!("{place} is {width}x{height}: width and height may be 1 to 1024, with at most 262144 pixels in all")
         }
+        Refusal::Place => {
+            let (column, row) = options.explained.unwrap_or_default();
+            format!("{place} is {width}x{height}: counted from 0, it has no column {column}, row {row} to explain")
+        }
         other => format!("{place}: {other}"),
     }
 }
 
-fn filter(thermal: &Picture, guide: &Picture, options: &Options) -> Result<Picture, String> {
+/// Both pictures as a frame.
+struct Framed {
+    settings: Settings,
+    levels: Vec<u16>,
+    guides: Vec<u16>,
+    level_scale: Scale,
+    file: Vec<u8>,
+}
+
+fn framed(thermal: &Picture, guide: &Picture, options: &Options) -> Result<Framed, String> {
     if (thermal.width, thermal.height) != (guide.width, guide.height) {
         return Err(format!(
             "{} is {}x{} and {} {}x{}: they must be of one size",
@@ -86,22 +100,47 @@ fn filter(thermal: &Picture, guide: &Picture, options: &Options) -> Result<Pictu
         weights: options.weights,
         radius: options.radius,
     };
-    let in_our_terms = |refusal| refused(refusal, thermal, options);
-    let file = icemedian::write(&settings, &levels, &guides, &[]).map_err(in_our_terms)?;
-    eprintln!("filtering {}x{} pixels, radius {}", thermal.width, thermal.height, settings.radius);
+    let file = icemedian::write(&settings, &levels, &guides, &[]);
+    let file = file.map_err(|refusal| refused(refusal, thermal, options))?;
+    Ok(Framed { settings, levels, guides, level_scale, file })
+}
+
+fn filter(thermal: &Picture, frame: &Framed, options: &Options) -> Result<Picture, Refusal> {
+    eprintln!("filtering {}x{} pixels, radius {}", thermal.width, thermal.height, frame.settings.radius);
     let start = Instant::now();
-    let filtered = icemedian::filter(&file, options.way).map_err(in_our_terms)?;
+    let filtered = icemedian::filter(&frame.file, options.way)?;
     eprintln!("filtered in {:.0?}, {} shifts", start.elapsed(), filtered.shifts);
-    let values = filtered.levels.iter().map(|&level| level_scale.value(level)).collect();
+    let values = filtered.levels.iter().map(|&level| frame.level_scale.value(level)).collect();
     Ok(Picture { values, ..*thermal })
+}
+
+/// Why the pixel asked for has its value, in words.
+fn explanation(frame: &Framed, pixel: (usize, usize)) -> Result<String, Refusal> {
+    let why = icemedian::explain(&frame.file, pixel)?;
+    Ok(explain::sentences(pixel, frame.level_scale.value(why.level), &why))
+}
+
+fn print(text: &str) -> Result<(), String> {
+    io::stdout().write_all(text.as_bytes()).map_err(|error| error.to_string())
 }
 
 fn run() -> Result<(), String> {
     let Some(options) = options::read(std::env::args_os().skip(1))? else {
-        return io::stdout().write_all(options::HELP.as_bytes()).map_err(|error| error.to_string());
+        return print(options::HELP);
     };
-    let filtered = filter(&read(&options.thermal)?, &read(&options.picture)?, &options)?;
-    write(&options.output, &pgm::write(&filtered))
+    let (thermal, picture) = (read(&options.thermal)?, read(&options.picture)?);
+    let frame = framed(&thermal, &picture, &options)?;
+    let in_our_terms = |refusal| refused(refusal, &thermal, &options);
+    // All is made before anything is written.
+    let explanation = options.explained.map(|pixel| explanation(&frame, pixel)).transpose().map_err(in_our_terms)?;
+    let filtered = filter(&thermal, &frame, &options).map_err(in_our_terms)?;
+    let causes = options.causes.as_ref().map(|place| explain::causes(&frame).map(|bytes| (place, bytes)));
+    let causes = causes.transpose().map_err(in_our_terms)?;
+    write(&options.output, &pgm::write(&filtered))?;
+    if let Some((place, bytes)) = causes {
+        write(place, &bytes)?;
+    }
+    explanation.map_or(Ok(()), |text| print(&(text + "\n")))
 }
 
 fn main() -> ExitCode {

@@ -74,6 +74,83 @@ fn document_01s_frame_as_pictures() {
     }
 }
 
+/// B filtered with these options more, its files under names that begin so: what is printed.
+fn b_printed(name: &str, options: &[&str]) -> Vec<u8> {
+    let files = ["", "_guide", "_out"].map(|part| format!("{name}{part}.pgm"));
+    b_files(&files[0], &files[1]);
+    let output = filter(&[files.each_ref().map(String::as_str).as_slice(), &B_OPTIONS, options].concat());
+    notes(&output);
+    assert_eq!(std::fs::read(place(&files[2])).unwrap(), pgm(5, 1, &B_FILTERED));
+    output.stdout
+}
+
+/// Words that tell the causes apart, and the colours beside them.
+const ORDINARY: (&str, [u8; 3]) = ("This is an ordinary window", [208, 212, 216]);
+const BRIGHTER: (&str, [u8; 3]) = ("This pixel is brighter than its window's average", [230, 130, 30]);
+const DARKER: (&str, [u8; 3]) = ("This pixel is darker than its window's average", [40, 100, 200]);
+
+#[test]
+fn a_pixel_is_explained_in_words() {
+    let printed = |column: &str| {
+        let printed = b_printed(&format!("explained_{column}"), &["--explain", column, "0"]);
+        String::from_utf8(printed).unwrap()
+    };
+    let ordinary = "Column 1, row 0 becomes 102. Its window has 4 pixels of total weight 832. The values below 102 \
+                    weigh 272, less than half; with 102 it is 544, at least half. This is an ordinary window: no pixel \
+                    counts against its own value.\n";
+    assert_eq!(printed("1"), ordinary);
+    let brighter = "Column 2, row 0 becomes 103. Its window has 5 pixels of total weight 2,945. The values below 103 \
+                    weigh 1,100, less than half; with 103 it is 1,650, at least half. This pixel is brighter than its \
+                    window's average, by so much that a pixel near the dark end of the guide picture counts against \
+                    its own value there: going up the values, the weight can fall.\n";
+    assert_eq!(printed("2"), brighter);
+    let darker = "Column 4, row 0 becomes 104. Its window has 3 pixels of total weight 1,041. The values below 104 \
+                  weigh 369, less than half; with 104 it is 1,200, at least half. This pixel is darker than its \
+                  window's average, by so much that a pixel near the bright end of the guide picture counts against \
+                  its own value there: going up the values, the weight can fall.\n";
+    assert_eq!(printed("4"), darker);
+}
+
+#[test]
+fn causes_have_colours() {
+    let pixels = [ORDINARY, ORDINARY, BRIGHTER, ORDINARY, DARKER].map(|(_, colour)| colour).concat();
+    let ppm = [b"P6\n5 1\n255\n".as_slice(), &pixels].concat();
+    assert!(b_printed("coloured", &["--causes", "coloured.ppm"]).is_empty());
+    assert_eq!(std::fs::read(place("coloured.ppm")).unwrap(), ppm);
+    assert_eq!(b_printed("coloured", &["--causes", "-"]), ppm);
+}
+
+/// The colour of each pixel goes with what is said of it, on pictures of several rows, clipped windows and whole ones.
+#[test]
+fn colours_and_words_agree() {
+    let (width, height, pixels) = (9, 7, 63);
+    let levels: Vec<u8> = (0..pixels).map(|pixel| (pixel * pixel * 31 % 97) as u8).collect();
+    let guides: Vec<u8> =
+        (0..pixels).map(|pixel| if pixel % 5 == 0 { 255 } else { (pixel * 37 % 101) as u8 }).collect();
+    std::fs::write(place("agree.pgm"), pgm(width, height, &levels)).unwrap();
+    std::fs::write(place("agree_guide.pgm"), pgm(width, height, &guides)).unwrap();
+    let run = |options: &[&str]| {
+        let files = ["agree.pgm", "agree_guide.pgm", "agree_out.pgm", "--radius", "2"];
+        let output = filter(&[files.as_slice(), options].concat());
+        notes(&output);
+        output.stdout
+    };
+    let ppm = run(&["--causes", "-"]);
+    let colours = ppm.strip_prefix(b"P6\n9 7\n255\n".as_slice()).unwrap();
+    assert_eq!(colours.len(), 3 * pixels);
+    let mut met = [0; 3];
+    for (pixel, colour) in colours.chunks(3).enumerate() {
+        let (column, row) = ((pixel % width).to_string(), (pixel / width).to_string());
+        let printed = String::from_utf8(run(&["--explain", &column, &row])).unwrap();
+        assert!(printed.starts_with(&format!("Column {column}, row {row} becomes ")), "{printed}");
+        for ((words, own), met) in [ORDINARY, BRIGHTER, DARKER].into_iter().zip(&mut met) {
+            assert_eq!(printed.contains(words), colour == own, "{printed}");
+            *met += u32::from(colour == own);
+        }
+    }
+    assert!(met.iter().all(|&pixels| pixels > 0) && met.iter().sum::<u32>() == pixels as u32, "{met:?}");
+}
+
 #[test]
 fn a_dash_is_standard_input_and_output() {
     b_files("dash.pgm", "dash_guide.pgm");
@@ -140,6 +217,18 @@ fn wrong_options_are_named() {
     wrong(&["--table", "--way", "chain"], "--table needs --way joint or coarse");
     wrong(&["--table", "--smoothing", "64"], "--table has no smoothing");
     wrong(&["--smoothing", "64", "--table"], "--table has no smoothing");
+    for words in [["--explain"].as_slice(), &["--explain", "0"], &["--explain", "x", "0"], &["--explain", "0", "1024"]]
+    {
+        wrong(words, "--explain COLUMN ROW needs a number from 0 to 1023");
+    }
+    wrong(&["--explain", "1", "0"], "options.pgm is 1x1: counted from 0, it has no column 1, row 0 to explain");
+    wrong(&["--explain", "0", "1"], "options.pgm is 1x1: counted from 0, it has no column 0, row 1 to explain");
+    wrong(&["--causes"], "--causes needs a file");
+    wrong(&["--causes", "-", "--explain", "0", "0"], "standard output can take one of OUTPUT, --causes and --explain");
+    for words in [["--explain", "0", "0"].as_slice(), &["--causes", "-"]] {
+        let message = message(&filter(&[&[one, one, "-"], words].concat()));
+        assert!(message.contains("standard output can take one of"), "{message}");
+    }
     notes(&filter(&[one, one, "options_out.pgm", "--table"]));
     notes(&filter(&[one, one, "options_out.pgm", "--table", "--way", "coarse"]));
 }
@@ -171,6 +260,7 @@ fn help_goes_to_standard_output() {
     for word in ["-h", "--help"] {
         let output = filter(&[word]);
         assert!(notes(&output).is_empty());
-        assert!(String::from_utf8_lossy(&output.stdout).contains("--smoothing"));
+        let help = String::from_utf8_lossy(&output.stdout);
+        assert!(["--smoothing", "--explain", "--causes"].iter().all(|option| help.contains(option)));
     }
 }

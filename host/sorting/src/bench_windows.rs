@@ -1,8 +1,9 @@
 //! Document 01's bench windows A to H, D as document 02's request 3 has it, its edges and its 40-byte frame, rows of
-//! hollow windows and of the coarse way, and two rows more.
+//! hollow windows and of the coarse way, what explains them, and a few rows more.
 
 use crate::calls;
 use crate::cases::bytes_of_hex;
+use crate::explain::{Cause, Explanation};
 use crate::frame::{built_in_weight, open, Asked, Frame, Settings, KIND_GUIDED, KIND_TABLE};
 use crate::program::printed;
 use crate::random::{accepted_file, Random};
@@ -69,7 +70,7 @@ fn b_has_a_negative_weight_and_two_crossings() {
     assert_eq!(window.total(), 2945);
     assert_eq!(window.answer(), 3);
     assert_eq!([3, 4, 5].map(|level| window.balance(level)), [355, -1275, 2945]);
-    assert!(!window.steady);
+    assert!(!window.steady());
     assert_eq!(filtered(&frame_b()), (vec![2, 2, 3, 3, 4], 9));
 }
 
@@ -337,7 +338,7 @@ fn the_first_block_that_reaches_half_holds_a_steady_answer() {
     for _ in 0..600 {
         let frame = open(&accepted_file(&mut random, 6)).unwrap();
         let window = Window::at(&frame, 0, 0);
-        if !window.steady {
+        if !window.steady() {
             continue;
         }
         let sums = summary(&frame, &window);
@@ -352,6 +353,84 @@ fn the_first_block_that_reaches_half_holds_a_steady_answer() {
         hollow += u32::from(window.hollow());
     }
     assert!(steady > 100 && later > 100 && hollow > 30, "{steady} {later} {hollow}");
+}
+
+/// The explanation of a pixel of the first row: n, T, m, U(m - 1), U(m) and the cause.
+fn explained(frame: &Frame, column: usize) -> (usize, i64, u16, i64, i64, Cause) {
+    let Explanation { pixels, total, level, below, reached, cause } = Explanation::of(&Window::at(frame, column, 0));
+    (pixels, total, level, below, reached, cause)
+}
+
+#[test]
+fn b_is_explained_with_both_ends() {
+    let all: Vec<_> = (0..5).map(|column| explained(&frame_b(), column)).collect();
+    let expected = [
+        (3, 411, 2, 201, 402, Cause::Ordinary),
+        (4, 832, 2, 272, 544, Cause::Ordinary),
+        (5, 2945, 3, 1100, 1650, Cause::NegativeAtZero),
+        (4, 1868, 3, 468, 936, Cause::Ordinary),
+        (3, 1041, 4, 369, 1200, Cause::NegativeAtLast),
+    ];
+    assert_eq!(all, expected);
+}
+
+#[test]
+fn a_hollow_window_is_explained_by_ones() {
+    assert_eq!(explained(&frame_c(0), 0), (2, 2, 2, 0, 1, Cause::Hollow));
+    assert_eq!(explained(&frame_c(1), 0), (2, 2, 2, 0, 1, Cause::Ordinary));
+    let lamp = row(KIND_TABLE, 8, 2, 1, &[2, 7, 4], &[0, 1, 0], &[1, 0, 0, 0]);
+    assert_eq!(explained(&lamp, 0), (2, 1, 2, 0, 1, Cause::Ordinary));
+    assert_eq!(explained(&lamp, 1), (3, 3, 4, 1, 2, Cause::Hollow));
+    let zero_row = row(KIND_TABLE, 8, 2, 1, &[7, 2, 4], &[0, 1, 0], &[1, 1, 0, 0]);
+    assert_eq!(explained(&zero_row, 0), (2, 2, 2, 0, 1, Cause::Ordinary));
+    assert_eq!(explained(&zero_row, 1), (3, 3, 4, 1, 2, Cause::Hollow));
+}
+
+#[test]
+fn below_level_0_nothing_weighs() {
+    let frame = row(KIND_TABLE, 8, 2, 1, &[0, 3], &[0, 0], &[1; 4]);
+    assert_eq!(explained(&frame, 0), (2, 2, 0, 0, 1, Cause::Ordinary));
+    let hollow = row(KIND_TABLE, 8, 2, 1, &[0, 3], &[0, 0], &[0; 4]);
+    assert_eq!(explained(&hollow, 1), (2, 2, 0, 0, 1, Cause::Hollow));
+}
+
+#[test]
+fn heavy_windows_are_explained() {
+    let frame = row(KIND_TABLE, 8, 2, 1, &[1, 5, 3], &[0, 1, 0], &[65_535, 257, 1, 65_535]);
+    assert_eq!(explained(&frame, 0), (2, 65_792, 1, 0, 65_535, Cause::Ordinary));
+    assert_eq!(explained(&frame, 1), (3, 65_537, 5, 2, 65_537, Cause::Ordinary));
+}
+
+/// B's pixel 2 under other levels: its last pixel weighs less than nothing.
+#[test]
+fn a_sum_may_be_negative_or_more_than_the_whole() {
+    let explained = |values: &[u16]| explained(&row(KIND_GUIDED, 8, 16, 2, values, &[7, 7, 15, 7, 0], &[]), 2);
+    assert_eq!(explained(&[4, 5, 4, 5, 3]), (5, 2945, 4, -815, 1845, Cause::NegativeAtZero));
+    assert_eq!(explained(&[4, 4, 4, 4, 5]), (5, 2945, 4, 0, 3760, Cause::NegativeAtZero));
+}
+
+/// Two pixels whose formula is just negative at an end, or is 0 there.
+#[test]
+fn a_formula_of_0_at_an_end_is_steady() {
+    let cause = |guides: [u16; 2], last: u16| explained(&row(KIND_GUIDED, 8, last + 1, 1, &[3, 1], &guides, &[]), 0).5;
+    assert_eq!(cause([3, 1], 4), Cause::Ordinary);
+    assert_eq!(cause([4, 1], 4), Cause::NegativeAtZero);
+    assert_eq!(cause([1, 3], 4), Cause::Ordinary);
+    assert_eq!(cause([0, 3], 4), Cause::NegativeAtLast);
+}
+
+#[test]
+fn half_is_between_the_two_sums_and_every_cause_occurs() {
+    let mut random = Random::new(9);
+    let mut causes = [0; 4];
+    for _ in 0..2_000 {
+        let frame = open(&accepted_file(&mut random, 6)).unwrap();
+        let explanation = Explanation::of(&Window::at(&frame, 0, 0));
+        let Explanation { total, below, reached, .. } = explanation;
+        assert!(2 * below < total && total <= 2 * reached, "{explanation:?}");
+        causes[explanation.cause.number() as usize - 1] += 1;
+    }
+    assert!(causes.iter().all(|&windows| windows > 20), "{causes:?}");
 }
 
 #[test]
@@ -386,6 +465,10 @@ fn calls_refuse_in_order() {
     assert_eq!(calls::balance(&file, (0, 0), 8), Err(Refusal::of(9)));
     assert_eq!(calls::balance(&file, (0, 0), 65_537), Err(Refusal::of(9)));
     assert_eq!(calls::balance(&file, (1, 0), 3), Ok(21 + 9 - 21));
+    assert_eq!(calls::explain(&file, (3, 0)), Err(Refusal::of(9)));
+    assert_eq!(calls::explain(&file, (0, 1)), Err(Refusal::of(9)));
+    assert_eq!(calls::explain(&file[1..], (3, 0)), Err(Refusal::of(6)));
+    assert_eq!(calls::explain(&file, (1, 0)).map(|why| (why.below, why.reached)), Ok((21, 21 + 9)));
 }
 
 #[test]
@@ -415,7 +498,7 @@ fn the_answer_is_the_first_level_at_half() {
         let window = Window::at(&frame, 0, 0);
         hollow += u32::from(window.hollow());
         negative += u32::from(window.has_negative_weight());
-        unsteady += u32::from(!window.steady);
+        unsteady += u32::from(!window.steady());
         let first = (0..frame.settings.levels).find(|&level| window.balance(level) >= 0);
         assert_eq!(Some(window.answer()), first);
     }

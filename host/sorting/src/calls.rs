@@ -1,5 +1,6 @@
 //! The calls on a frame: each makes checks 1 to 7 on the bytes it is handed, then its own.
 
+use crate::explain::Explanation;
 use crate::frame::{open, Frame};
 use crate::refusal::{check, Refusal};
 use crate::store::{balance_box, stores, Lengths, Stores, Way, BOX_CELLS};
@@ -79,4 +80,11 @@ pub fn balance(file: &[u8], (column, row): (usize, usize), level: u32) -> Result
     let frame = open(file)?;
     check(9, !frame.has(column, row) || level >= u32::from(frame.settings.levels))?;
     Ok(Window::at(&frame, column, row).balance(level as u16))
+}
+
+/// Why the window at a pixel has its level: checks 1 to 7 and 9.
+pub fn explain(file: &[u8], (column, row): (usize, usize)) -> Result<Explanation, Refusal> {
+    let frame = open(file)?;
+    check(9, !frame.has(column, row))?;
+    Ok(Explanation::of(&Window::at(&frame, column, row)))
 }

@@ -1,7 +1,7 @@
 //! Document 01's weighted median filter, with the weights of document 02's request 1, the coarse way of its
-//! request 2 and the hollow windows of its request 3, written from these documents and sharing no code with the
-//! proved library: every window is gathered anew, its pixels are sorted by level, and weights are added until they
-//! reach half of the whole.
+//! request 2, the hollow windows of its request 3 and the explanations of its request 4, written from these documents
+//! and sharing no code with the proved library: every window is gathered anew, its pixels are sorted by level, and
+//! weights are added until they reach half of the whole.
 //!
 //! It is slow on purpose. Nothing is carried from one window to the next, so a mistake in carrying
 //! a histogram, an occupancy word, a balance box or a cut point cannot be made here.
@@ -11,9 +11,10 @@
 //! | [`refusal`] | the numbers 1 to 12 |
 //! | [`frame`] | the frame's bytes and checks 1 to 7 |
 //! | [`window`] | window, weights, cumulative weight, median, balance |
+//! | [`explain`] | why a window has its level: request 4 of document 02 |
 //! | [`walk`] | the walk, its marks, cut point and shift counts; the serpentine |
 //! | [`store`] | what each way's stores hold, and how long they are |
-//! | [`calls`] | walk, filter and balance with their checks 8 to 11 |
+//! | [`calls`] | walk, filter, balance and explanation with their checks 8 to 11 |
 //! | [`writer`] | the writer |
 //! | [`program`] | the printed text and check 12 |
 //! | [`cases`] | the list of small walks that test programs print |
@@ -21,6 +22,7 @@
 
 pub mod calls;
 pub mod cases;
+pub mod explain;
 pub mod frame;
 pub mod program;
 pub mod random;

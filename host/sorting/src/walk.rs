@@ -60,10 +60,10 @@ impl Walk {
         self.answers.push(answer);
         self.visited.push((column, row));
         self.hollow.push(window.hollow());
-        let from = if window.steady { self.cut } else { 0 };
+        let from = if window.steady() { self.cut } else { 0 };
         self.shifts += u64::from(answer.abs_diff(from));
         let by_blocks = answer / BLOCK_LEVELS + answer % BLOCK_LEVELS;
-        self.coarse_shifts += u64::from(if window.steady { by_blocks } else { answer });
+        self.coarse_shifts += u64::from(if window.steady() { by_blocks } else { answer });
         self.cut = answer;
     }
 

@@ -19,9 +19,8 @@ pub struct Weighted {
 pub struct Window {
     /// The window's pixels, row by row, each with its own weight.
     pub pixels: Vec<Weighted>,
-    /// Whether the weight formula is not negative at both guide ends; always so in kind 1, and so in every hollow
-    /// window: in kind 2 the own weights sum to nV, which is above 0.
-    pub steady: bool,
+    /// Whether the weight formula is negative at guide 0, and whether at the last guide; in kind 1 it is at neither.
+    pub negative_at: [bool; 2],
 }
 
 /// The places from `centre - radius` to `centre + radius` that lie in the picture.
@@ -99,8 +98,14 @@ impl Window {
         let weighted = |&(level, guide)| Weighted { level, guide, own_weight: weights.own_weight(guide) };
         Window {
             pixels: pixels.iter().map(weighted).collect(),
-            steady: ends.iter().all(|&end| weights.own_weight(end) >= 0),
+            negative_at: ends.map(|end| weights.own_weight(end) < 0),
         }
+    }
+
+    /// Whether the weight formula is not negative at both guide ends; always so in kind 1, and so in every hollow
+    /// window: in kind 2 the own weights sum to nV, which is above 0.
+    pub fn steady(&self) -> bool {
+        self.negative_at == [false; 2]
     }
 
     /// Whether the own weights sum to 0, so that they have no half to reach.

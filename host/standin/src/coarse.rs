@@ -29,8 +29,8 @@ pub fn spoil(file: &[u8], walked: &mut Walked, walk: impl FnOnce(&Frame) -> Walk
         let windows = walk.visited.iter().map(window).filter(meant);
         windows.map(|window| u64::from(add(window.answer()))).sum()
     };
-    let steady = |window: &Window| window.steady;
-    let not_steady = |window: &Window| !window.steady;
+    let steady = Window::steady;
+    let not_steady = |window: &Window| !window.steady();
     match CHOSEN.as_str() {
         "coarse_count_by_cut" => walked.shifts = walk.shifts,
         "coarse_blocks_twice" => walked.shifts += total(steady, |answer| answer / BLOCK_LEVELS),

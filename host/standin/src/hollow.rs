@@ -4,7 +4,7 @@
 use crate::coarse::by_blocks;
 use crate::fault::{table_frame, CHOSEN};
 use sorting_filter::calls::Walked;
-use sorting_filter::frame::Frame;
+use sorting_filter::frame::{Frame, KIND_GUIDED};
 use sorting_filter::store::{self, Stores, Way};
 use sorting_filter::walk::{plane, Walk, UNKNOWN_MOVE};
 use sorting_filter::window::Window;
@@ -23,30 +23,30 @@ pub enum Call {
     Filter,
 }
 
-/// A window of kind 1 on a walk, and what a mistake looks at beside it.
-struct Place<'a> {
+/// A window, and what a mistake looks at beside it.
+pub struct Place<'a> {
     frame: &'a Frame,
     pixel: (usize, usize),
-    window: Window,
+    pub window: Window,
 }
 
 impl Place<'_> {
-    fn at(frame: &Frame, pixel: (usize, usize)) -> Place<'_> {
+    pub fn at(frame: &Frame, pixel: (usize, usize)) -> Place<'_> {
         Place { frame, pixel, window: Window::at(frame, pixel.0, pixel.1) }
     }
 
-    fn centre_level(&self) -> u16 {
+    pub fn centre_level(&self) -> u16 {
         self.frame.level(self.pixel.0, self.pixel.1)
     }
 
-    /// Not hollow, though the centre itself weighs nothing.
-    fn full_around_the_centre(&self) -> bool {
+    /// Not hollow, though the centre itself weighs nothing by the table.
+    pub fn full_around_the_centre(&self) -> bool {
         let guide = self.frame.guide(self.pixel.0, self.pixel.1);
         !self.window.hollow() && self.frame.table_weight(guide, guide) == 0
     }
 
     /// Whether the table's whole row is 0, and not only the weights of the window's pixels.
-    fn row_of_zeros(&self) -> bool {
+    pub fn row_of_zeros(&self) -> bool {
         let guide = self.frame.guide(self.pixel.0, self.pixel.1);
         (0..self.frame.settings.guides).all(|other| self.frame.table_weight(guide, other) == 0)
     }
@@ -59,13 +59,23 @@ impl Place<'_> {
     }
 
     /// The pixels of a window that the boards do not clip.
-    fn whole_square(&self) -> i64 {
+    pub fn whole_square(&self) -> i64 {
         let side = 2 * i64::from(self.frame.settings.radius) + 1;
         side * side
     }
 
+    /// Whether the weights are kind 2's.
+    pub fn guided(&self) -> bool {
+        self.frame.settings.kind == KIND_GUIDED
+    }
+
+    /// The last guide.
+    pub fn last_guide(&self) -> u16 {
+        self.frame.settings.guides - 1
+    }
+
     /// The lowest level at which `reached` holds, or the last.
-    fn lowest(&self, reached: impl Fn(u16) -> bool) -> u16 {
+    pub fn lowest(&self, reached: impl Fn(u16) -> bool) -> u16 {
         let last = self.frame.settings.levels - 1;
         (0..last).find(|&level| reached(level)).unwrap_or(last)
     }

@@ -1,8 +1,9 @@
 //! The C interface of `include/icemedian.h` over the sorting filter. It tests the wrapper and the
-//! tests themselves: with `STANDIN_FAULT` set to one of the names in [`fault`], [`coarse`] and [`hollow`], it makes
-//! that mistake, and the tests must notice.
+//! tests themselves: with `STANDIN_FAULT` set to one of the names in [`fault`], [`coarse`], [`hollow`] and
+//! [`explain`], it makes that mistake, and the tests must notice.
 
 mod coarse;
+mod explain;
 mod fault;
 mod hollow;
 
@@ -257,6 +258,47 @@ pub unsafe extern "C" fn icemedian_balance(
         }
         Err(status) => {
             set_on_refusal(balance, 0, "refusal_balance");
+            status
+        }
+    }
+}
+
+/// # Safety
+/// As the header says.
+#[no_mangle]
+pub unsafe extern "C" fn icemedian_explain(
+    file: *const u8,
+    file_length: usize,
+    column: usize,
+    row: usize,
+    pixels: &mut usize,
+    total: &mut i64,
+    level: &mut u16,
+    below: &mut i64,
+    reached: &mut i64,
+    cause: &mut u32,
+    offset: &mut u64,
+) -> u32 {
+    let file = fault::as_read(read(file, file_length));
+    match report(explain::explain(&file, (column, row)), offset) {
+        Ok(why) => {
+            give(pixels, why.pixels, "pixels_left");
+            give(total, why.total, "total_left");
+            give(level, why.level, "level_left");
+            give(below, why.below, "below_left");
+            give(reached, why.reached, "reached_left");
+            // A number that no cause has.
+            let past = if makes("cause_past") { 4 } else { 0 };
+            give(cause, why.cause.number() + past, "cause_left");
+            0
+        }
+        Err(status) => {
+            set_on_refusal(pixels, 0, "refusal_pixels");
+            set_on_refusal(total, 0, "refusal_total");
+            set_on_refusal(level, 0, "refusal_level");
+            set_on_refusal(below, 0, "refusal_below");
+            set_on_refusal(reached, 0, "refusal_reached");
+            set_on_refusal(cause, 0, "refusal_cause");
             status
         }
     }

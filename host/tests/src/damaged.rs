@@ -3,6 +3,7 @@
 use crate::library::{self, Status};
 use crate::tally::Tally;
 use crate::{same, Check};
+use sorting_filter::calls;
 use sorting_filter::cases::bytes_of_hex;
 use sorting_filter::frame::open;
 use sorting_filter::refusal::Refusal;
@@ -53,6 +54,9 @@ pub fn test(tally: &mut Tally) -> Check {
         same(&damaged.name, &library::check(&damaged.file), &Status::of(&damaged.verdict))?;
         let sorting = open(&damaged.file).err();
         same(&format!("{}, by the sorting filter", damaged.name), &sorting, &damaged.verdict.err())?;
+        let what = format!("{}, explained", damaged.name);
+        let explained = library::explain(&damaged.file, (0, 0));
+        library::compare_explain(&what, explained, &calls::explain(&damaged.file, (0, 0)))?;
         tally.damaged += 1;
     }
     Ok(())

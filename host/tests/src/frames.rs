@@ -1,6 +1,7 @@
-//! Accepted frames: walks, filters and balances in every serving way.
+//! Accepted frames: walks and filters in every serving way, balances and explanations.
 
 use crate::buffers::{compare, Buffers};
+use crate::explain;
 use crate::library::{self, Status};
 use crate::overlap;
 use crate::tally::Tally;
@@ -80,6 +81,8 @@ pub fn test_heavy(random: &mut Random, tally: &mut Tally) -> Check {
             for way in [Way::Joint, Way::Coarse] {
                 test_walk_from(random, &file, way, (centre, centre), &moves, tally)?;
             }
+            let frame = open(&file).map_err(|refusal| refusal.to_string())?;
+            explain::test_at(&file, &frame, (centre, centre), tally)?;
             for level in 0..u32::from(settings.levels) {
                 try_balance(&file, (centre, centre), level, tally)?;
             }
@@ -104,19 +107,23 @@ pub fn test_blocks(random: &mut Random, tally: &mut Tally) -> Check {
     Ok(())
 }
 
-/// Levels by chance under guides with a few lonely ones at both ends: the summary of each window.
+/// The summary of each window of a frame with lonely guides.
 fn test_lonely(random: &mut Random, levels: u16, tally: &mut Tally) -> Check {
-    let settings = Settings { width: 7, height: 5, levels, guides: 16, kind: KIND_GUIDED, radius: 1, smoothing: 1 };
+    let (settings, file) = lonely(random, levels, 1)?;
+    test_accepted(random, &file, tally)?;
+    for pixel in 0..settings.pixels() {
+        test_walk_from(random, &file, Way::Coarse, place(&settings, pixel), &[], tally)?;
+    }
+    Ok(())
+}
+
+/// Levels by chance under guides with a few lonely ones at both ends, whose windows are not steady.
+pub fn lonely(random: &mut Random, levels: u16, radius: u8) -> Result<(Settings, Vec<u8>), String> {
+    let settings = Settings { width: 7, height: 5, levels, guides: 16, kind: KIND_GUIDED, radius, smoothing: 1 };
     let values: Vec<u16> = (0..settings.pixels()).map(|_| random.within(0, levels - 1)).collect();
     let guides: Vec<u16> = (0..settings.pixels()).map(|_| random.pick(&[0, 15, 7, 7, 7, 7, 7])).collect();
     let file = writer::write(&settings.asked(), &values, &guides, &[], usize::MAX);
-    let file = file.map_err(|refusal| refusal.to_string())?;
-    test_accepted(random, &file, tally)?;
-    for pixel in 0..settings.pixels() {
-        let width = usize::from(settings.width);
-        test_walk_from(random, &file, Way::Coarse, (pixel % width, pixel / width), &[], tally)?;
-    }
-    Ok(())
+    Ok((settings, file.map_err(|refusal| refusal.to_string())?))
 }
 
 pub fn test_accepted(random: &mut Random, file: &[u8], tally: &mut Tally) -> Check {
@@ -126,12 +133,14 @@ pub fn test_accepted(random: &mut Random, file: &[u8], tally: &mut Tally) -> Che
     count_overlap(file, tally);
     let untouched = file.to_vec();
     same("check", &library::check(file), &Status::ACCEPTED)?;
+    let mut plane = Vec::new();
     for way in Way::ALL.into_iter().filter(|way| way.serves(frame.settings.kind)) {
         let moves = moves(random, &frame.settings, MOVES);
         test_walk(random, file, way, &moves, tally).map_err(|error| format!("walk, {way:?}: {error}"))?;
-        test_filter(random, file, &frame, way, tally).map_err(|error| format!("filter, {way:?}: {error}"))?;
+        plane = test_filter(random, file, &frame, way, tally).map_err(|error| format!("filter, {way:?}: {error}"))?;
     }
     test_balance(random, file, &frame, tally)?;
+    explain::test(random, file, &frame, &plane, tally)?;
     same("the file after the calls", &file, &untouched.as_slice())
 }
 
@@ -145,8 +154,8 @@ fn count_overlap(file: &[u8], tally: &mut Tally) {
     }
 }
 
-/// The list of small walks, each in every serving way: the bench windows A to H, chosen shapes, and every
-/// start of small frames with moves into the border and unknown bytes.
+/// The list of small walks, each in every serving way, and every pixel of their frames explained: the bench windows
+/// A to H, chosen shapes, and every start of small frames with moves into the border and unknown bytes.
 pub fn test_listed(random: &mut Random, tally: &mut Tally) -> Check {
     for case in cases::read(include_str!("../../cases.txt"))? {
         let frame = open(&case.file).map_err(|refusal| format!("{}: {refusal}", case.name))?;
@@ -154,6 +163,10 @@ pub fn test_listed(random: &mut Random, tally: &mut Tally) -> Check {
             test_walk_from(random, &case.file, way, (case.column, case.row), &case.moves, tally)
                 .map_err(|error| format!("{}, {way:?}: {error}", case.name))?;
             tally.listed += 1;
+        }
+        for pixel in 0..frame.settings.pixels() {
+            explain::test_at(&case.file, &frame, place(&frame.settings, pixel), tally)
+                .map_err(|error| format!("{}: {error}", case.name))?;
         }
     }
     Ok(())
@@ -203,7 +216,7 @@ fn count_window(frame: &Frame, (column, row): (usize, usize), tally: &mut Tally)
         tally.hollow.almost += u64::from(frame.table_weight(centre, centre) == 0 && !window.hollow());
     }
     tally.negative += u64::from(window.has_negative_weight());
-    tally.unsteady += u64::from(!window.steady);
+    tally.unsteady += u64::from(!window.steady());
 }
 
 fn count_hollow(way: Way, walked: &calls::Walked, tally: &mut Tally) {
@@ -225,7 +238,14 @@ fn count_summary(frame: &Frame, walked: &calls::Walked, tally: &mut Tally) {
     coarse.negative += u64::from(summary.iter().any(|&sum| sum < 0));
 }
 
-fn test_filter(random: &mut Random, file: &[u8], frame: &Frame, way: Way, tally: &mut Tally) -> Check {
+/// The filter; the plane that the library filters the frame to.
+fn test_filter(
+    random: &mut Random,
+    file: &[u8],
+    frame: &Frame,
+    way: Way,
+    tally: &mut Tally,
+) -> Result<Vec<u16>, String> {
     let needed = Lengths { answers: frame.settings.pixels(), ..Lengths::of_stores(way, &frame.settings) };
     let before = Buffers::poisoned_beyond(random, &needed);
     let mut after = before.clone();
@@ -239,7 +259,9 @@ fn test_filter(random: &mut Random, file: &[u8], frame: &Frame, way: Way, tally:
     if random.once_in(4) {
         test_wrapper_filter(file, way, &walked)?;
     }
-    compare(&before, after, &walked, &needed)
+    let plane = after.answers[..needed.answers].to_vec();
+    compare(&before, after, &walked, &needed)?;
+    Ok(plane)
 }
 
 fn wrapper_way(way: Way) -> icemedian::Way {
@@ -278,14 +300,26 @@ fn test_wrapper_filter(file: &[u8], way: Way, expected: &calls::Walked) -> Check
 /// Balances: every level of small frames at every pixel, a few elsewhere.
 fn test_balance(random: &mut Random, file: &[u8], frame: &Frame, tally: &mut Tally) -> Check {
     let k = &frame.settings;
-    let all = k.pixels() * usize::from(k.levels);
-    let tries: Vec<usize> = if all <= 200 { (0..all).collect() } else { (0..6).map(|_| random.below(all)).collect() };
-    for index in tries {
+    for index in tries(random, k.pixels() * usize::from(k.levels)) {
         let (pixel, level) = (index / usize::from(k.levels), (index % usize::from(k.levels)) as u32);
-        let place = (pixel % usize::from(k.width), pixel / usize::from(k.width));
-        try_balance(file, place, level, tally)?;
+        try_balance(file, place(k, pixel), level, tally)?;
     }
     Ok(())
+}
+
+/// Every number below `all` where they are few, else some by chance.
+pub fn tries(random: &mut Random, all: usize) -> Vec<usize> {
+    if all <= 200 {
+        (0..all).collect()
+    } else {
+        (0..6).map(|_| random.below(all)).collect()
+    }
+}
+
+/// Column and row of a pixel, which are counted row by row.
+pub fn place(settings: &Settings, pixel: usize) -> (usize, usize) {
+    let width = usize::from(settings.width);
+    (pixel % width, pixel / width)
 }
 
 pub fn try_balance(file: &[u8], place: (usize, usize), level: u32, tally: &mut Tally) -> Check {

@@ -1,7 +1,7 @@
 //! Small frames in which hollow windows lie beside others: every window as a walk's only one, walks from every window
 //! and through all of them, and balances at every level that tells two answers apart.
 
-use crate::frames::{test_accepted, test_walk_from, try_balance};
+use crate::frames::{place, test_accepted, test_walk_from, try_balance};
 use crate::tally::Tally;
 use crate::Check;
 use sorting_filter::frame::{Settings, KIND_TABLE};
@@ -54,8 +54,7 @@ fn test_frame(random: &mut Random, settings: &Settings, tally: &mut Tally) -> Ch
     levels.sort_unstable();
     levels.dedup();
     for pixel in 0..settings.pixels() {
-        let width = usize::from(settings.width);
-        let place = (pixel % width, pixel / width);
+        let place = place(settings, pixel);
         for way in [Way::Joint, Way::Coarse] {
             test_walk_from(random, &file, way, place, &[], tally)?;
             let moves = moves(random, settings, MOVES);

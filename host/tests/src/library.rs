@@ -3,8 +3,10 @@
 
 use crate::buffers::Buffers;
 use crate::{same, Check};
-use icemedian::{raw, WalkEnd};
+use icemedian::raw::{self, Explained};
+use icemedian::WalkEnd;
 use sorting_filter::calls::Walked;
+use sorting_filter::explain::Explanation;
 use sorting_filter::frame::Asked;
 use sorting_filter::refusal::Refusal;
 use sorting_filter::store::BOX_CELLS;
@@ -14,6 +16,15 @@ const OFFSET: u64 = 0xA5A5_A5A5_A5A5_A5A5;
 const SHIFTS: u64 = 0x5A5A_5A5A_5A5A_5A5A;
 const BALANCE: i64 = -0x5A5A_5A5A_5A5A_5A5A;
 const LENGTH: usize = usize::MAX - 0x5A5A;
+
+const EXPLAINED: Explained = Explained {
+    pixels: LENGTH,
+    total: BALANCE,
+    level: 0xA5A5,
+    below: BALANCE + 1,
+    reached: BALANCE + 2,
+    cause: 0x5A5A_5A5A,
+};
 
 fn end_before() -> WalkEnd {
     WalkEnd { shifts: SHIFTS, cut: 0xA5A5, balance_box: [0x5A5A; BOX_CELLS] }
@@ -83,6 +94,23 @@ pub fn balance(file: &[u8], pixel: (usize, usize), level: u32) -> (Status, i64) 
 /// Compares a balance call with the sorting filter's.
 pub fn compare_balance(what: &str, library: (Status, i64), expected: &Result<i64, Refusal>) -> Check {
     same(what, &library, &(Status::of(expected), expected.unwrap_or(BALANCE)))
+}
+
+pub fn explain(file: &[u8], pixel: (usize, usize)) -> (Status, Explained) {
+    let (mut explained, mut offset) = (EXPLAINED, OFFSET);
+    let status = raw::explain(file, pixel, &mut explained, &mut offset);
+    (Status { status, offset }, explained)
+}
+
+/// The sorting filter's explanation as the call gives it.
+pub fn explained(why: &Explanation) -> Explained {
+    let &Explanation { pixels, total, level, below, reached, cause } = why;
+    Explained { pixels, total, level, below, reached, cause: cause.number() }
+}
+
+/// Compares an explanation with the sorting filter's.
+pub fn compare_explain(what: &str, library: (Status, Explained), expected: &Result<Explanation, Refusal>) -> Check {
+    same(what, &library, &(Status::of(expected), expected.as_ref().map_or(EXPLAINED, explained)))
 }
 
 /// The writer: its status and the file's length.

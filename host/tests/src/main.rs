@@ -1,12 +1,13 @@
 //! Random frames through the library's C interface, held against the sorting filter.
 //!
 //! `library_tests [FRAMES] [--seed N] [--program PATH]` makes FRAMES frames (2,000 if not said), walks
-//! and filters each in every serving way, once more with its table damaged, damages it, and writes it
-//! again. With `--program` it also feeds frames to the program's standard input. The same seed gives the
+//! and filters each in every serving way, explains its pixels, all once more with its table damaged, damages it, and
+//! writes it again. With `--program` it also feeds frames to the program's standard input. The same seed gives the
 //! same frames everywhere.
 
 mod buffers;
 mod damaged;
+mod explain;
 mod frames;
 mod hollow;
 mod library;
@@ -93,6 +94,8 @@ fn run(options: &Options) -> Result<Tally, String> {
     failures.extend(heavy.err().map(|message| format!("heavy tables written: {message}")));
     let hollow = hollow::test(&mut Random::new(options.seed), &mut tally);
     failures.extend(hollow.err().map(|message| format!("hollow windows: {message}")));
+    let lonely = explain::test_lonely(&mut Random::new(options.seed), &mut tally);
+    failures.extend(lonely.err().map(|message| format!("lonely guides: {message}")));
     let blocks = frames::test_blocks(&mut Random::new(options.seed), &mut tally);
     failures.extend(blocks.err().map(|message| format!("blocks: {message}")));
     let largest = frames::test_largest(&mut Random::new(options.seed), &mut tally);

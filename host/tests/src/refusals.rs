@@ -90,7 +90,7 @@ pub fn test_calls(random: &mut Random, file: &[u8], tally: &mut Tally) -> Check 
             try_filter(random, file, &attempt, tally)?;
         }
     }
-    test_balance_places(random, file, &frame, tally)
+    test_places(random, file, &frame, tally)
 }
 
 /// A damaged file, by one check or two, for every call.
@@ -110,13 +110,15 @@ pub fn test_damaged(random: &mut Random, file: &[u8], tally: &mut Tally) -> Chec
     test_wrapper(&damaged, number)?;
     try_walk(random, &damaged, &attempt, number, tally)?;
     try_filter(random, &damaged, &attempt, tally)?;
-    try_balance(&damaged, attempt.start, 0, tally)
+    try_balance(&damaged, attempt.start, 0, tally)?;
+    try_explain(&damaged, attempt.start, tally)
 }
 
 /// The Rust wrapper gives the number, and for 6 a part whose distance is outside.
 fn test_wrapper(damaged: &[u8], number: u8) -> Check {
     let refusal = icemedian::check(damaged).err();
     same("the wrapper's number", &refusal.map(|refusal| refusal.number()), &Some(u32::from(number)))?;
+    same("the wrapper's refused explanation", &icemedian::explain(damaged, (0, 0)).err(), &refusal)?;
     match refusal {
         Some(icemedian::Refusal::Distance { distance, least, most, .. }) => {
             same("a distance within", &(least..=most).contains(&(distance as usize)), &false)
@@ -150,18 +152,28 @@ fn try_filter(random: &mut Random, file: &[u8], attempt: &Attempt, tally: &mut T
     compare_all(&after, &before).map_err(|error| format!("refused filter: {error}"))
 }
 
-/// Balance calls with a column, row or level outside.
-fn test_balance_places(random: &mut Random, file: &[u8], frame: &Frame, tally: &mut Tally) -> Check {
+/// Balances and explanations of a column, a row or both outside, and a balance of a level outside.
+fn test_places(random: &mut Random, file: &[u8], frame: &Frame, tally: &mut Tally) -> Check {
     let (column, row) = start(random, &frame.settings);
+    let far = (outside(random, frame.settings.width), outside(random, frame.settings.height));
+    for place in [(far.0, row), (column, far.1), far] {
+        try_balance(file, place, 0, tally)?;
+        try_explain(file, place, tally)?;
+    }
     let level = u32::from(frame.settings.levels);
-    try_balance(file, (outside(random, frame.settings.width), row), 0, tally)?;
-    try_balance(file, (column, outside(random, frame.settings.height)), 0, tally)?;
     try_balance(file, (column, row), random.pick(&[level, level + 1, 65_535, 65_536, 65_535 + level, u32::MAX]), tally)
 }
 
 fn try_balance(file: &[u8], place: (usize, usize), level: u32, tally: &mut Tally) -> Check {
     let expected = calls::balance(file, place, level);
     library::compare_balance("refused balance", library::balance(file, place, level), &expected)?;
+    count(&expected, tally);
+    Ok(())
+}
+
+fn try_explain(file: &[u8], place: (usize, usize), tally: &mut Tally) -> Check {
+    let expected = calls::explain(file, place);
+    library::compare_explain("refused explanation", library::explain(file, place), &expected)?;
     count(&expected, tally);
     Ok(())
 }

@@ -1,5 +1,6 @@
 //! Counts of what a run covered, so that a run which tests nothing is seen.
 
+use sorting_filter::explain::{Cause, Explanation};
 use std::fmt;
 
 /// The greatest sum of weights of a window by a table: 961 pixels of the largest weight.
@@ -50,6 +51,34 @@ impl Hollow {
     }
 }
 
+/// Explanations.
+#[derive(Default)]
+pub struct Explained {
+    /// By cause, in the order of [`Cause::ALL`].
+    pub causes: [u64; 4],
+    /// Of level 0, below which there is none.
+    pub lowest: u64,
+    /// Where the levels below weigh less than 0.
+    pub negative: u64,
+    /// Where the levels up to the answer weigh more than all.
+    pub above: u64,
+}
+
+impl Explained {
+    pub fn count(&mut self, why: &Explanation) {
+        for (count, cause) in self.causes.iter_mut().zip(Cause::ALL) {
+            *count += u64::from(cause == why.cause);
+        }
+        self.lowest += u64::from(why.level == 0);
+        self.negative += u64::from(why.below < 0);
+        self.above += u64::from(why.reached > why.total);
+    }
+
+    fn counts(&self) -> Vec<u64> {
+        [self.causes.as_slice(), &[self.lowest, self.negative, self.above]].concat()
+    }
+}
+
 #[derive(Default)]
 pub struct Tally {
     /// Accepted frames of each kind; those made at random are among them.
@@ -73,6 +102,7 @@ pub struct Tally {
     pub negative: u64,
     pub unsteady: u64,
     pub balances: u64,
+    pub explained: Explained,
     pub written: u64,
     /// Calls refused by each number from 1 to 11; place 0 is not used.
     pub refusals: [u64; 12],
@@ -95,14 +125,14 @@ impl Tally {
         }
         let Overlapping { same_start, even_apart, odd_apart } = self.overlapping;
         let windows = [self.listed, self.damaged, self.marks, self.negative, self.unsteady];
-        let hollow = self.hollow.counts();
+        let (hollow, explained) = (self.hollow.counts(), self.explained.counts());
         // Without a program none is counted.
         let programs = [u64::from(self.programs == 0 || self.hollow.programs > 0)];
         let frames = [self.frames[0], self.frames[1], same_start, even_apart, odd_apart];
         let Coarse { walks, one_block, short_block, negative } = self.coarse;
         let coarse = [walks - one_block, walks - short_block, one_block, short_block, negative];
         let tables = [self.heavy_tables, self.damaged_tables, u64::from(self.heaviest == HEAVIEST)];
-        let all = [&self.refusals[1..], &windows, &hollow, &programs, &coarse, &frames, &tables];
+        let all = [&self.refusals[1..], &windows, &hollow, &explained, &programs, &coarse, &frames, &tables];
         if all.iter().any(|counts| counts.contains(&0)) {
             return Some(format!("the run left something untried:\n{self}"));
         }
@@ -159,6 +189,15 @@ impl fmt::Display for Tally {
             f,
             "balances: {} ({} of hollow windows), frames written: {}",
             self.balances, self.hollow.balances, self.written
+        )?;
+        let Explained { causes: [ordinary, hollow, at_zero, at_last], lowest, negative, above } = self.explained;
+        writeln!(
+            f,
+            "explanations: {ordinary} ordinary, {hollow} hollow, {at_zero} negative at guide 0, {at_last} at the last"
+        )?;
+        writeln!(
+            f,
+            "of them {lowest} of level 0, {negative} with less than 0 below, {above} that reach more than the whole"
         )?;
         write!(f, "refused calls by number:")?;
         for (number, count) in self.refusals.iter().enumerate().skip(1) {

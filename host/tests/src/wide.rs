@@ -73,10 +73,14 @@ pub fn test(random: &mut Random, tally: &mut Tally) -> Check {
             damage(random, &mut damaged, number);
             try_way(random, &damaged, &frame, way, (0, 0), number, tally)?;
             try_level(&damaged, 65_537, number, tally)?;
+            try_pixel(&damaged, (65_536, 0), number, tally)?;
         }
     }
     // A start that is outside by a wide number, with the same low bits as one inside.
     try_way(random, &file, &frame, 1, (65_536, 0), 9, tally)?;
+    for pixel in [(65_536, 0), (0, 65_536), (1 << 32, 0), (0, 1 << 32), (1 << 63, 0), (2, 1 << 63)] {
+        try_pixel(&file, pixel, 9, tally)?;
+    }
     for level in [65_536, 65_537, 1 | 1 << 31, u32::MAX] {
         try_level(&file, level, 9, tally)?;
     }
@@ -142,4 +146,11 @@ fn try_level(file: &[u8], level: u32, number: u8, tally: &mut Tally) -> Check {
     let what = format!("balance at level {level}");
     counted(&what, &expected, number, tally)?;
     library::compare_balance(&what, library::balance(file, (0, 0), level), &expected)
+}
+
+fn try_pixel(file: &[u8], pixel: (usize, usize), number: u8, tally: &mut Tally) -> Check {
+    let expected = calls::explain(file, pixel);
+    let what = format!("explanation at {pixel:?}");
+    counted(&what, &expected, number, tally)?;
+    library::compare_explain(&what, library::explain(file, pixel), &expected)
 }

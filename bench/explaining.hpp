@@ -1,0 +1,82 @@
+// An explanation beside a balance of the same window. Both check the whole frame first, so the smallest frame that has
+// such a window shows best what explaining takes more: the weights of all its levels instead of those on two sides.
+#pragma once
+#include "contest.hpp"
+#include "text.hpp"
+
+namespace bench {
+
+struct Explaining {
+    Contest contest;
+    Settings k;
+    uint32_t level;                                   // the answer
+    double balance = NOT_TIMED, explain = NOT_TIMED;  // nanoseconds a call
+
+    double times() const { return explain == NOT_TIMED ? NOT_TIMED : explain / balance; }
+    const char *weights() const { return contest == JOINT_OWN ? "own table" : k.kind == TABLE ? "kind 1" : "kind 2"; }
+    std::string size() const { return std::to_string(k.width) + "x" + std::to_string(k.height); }
+};
+using Explained = std::vector<Explaining>;
+
+// Eight of nine pixels have the level that is to be the answer, the others any; the centre's guide is a middle one, so
+// that in kind 2 no pixel weighs much more than another.
+inline Frame with_answer(const Settings &k, uint32_t level) {
+    Frame frame = noise(k);
+    for (size_t p = 0; p < frame.pixels(); p++)
+        if (p % 9) frame.values.set(p, level);
+    frame.guide.set(frame.at(k.width / 2, k.height / 2), uint32_t(k.guides / 2));
+    return frame;
+}
+
+// Times both calls at the centre, in turns of many calls each.
+inline Explaining measure_explaining(Contest contest, Settings k, uint32_t level) {
+    k.kind = kind_of(contest);
+    Explaining times{contest, k, level};
+    if (!Library::LINKED) return times;
+    Frame frame = with_answer(k, level);
+    if (contest == JOINT_OWN) frame.own_table();
+    Library library(contest, frame);
+    const size_t column = size_t(k.width / 2), row = size_t(k.height / 2), calls = 20 + 200000 / frame.pixels();
+    Explanation why{};
+    int64_t balance = 0;
+    auto repeat = [&](double &best, auto call) {
+        keep_best(best, calls, [&] {
+            for (size_t i = 0; i < calls; i++) call();
+        });
+    };
+    for (int round = 0; round < ROUNDS; round++) {
+        repeat(times.balance, [&] { balance = library.balance(column, row, level); });
+        repeat(times.explain, [&] { why = library.explain(column, row); });
+    }
+    // Both must have looked at the same window, with the answer that was meant.
+    if (why.level != level || 2 * why.reached - why.total != balance)
+        std::printf("an explanation differs from the balance: %s, r %d\n", times.weights(), k.radius), std::exit(1);
+    return times;
+}
+
+inline Explained measure_all_explaining() {
+    Explained all;
+    for (Contest contest : {JOINT_TABLE, JOINT_OWN, JOINT_GUIDED})
+        for (int radius : {1, 7, 15})
+            for (int levels : {256, 1024})
+                for (int level : {1, levels - 1}) {
+                    int side = 2 * radius + 1;
+                    all.push_back(measure_explaining(contest, {side, side, levels, 256, TABLE, radius, 64}, uint32_t(level)));
+                }
+    all.push_back(measure_explaining(JOINT_TABLE, {1024, 256, 256, 256, TABLE, 7, 64}, 255));
+    return all;
+}
+
+inline void print_explaining(const Explained &all) {
+    std::printf("\n## An explanation beside a balance of the same window\n\n"
+                "Nanoseconds a call, of the centre of a frame that has no pixel outside its window, but for the last line. "
+                "The answer is near the lowest level or the last one.\n\n"
+                "| weights | size | r | L | answer | balance | explanation | explanation / balance |\n"
+                "|---|---|---|---|---|---|---|---|\n");
+    for (const Explaining &one : all)
+        std::printf("| %s | %s | %d | %d | %u | %s | %s | %s |\n", one.weights(), one.size().c_str(), one.k.radius,
+                    one.k.levels, unsigned(one.level), number("%.0f", one.balance).c_str(),
+                    number("%.0f", one.explain).c_str(), number("%.2f", one.times()).c_str());
+}
+
+}  // namespace bench
