@@ -2,7 +2,7 @@
 -- Assumes nothing.
 use mathlib.Core.Path.{_≡_}
 use mathlib.Core.List.{List}
-use Prim.Native.Nat.{ℕ, suc, _≤_, _<_}
+use Prim.Native.Nat.{ℕ, suc, _+_, _≤_, _<_}
 use lib.ListN.{length, getD}
 use lib.IntN.{ℤ, pos, natAbs, _*ℤ_}
 use lib.Signed.{_≤ℤ_, _<ℤ_}
@@ -16,12 +16,21 @@ use Rattle.explain.specs.declared.Half.{Half}
 unfoldable pub upTo : List ℤ → ℕ → ℤ
 upTo xs i = sumℤ (λ k. getD xs k (pos 0)) 0 i
 
--- all of them together reach half of the total, and no sum is too large
-pub record HalfInReach (xs : List ℤ) (total : ℤ) : Type 0 where
-  pub some : 1 ≤ length xs
+-- at most 1,024 sums, none too large
+pub record SumsSmall (xs : List ℤ) : Type 0 where
   pub few : length xs ≤ 1024
   pub each : (i : ℕ) → i < length xs → natAbs (getD xs i (pos 0)) ≤ 173129780571075
+
+-- a whole block of 16 sums from place i on is 0
+pub record Vacant (xs : List ℤ) (i : ℕ) : Type 0 where
+  pub inside : i + 16 ≤ length xs
+  pub zeros : (k : ℕ) → k < 16 → getD xs (i + k) (pos 0) ≡ pos 0
+
+-- all of them together reach half of the total, which is above 0, and no sum is too large
+pub record HalfInReach (xs : List ℤ) (total : ℤ) : Type 0 where
+  pub sums : SumsSmall xs
   pub small : (i : ℕ) → i ≤ length xs → natAbs (upTo xs i) ≤ 173129780571075
+  pub positive : pos 0 <ℤ total
   pub total-small : natAbs total ≤ 173129780571075
   pub reaches : total ≤ℤ (pos 2 *ℤ upTo xs (length xs))
 
