@@ -4,7 +4,6 @@ use balance::add;
 use balance::formula;
 use balance::formula::Formula;
 use balance::window_balance;
-use pixels::sums;
 use spec::Cause;
 use spec::Grounds;
 use spec::Guide;
@@ -13,6 +12,7 @@ use spec::Plan;
 use weight_sums::Counting;
 use weight_sums::add_window;
 use weight_sums::weights_of;
+use window::line::span_of;
 ghost use mathlib.Core.Path.{_≡_};
 ghost use mathlib.Core.Bool.{true};
 ghost use Prim.Native.Nat.{_-_, _<_, _≤_};
@@ -148,9 +148,10 @@ pub fn grounds(file: &[u8], plan: Plan, s: usize, t: usize) -> Grounds
     let reached = answer_half(file, plan, &row, formula, s, t, total);
     let level = reached.level;
     let cause = cause_of(&row, counted, plan.guides);
-    let a = sums::start(file, plan, s, t);
+    let columns = span_of(s, plan.radius, plan.width);
+    let rows = span_of(t, plan.radius, plan.height);
     Grounds {
-        pixels: a.count,
+        pixels: columns * rows,
         total,
         level,
         below: reached.below,

@@ -2,7 +2,8 @@
 use borrow.Author.Needs.{needs}
 use native.Mathlib.Omega.{arith}
 use mathlib.Core.Path.{_≡_, refl, sym, ap, ap₂, _∙_}
-use Prim.Native.Nat.{ℕ}
+use Prim.Native.Nat.{ℕ, _*_, _≤_}
+use native.Mathlib.Nat.{mul-le-mul}
 use lib.ListN.{length-replicate}
 use lib.IntN.{ℤ}
 use mir.Syntax.{w64}
@@ -10,12 +11,15 @@ use mir.Val.{toZ, ofZ}
 use mir.Facts.{toZ-ofZ}
 use Rattle.ints.specs.Machine.{read-bounded}
 use Rattle.spec.specs.Frame.{frameOf}
+use Rattle.spec.specs.Window.{span}
 use Rattle.spec.specs.Median.{totalWeight, balance}
 use Rattle.spec.specs.Checks.{SettingsLimits}
 use Rattle.spec.proofs.Limits.{FrameLimits, Pixel}
 use Rattle.spec.proofs.Plans.{facts, pixel-of}
 use Rattle.spec.proofs.Totals.{balance-last}
-use Rattle.window.proofs.PixelLaws.{levels-high, guides-high}
+use Rattle.spec.proofs.Sums.{pixelCount-is}
+use Rattle.window.proofs.PixelLaws.{plan-limits, levels-high, guides-high}
+use Rattle.window.proofs.LineLaws.{span-high}
 use Rattle.balance.proofs.BalanceLaws.{by-balance}
 use Rattle.explain.proofs.HalfLaws.{below-small, reached-small}
 use Rattle.explain.proofs.CauseLaws.{cause-counted}
@@ -28,11 +32,11 @@ pixel at = pixel-of (at .pre .0) (at .pre .1) (at .pre .2)
 weights-of-requires : tie.Need-weights-of-requires
 weights-of-requires c κs = let at = c .before .before in (at .pre .0, at .pre .1, at .pre .2, length-replicate {A = ℕ} 256 0)
 
-sub-t15 : tie.Need-sub-t15
-sub-t15 c = let f = facts (c .before .before .before .before .before .pre .0) in omega (arith, f .levels, f .limits .sound .levels-low)
+sub-t16 : tie.Need-sub-t16
+sub-t16 c = let f = facts (c .before .before .before .before .before .pre .0) in omega (arith, f .levels, f .limits .sound .levels-low)
 
-cast-t16 : tie.Need-cast-t16
-cast-t16 c = omega (arith, levels-high (c .before .before .before .before .before .pre .0))
+cast-t17 : tie.Need-cast-t17
+cast-t17 c = omega (arith, levels-high (c .before .before .before .before .before .pre .0))
 
 slice-aggregate-window-balance : tie.Need-slice-aggregate-window-balance
 slice-aggregate-window-balance c = search needs
@@ -82,26 +86,48 @@ cause-of-requires c κs =
     let f = facts (at .pre .0) in
     (rw (f .guides) (w .weights-of .ensures .weighs .fits), omega (arith, f .guides, f .limits .sound .guides-low), guides-high (at .pre .0))
 
-start-requires : tie.Need-start-requires
-start-requires c κs = search needs
+-- the places passed, from the cause on back
+abbrev origin : tie.After-cause-of → tie.Start
+origin q = start (counted (q .before .before .before .before .before .before))
+
+span-of-requires : tie.Need-span-of-requires
+span-of-requires c κs = let at = origin c in let l = plan-limits (at .pre .0) in (at .pre .1, l .width, l .radius)
+
+span-of-requires-2 : tie.Need-span-of-requires-2
+span-of-requires-2 c κs = let at = origin (c .before) in let l = plan-limits (at .pre .0) in (at .pre .2, l .height, l .radius)
+
+-- both spans are at most 31
+few : (c : tie.After-span-of2) → (c .before .span-of .result ≤ 31) × (c .span-of2 .result ≤ 31)
+few c =
+    let at = origin (c .before .before) in
+    let r = plan-limits (at .pre .0) .radius in (
+      omega (arith, c .before .span-of .ensures, span-high (at .args .plan .radius) (at .args .s) (at .args .plan .width) r),
+      omega (arith, c .span-of2 .ensures, span-high (at .args .plan .radius) (at .args .t) (at .args .plan .height) r),
+    )
+
+mul-t16 : tie.Need-mul-t16
+mul-t16 c = let h = few c in omega (arith, mul-le-mul (h .0) (h .1))
 
 returns : tie.Need-returns
 returns c =
-    let a = c .before in
-    let q = a .before in
+    let n = c .before in
+    let q = n .before .before in
     let h = q .before .before .before in
     let e = h .before .before in
     let w = counted (e .before) in
     let at = start w in
+    let f = facts (at .pre .0) in
     record {
-      pixels = a .start .ensures .count;
+      pixels = ap₂ (λ (x y : ℕ). x * y) (n .before .span-of .ensures ∙ ap₂ (λ (r k : ℕ). span r (at .args .s) k) (f .radius) (f .width))
+          (n .span-of2 .ensures ∙ ap₂ (λ (r k : ℕ). span r (at .args .t) k) (f .radius) (f .height))
+          ∙ sym (pixelCount-is (frameOf (at .args .file .now)) (at .args .s) (at .args .t));
       total = toZ-ofZ (record { sfits = e .window-balance .ok }) ∙ total e;
       level = h .answer-half .ensures .level;
       below = ap (λ (z : ℤ). toZ w64 (ofZ w64 z)) (h .answer-half .ensures .below)
           ∙ read-bounded w64 173129780571075 (below-small (pixel at) (w .weights-of .ensures .weighs) _) tt;
       reached = ap (λ (z : ℤ). toZ w64 (ofZ w64 z)) (h .answer-half .ensures .reached)
           ∙ read-bounded w64 173129780571075 (reached-small (pixel at) (w .weights-of .ensures .weighs) _) tt;
-      cause = q .cause-of .ensures ∙ cause-counted (pixel at) (w .weights-of .ensures) (facts (at .pre .0) .guides);
+      cause = q .cause-of .ensures ∙ cause-counted (pixel at) (w .weights-of .ensures) (f .guides);
     }
 
 pub grounds-spec : {M : Type 1} → statement M
@@ -109,13 +135,15 @@ grounds-spec =
     tie.close
     (tie.spec
     weights-of-requires
-    sub-t15
-    cast-t16
+    sub-t16
+    cast-t17
     slice-aggregate-window-balance
     window-balance-requires
     slice-aggregate-answer-half
     answer-half-requires
     slice-aggregate-cause-of
     cause-of-requires
-    start-requires
+    span-of-requires
+    span-of-requires-2
+    mul-t16
     returns)
