@@ -4,7 +4,7 @@ use mathlib.Core.Path.{_≡_, refl, sym, ap, ap₂, _∙_, subst}
 use mathlib.Core.Logic.{⊎-elim}
 use mathlib.Core.List.{List}
 use Prim.Native.Nat.{ℕ, zero, suc, _+_, _-_, _*_, _≤_, _<_}
-use native.Mathlib.Nat.{zero-add, add-zero, add-suc, div-one}
+use native.Mathlib.Nat.{zero-add, add-zero, add-suc, div-one, div-le-self}
 use native.Mathlib.Omega.{arith}
 use lib.Dec.{eqb}
 use lib.ListN.{length, getD, replicate, getD-replicate, length-replicate, List·getD-eq-default}
@@ -193,6 +193,6 @@ zeros-made n = record {
       (omega (arith, length-replicate {A = ℤ} n (pos 0)))) (lt-or-le b n);
 }
 
-pub levels-fit : {levels : ℕ} → levels ≤ 1024 → BlocksFit 1 levels (replicate 1024 (pos 0))
+pub levels-fit : (width : ℕ) {levels : ℕ} → levels ≤ 1024 → BlocksFit width levels (replicate 1024 (pos 0))
 unfolding blockOf
-levels-fit h = record { inside = λ i l. omega (arith, div-one i, length-replicate {A = ℤ} 1024 (pos 0)) }
+levels-fit width h = record { inside = λ i l. omega (arith, div-le-self i width, length-replicate {A = ℤ} 1024 (pos 0)) }

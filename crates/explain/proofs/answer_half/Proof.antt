@@ -29,7 +29,7 @@ slice-aggregate-add-window c = search needs
 add-window-requires : tie.Need-add-window-requires
 add-window-requires c κs =
     let at = c .before .before .before in
-    (at .pre .0, (zeros-made 1024, levels-fit (levels-high (at .pre .0 .0 .planned)), omega arith))
+    (at .pre .0, (zeros-made 1024, levels-fit _ (levels-high (at .pre .0 .0 .planned)), omega arith))
 
 slice-aggregate-reach-half : tie.Need-slice-aggregate-reach-half
 slice-aggregate-reach-half c = search needs

@@ -1,7 +1,7 @@
 -- `grounds` meets its contract, field by field. Assumes nothing.
 use borrow.Author.Needs.{needs}
 use native.Mathlib.Omega.{arith}
-use mathlib.Core.Path.{_≡_, refl, sym, ap, ap₂, _∙_}
+use mathlib.Core.Path.{_≡_, sym, ap, ap₂, _∙_, subst}
 use Prim.Native.Nat.{ℕ, _*_, _≤_}
 use native.Mathlib.Nat.{mul-le-mul}
 use lib.ListN.{length-replicate}
@@ -52,7 +52,7 @@ window-balance-requires : tie.Need-window-balance-requires
 window-balance-requires c κs =
     let w = counted c in
     let at = start w in
-    record { planned = at .pre .0; column = at .pre .1; row = at .pre .2; fits = w .weights-of .ensures .weighs .fits }
+    record { planned = at .pre .0; column = omega (arith, at .pre .1); row = omega (arith, at .pre .2); fits = w .weights-of .ensures .weighs .fits }
 
 -- at the last level the balance is T
 total : (e : tie.After-window-balance) → let at = start (counted (e .before)) in
@@ -91,18 +91,19 @@ abbrev origin : tie.After-cause-of → tie.Start
 origin q = start (counted (q .before .before .before .before .before .before))
 
 span-of-requires : tie.Need-span-of-requires
-span-of-requires c κs = let at = origin c in let l = plan-limits (at .pre .0) in (at .pre .1, l .width, l .radius)
+span-of-requires c κs = let at = origin c in let l = plan-limits (at .pre .0) in
+    (omega (arith, at .pre .1), omega (arith, l .width), omega (arith, l .radius))
 
 span-of-requires-2 : tie.Need-span-of-requires-2
-span-of-requires-2 c κs = let at = origin (c .before) in let l = plan-limits (at .pre .0) in (at .pre .2, l .height, l .radius)
+span-of-requires-2 c κs = let at = origin (c .before) in let l = plan-limits (at .pre .0) in
+    (omega (arith, at .pre .1, at .pre .2), omega (arith, l .width, l .height), omega (arith, l .radius))
 
 -- both spans are at most 31
 few : (c : tie.After-span-of2) → (c .before .span-of .result ≤ 31) × (c .span-of2 .result ≤ 31)
 few c =
-    let at = origin (c .before .before) in
-    let r = plan-limits (at .pre .0) .radius in (
-      omega (arith, c .before .span-of .ensures, span-high (at .args .plan .radius) (at .args .s) (at .args .plan .width) r),
-      omega (arith, c .span-of2 .ensures, span-high (at .args .plan .radius) (at .args .t) (at .args .plan .height) r),
+    let r = plan-limits (origin (c .before .before) .pre .0) .radius in (
+      subst (λ (n : ℕ). n ≤ 31) (sym (c .before .span-of .ensures)) (span-high _ _ _ r),
+      subst (λ (n : ℕ). n ≤ 31) (sym (c .span-of2 .ensures)) (span-high _ _ _ r),
     )
 
 mul-t16 : tie.Need-mul-t16

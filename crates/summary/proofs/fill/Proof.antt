@@ -27,7 +27,7 @@ room : (at : tie.Start) → (at .args .plan .levels + 15) / 16 ≤ length (at .a
 room at = omega (arith, count at, at .pre .1)
 
 clear-requires : tie.Need-clear-requires
-clear-requires c κs = room (c .before .before .before)
+clear-requires c κs = omega (arith, room (c .before .before .before))
 
 weights-of-requires : tie.Need-weights-of-requires
 weights-of-requires c κs = let at = c .before .before .before .before .before .before in

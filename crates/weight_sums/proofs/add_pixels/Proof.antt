@@ -1,6 +1,7 @@
 -- `add_pixels` meets its contract: after k turns the list's first k pixels are in their blocks. Assumes nothing.
 use mathlib.Core.Path.{_≡_, subst}
 use native.Mathlib.Omega.{arith}
+use native.Mathlib.Nat.{div-le-self}
 use Prim.Native.Nat.{ℕ, _+_, _-_, _*_, _/_, _^_, _≤_, _<_}
 use lib.ListN.{length, getD}
 use Rattle.pixels.specs.Pixels.{countOf, levelIn, guideIn}
@@ -55,10 +56,16 @@ placed : (t : tie.In-loop Inv-loop μ-loop) → let at = start (t .before) in
 unfolding blockOf
 placed t = let at = start (t .before) in place-in (2 ^ at .args .bits) (at .pre .0) (at .pre .1) (t .loop-test .taken) (t .before .loop .inv .1)
 
--- so its place has 64 bits
-place-low : (t : tie.In-loop Inv-loop μ-loop) → let at = start (t .before) in
-    (levelIn (at .args .p .now) (t .before .loop .k) / 2 ^ at .args .bits) * 8 < 2 ^ 64
-place-low t = let h = t .before in let at = start h in omega (arith, placed t, h .loop .inv .1 .long, at .good)
+-- a place by either of its numbers has 64 bits
+place-low : (g : tie.After-shared-slice-known3 Inv-loop μ-loop) → let at = start (g .before .before) in let k = g .before .before .loop .k in
+    (levelIn (at .args .p .now) k / 2 ^ at .args .bits < 65536) × (guideIn (at .args .p .now) k / 2 ^ at .args .bits < 65536)
+place-low g =
+    let at = start (g .before .before) in
+    let k = g .before .before .loop .k in
+    let low = numbers g in (
+      omega (arith, low .0, div-le-self (levelIn (at .args .p .now) k) (2 ^ at .args .bits)),
+      omega (arith, low .1, div-le-self (guideIn (at .args .p .now) k) (2 ^ at .args .bits)),
+    )
 
 loop-holds : tie.Need-loop-holds Inv-loop μ-loop
 loop-holds c = (omega arith, added-none _ _ _ _ _)
@@ -73,7 +80,8 @@ mul-x : tie.Need-mul-x Inv-loop μ-loop
 mul-x c = omega (arith, turn-low c)
 
 shared-slice-read-x : tie.Need-shared-slice-read-x Inv-loop μ-loop
-shared-slice-read-x c = let t = c .before in places-in (start (t .before) .args .p .now) (t .before .loop .k) (t .loop-test .taken) .0
+shared-slice-read-x c = let t = c .before in let q =
+    places-in (start (t .before) .args .p .now) (t .before .loop .k) (t .loop-test .taken) in omega (arith, q .0, q .1)
 
 cast-b : tie.Need-cast-b Inv-loop μ-loop
 cast-b c = omega (arith, numbers (c .before))
@@ -114,7 +122,7 @@ weighed e =
     weight-is (start (t .before) .pre .0) 0 (t .loop-test .taken) (number-low (read e)) (e .weigh .result) (e .weigh .ensures)
 
 mul-add : tie.Need-mul-add Inv-loop μ-loop
-mul-add c = omega (arith, place-low (turn (read c .before)))
+mul-add c = let q = place-low (read c .before .before .before .before) in omega (arith, q .0, q .1)
 
 slice-copy-out-add : tie.Need-slice-copy-out-add Inv-loop μ-loop
 slice-copy-out-add c = omega (arith, placed (turn (read c .before)))
@@ -129,7 +137,7 @@ add-requires c κs =
     (q .0, omega (arith, q .1))
 
 mul-t21 : tie.Need-mul-t21 Inv-loop μ-loop
-mul-t21 c = omega (arith, place-low (turn (read (c .before .before) .before)))
+mul-t21 c = let q = place-low (read (c .before .before) .before .before .before .before) in omega (arith, q .0, q .1)
 
 slice-set-from-sums : tie.Need-slice-set-from-sums Inv-loop μ-loop
 slice-set-from-sums c = omega (arith, placed (turn (read (c .before .before) .before)))

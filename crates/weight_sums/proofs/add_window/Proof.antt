@@ -84,7 +84,7 @@ read-requires : tie.Need-read-requires Inv-loop μ-loop
 read-requires c κs =
     let at = start (c .before .before .before) in
     let pl = at .pre .0 .0 .planned in
-    (pl, rw (c .before .column-line .ensures) (column-in (plan-limits pl) _ (at .args .t) (wide (c .before .before))), omega arith)
+    (pl, rw (c .before .column-line .ensures) (column-in (plan-limits pl) _ (at .args .t) (omega (arith, wide (c .before .before)))), omega arith)
 
 sub-add-pixels : tie.Need-sub-add-pixels Inv-loop μ-loop
 sub-add-pixels c = search needs

@@ -53,7 +53,7 @@ ones-if-hollow-requires c κs =
     let r = c .before in
     let i = r .before .before .before .before in
     let at = i .before .before .before in
-    ((at .pre .0, kind-table (at .pre .0) (i .if1 .left), at .pre .1, at .pre .2), (own r, r .table-row .ensures .long))
+    ((at .pre .0, kind-table (at .pre .0) (i .if1 .left), omega (arith, at .pre .1), at .pre .2), (own r, r .table-row .ensures .long))
 
 returns-2 : tie.Need-returns-2
 returns-2 c =
