@@ -325,8 +325,10 @@ justified : {p : Frame} {s t : ℕ} → Pixel p s t → (g : Grounds) → Ground
 justified {p} {s} {t} k g h =
     record {
       lowest = subst (LowestLevel p s t) (sym (h .level)) (lowest-answer k);
-      below-half = rw (h .below, h .total) (below-half k);
-      reaches-half = rw (h .reached, h .total) (reached-half k);
+      below-half = subst (λ (u : ℤ). (pos 2 *ℤ u) <ℤ g .total) (sym (h .below))
+          (subst (λ (u : ℤ). (pos 2 *ℤ cumulativeBelow p s t (answer p s t)) <ℤ u) (sym (h .total)) (below-half k));
+      reaches-half = subst (λ (u : ℤ). g .total ≤ℤ (pos 2 *ℤ u)) (sym (h .reached))
+          (subst (λ (u : ℤ). u ≤ℤ (pos 2 *ℤ cumulative p s t (answer p s t))) (sym (h .total)) (reached-half k));
       none-below = λ z. h .below ∙ ap (cumulativeBelow p s t) (sym (h .level) ∙ z) ∙ cumulativeBelow-zero p s t;
       applies = subst (Applies p s t) (sym (h .cause)) (applies k);
       only = λ c a. applies-once k c (causeOf p s t) a (applies k) ∙ sym (h .cause);

@@ -1,2 +1,1 @@
-pub mod HalfLaws
-pub mod CauseLaws
+pub mod AnswerLaws

@@ -1,2 +1,1 @@
-pub mod Half
-pub mod Cause
+pub mod Answer

@@ -11,9 +11,9 @@ use Rattle.spec.specs.Frame.{frameOf}
 use Rattle.spec.specs.Median.{totalWeight}
 use Rattle.spec.proofs.Limits.{Pixel}
 use Rattle.spec.proofs.Plans.{pixel-of}
-use Rattle.explain.specs.Half.{HalfInReach, HalfReached}
+use Rattle.explain_half.specs.Half.{HalfInReach, HalfReached}
 use Rattle.window.proofs.PixelLaws.{levels-high}
-use Rattle.explain.proofs.HalfLaws.{total-small, zeros-made, levels-fit, in-reach, answer-found}
+use Rattle.explain.proofs.AnswerLaws.{total-small, zeros-made, levels-fit, in-reach, answer-found}
 use Rattle.explain.proofs.answer_half.Statement.{statement}
 use Rattle.explain.proofs.answer_half.Tie as tie
 

@@ -21,8 +21,8 @@ use Rattle.spec.proofs.Sums.{pixelCount-is}
 use Rattle.window.proofs.PixelLaws.{plan-limits, levels-high, guides-high}
 use Rattle.window.proofs.LineLaws.{span-high}
 use Rattle.balance.proofs.BalanceLaws.{by-balance}
-use Rattle.explain.proofs.HalfLaws.{below-small, reached-small}
-use Rattle.explain.proofs.CauseLaws.{cause-counted}
+use Rattle.explain.proofs.AnswerLaws.{below-small, reached-small}
+use Rattle.explain_cause.proofs.CauseLaws.{cause-counted}
 use Rattle.explain.proofs.grounds.Statement.{statement}
 use Rattle.explain.proofs.grounds.Tie as tie
 

@@ -1,5 +1,6 @@
 -- `explain` meets its contract: who decides, the file's checks or the call's own, or none. Assumes nothing.
 use mathlib.Core.Path.{_≡_, sym, _∙_}
+use native.Mathlib.Omega.{arith}
 use Rattle.spec.specs.declared.Settings.{Settings}
 use Rattle.spec.specs.Refusal.{Outcome, accepted, numbered}
 use Rattle.spec.specs.Frame.{settingsOf}
@@ -72,7 +73,7 @@ returns-2 c =
     explains-refused _ _ _ (w .explain-verdict .result) _ (c .unexplained2 .ensures) f (w .explain-verdict .ensures ∙ own-decides k (own at))
 
 grounds-requires : tie.Need-grounds-requires
-grounds-requires c κs = let k = plan-at c in let q = explain-granted k _ _ (outcome-at c) in (k, q .0, q .1)
+grounds-requires c κs = let k = plan-at c in let q = explain-granted k _ _ (outcome-at c) in (k, omega (arith, q .0), omega (arith, q .1))
 
 returns-3 : tie.Need-returns-3
 unfolding explainOutcome

@@ -10,8 +10,8 @@ use mir.Syntax.{w64}
 use mir.Val.{toZ, ofZ}
 use mir.Facts.{toZ-ofZ}
 use Rattle.ints.specs.Machine.{le-true, le-false, read-bounded}
-use Rattle.explain.specs.Half.{upTo, Vacant}
-use Rattle.explain.proofs.HalfLaws.{
+use Rattle.explain_half.specs.Half.{upTo, Vacant}
+use Rattle.explain_half.proofs.HalfLaws.{
   twice,
   upTo-none,
   upTo-next,
@@ -22,8 +22,8 @@ use Rattle.explain.proofs.HalfLaws.{
   short-block,
   not-all-short,
 }
-use Rattle.explain.proofs.reach_half.Statement.{statement}
-use Rattle.explain.proofs.reach_half.Tie as tie
+use Rattle.explain_half.proofs.reach_half.Statement.{statement}
+use Rattle.explain_half.proofs.reach_half.Tie as tie
 
 abbrev Inv-loop : tie.InvT-loop
 Inv-loop sums total n below₀ i₀ below i = (i ≤ n) × (toZ w64 below ≡ upTo sums i) × Short sums (toZ w64 total) i

@@ -6,10 +6,10 @@ use lib.IntN.{ℤ, pos}
 use mir.Syntax.{w64}
 use mir.Facts.{toZ-ofZ}
 use Rattle.ints.specs.Machine.{lt-true, lt-false}
-use Rattle.explain.specs.Cause.{causeBy}
-use Rattle.explain.proofs.CauseLaws.{by-hollow, by-zero, by-last, by-none}
-use Rattle.explain.proofs.cause_of.Statement.{statement}
-use Rattle.explain.proofs.cause_of.Tie as tie
+use Rattle.explain_cause.specs.Cause.{causeBy}
+use Rattle.explain_cause.proofs.CauseLaws.{by-hollow, by-zero, by-last, by-none}
+use Rattle.explain_cause.proofs.cause_of.Statement.{statement}
+use Rattle.explain_cause.proofs.cause_of.Tie as tie
 
 returns : tie.Need-returns
 returns c = sym (by-hollow _ _ (c .if1 .taken))

@@ -24,7 +24,7 @@ use Rattle.spec.proofs.Own.{weight-table}
 use Rattle.balance.specs.Formula.{weightBy, Gives}
 use Rattle.weight_sums.specs.declared.Counting.{Counting}
 use Rattle.weight_sums.specs.Sums.{CountedBy}
-use Rattle.explain.specs.Cause.{causeBy}
+use Rattle.explain_cause.specs.Cause.{causeBy}
 
 -- kind 1 has no negative weight, so that its kind need not be asked
 both-ends : {p : Frame} {s t : ℕ} → Pixel p s t → monotone p s t ≡ (nonNeg (weight p s t 0) && nonNeg (weight p s t (p .set .guides - 1)))

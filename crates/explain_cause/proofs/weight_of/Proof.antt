@@ -8,8 +8,8 @@ use mir.Syntax.{w64}
 use mir.Val.{toZ, ofZ}
 use mir.Facts.{toZ-ofZ, toZ-pos}
 use Rattle.ints.specs.Machine.{read-bounded}
-use Rattle.explain.proofs.weight_of.Statement.{statement}
-use Rattle.explain.proofs.weight_of.Tie as tie
+use Rattle.explain_cause.proofs.weight_of.Statement.{statement}
+use Rattle.explain_cause.proofs.weight_of.Tie as tie
 
 slope-back : (at : tie.Start) → toZ w64 (ofZ w64 (at .args .formula .slope)) ≡ at .args .formula .slope
 slope-back at = read-bounded w64 235497855 (at .pre .0 .slope) tt

@@ -7,10 +7,7 @@ use lib.ListN.{length, getD}
 use lib.IntN.{ℤ, pos, natAbs, _*ℤ_}
 use lib.Signed.{_≤ℤ_, _<ℤ_}
 use Rattle.spec.specs.Base.{sumℤ}
-use Rattle.spec.specs.Frame.{Frame}
-use Rattle.spec.specs.Median.{cumulative, answer}
-use Rattle.spec.specs.Explain.{cumulativeBelow}
-use Rattle.explain.specs.declared.Half.{Half}
+use Rattle.explain_half.specs.declared.Half.{Half}
 
 -- the sum of the first i
 unfoldable pub upTo : List ℤ → ℕ → ℤ
@@ -41,9 +38,3 @@ pub record HalfReached (xs : List ℤ) (total : ℤ) (r : Half) : Type 0 where
   pub reached : r .reached ≡ upTo xs (suc (r .level .0))
   pub reaches : total ≤ℤ (pos 2 *ℤ r .reached)
   pub lowest : (i : ℕ) → i < r .level .0 → (pos 2 *ℤ upTo xs (suc i)) <ℤ total
-
--- in the window at (s, t) that level is the answer
-pub record AnswerReached (p : Frame) (s t : ℕ) (r : Half) : Type 0 where
-  pub level : r .level .0 ≡ answer p s t
-  pub below : r .below ≡ cumulativeBelow p s t (answer p s t)
-  pub reached : r .reached ≡ cumulative p s t (answer p s t)

@@ -4,9 +4,9 @@ use mathlib.Core.Bool.{true≢false}
 use native.Mathlib.Omega.{arith}
 use Prim.Native.Nat.{ℕ, _+_, _-_, _≤_}
 use borrow.Author.Tests.{eqb-true}
-use Rattle.explain.proofs.HalfLaws.{Seen, seen-none, seen-more, seen-all}
-use Rattle.explain.proofs.vacant.Statement.{statement}
-use Rattle.explain.proofs.vacant.Tie as tie
+use Rattle.explain_half.proofs.HalfLaws.{Seen, seen-none, seen-more, seen-all}
+use Rattle.explain_half.proofs.vacant.Statement.{statement}
+use Rattle.explain_half.proofs.vacant.Tie as tie
 
 abbrev Inv-loop : tie.InvT-loop
 Inv-loop sums i end all₀ j₀ all j = (i ≤ j) × (j ≤ end) × Seen sums i j all
