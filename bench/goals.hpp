@@ -51,7 +51,7 @@ inline Goal longest(const Explained &all) {
     auto most = std::max_element(all.begin(), all.end(), shorter);
     if (most == all.end() || most->times() == NOT_TIMED) return goal;
     goal.seen = most->times();
-    goal.what += std::string(" (most: ") + most->weights() + " " + most->size() + ", L " + std::to_string(most->k.levels) +
+    goal.what += std::string(" (most: ") + most->weights() + " " + most->size() + ", M " + std::to_string(most->k.guides) +
                  ", answer " + std::to_string(most->level) + ")";
     return goal;
 }
