@@ -8,10 +8,11 @@ use native.Mathlib.Nat.{div-one, div-le-self}
 use native.Mathlib.Omega.{arith}
 use lib.Dec.{eqb}
 use lib.ListN.{length, getD, replicate, getD-replicate, length-replicate, List·getD-eq-default}
-use lib.IntN.{ℤ, pos, natAbs, _+ℤ_, _*ℤ_}
+use lib.IntN.{ℤ, pos, natAbs, _+ℤ_, _-ℤ_, _*ℤ_}
 use lib.Signed.{_≤ℤ_, _<ℤ_}
 use Rattle.ints.specs.Order.{add-parts, lt-or-le}
 use Rattle.ints.specs.Linear.{ints}
+use Rattle.ints.specs.Polynomial.{_⊖_, _⊗_, #_, _≐_, solve1}
 use Rattle.spec.specs.Base.{if_then_else_}
 use Rattle.spec.specs.declared.Settings.{Settings}
 use Rattle.spec.specs.Frame.{Frame, level, guide}
@@ -29,8 +30,11 @@ use Rattle.spec.proofs.Bounds.{total-abs, level-abs, cumulative-abs}
 use Rattle.spec.proofs.Climb.{cumulativeBelow-zero, cumulativeBelow-suc, cumulativeBelow-next}
 use Rattle.balance.specs.declared.formula.Formula.{Formula}
 use Rattle.balance.specs.Formula.{Weighs}
+use Rattle.balance.specs.Balance.{balanceBy}
+use Rattle.balance.proofs.BalanceLaws.{by-balance}
 use Rattle.weight_sums.specs.Sums.{blockOf, weightIn, Zeros, BlocksFit, Gathered}
 use Rattle.explain_half.specs.declared.Half.{Half}
+use Rattle.explain.specs.declared.Answered.{Answered}
 use Rattle.explain_half.specs.Half.{upTo, SumsSmall, HalfInReach, HalfReached}
 use Rattle.explain_half.proofs.HalfLaws.{twice, upTo-none, upTo-next}
 use Rattle.explain.specs.Answer.{AnswerReached}
@@ -43,6 +47,16 @@ weights-low p s t w f h = rw (w .is f h) (w .fits .low f h)
 pub total-small : {p : Frame} {s t : ℕ} → Pixel p s t → {row : List ℕ} {formula : Formula} → Weighs p s t row formula
     → natAbs (totalWeight p s t) ≤ 173129780571075
 total-small {p} {s} {t} k w = omega (arith, total-abs k 180155859075 (weights-low p s t w))
+
+-- at a level above all the balance by the weights is T
+pub total-gathered : {p : Frame} {s t : ℕ} → Pixel p s t → {row : List ℕ} {formula : Formula} → Weighs p s t row formula
+    → balanceBy p s t row formula 65535 ≡ totalWeight p s t
+unfolding balance
+total-gathered {p} {s} {t} k w =
+    by-balance k w 65535
+    ∙ ap (λ (u : ℤ). pos 2 *ℤ u -ℤ totalWeight p s t)
+    (cumulative-all p s t 65535 (λ x y h. omega (arith, k .good .level-low x y (h .wide) (h .high), k .good .sound .levels-high)))
+    ∙ solve1 (λ u. # 2 ⊗ u ⊖ u ≐ u) refl (totalWeight p s t)
 
 pub reached-small : {p : Frame} {s t : ℕ} → Pixel p s t → {row : List ℕ} {formula : Formula} → Weighs p s t row formula → (i : ℕ)
     → natAbs (cumulative p s t i) ≤ 173129780571075
@@ -88,15 +102,16 @@ module _ {p : Frame} {s t : ℕ} (k : Pixel p s t) {xs ys : List ℤ} (g : Gathe
           ∙ cumulative-all p s t 1023 (λ x y h. omega (arith, k .good .level-low x y (h .wide) (h .high), k .good .sound .levels-high))
 
   -- the level found is the answer
-  pub answer-found : {r : Half} → HalfReached ys (totalWeight p s t) r → AnswerReached p s t r
-  answer-found {r} h = record {
+  pub answer-found : {r : Answered} → r .total ≡ totalWeight p s t → HalfReached ys (totalWeight p s t) (r .half) → AnswerReached p s t r
+  answer-found {r} e h = record {
+    total = e;
     level = sym is;
-    below = h .below ∙ below-is (r .level .0) ∙ ap (cumulativeBelow p s t) (sym is);
-    reached = h .reached ∙ reached-is (r .level .0) ∙ ap (cumulative p s t) (sym is);
+    below = h .below ∙ below-is m ∙ ap (cumulativeBelow p s t) (sym is);
+    reached = h .reached ∙ reached-is m ∙ ap (cumulative p s t) (sym is);
   }
     where
       m : ℕ
-      m = r .level .0
+      m = r .half .level .0
 
       short : (i : ℕ) → i < m → (pos 2 *ℤ cumulative p s t i) <ℤ totalWeight p s t
       short i l = subst (λ (u : ℤ). (pos 2 *ℤ u) <ℤ totalWeight p s t) (reached-is i) (h .lowest i l)

@@ -1,27 +1,29 @@
 // Why a window has its level (document 02), from the file alone: its weights gathered by level in one pass, then the levels from 0 on until they reach
 // half. No store is lent: the sums of 1,024 levels are in an array here.
 use balance::formula::Formula;
-use balance::window_balance;
 use explain_cause::cause_of;
 use explain_half::Half;
 use explain_half::reach_half;
 use spec::Grounds;
-use spec::Level;
 use spec::Plan;
 use weight_sums::add_window;
 use weight_sums::weights_of;
 use window::line::span_of;
-ghost use mathlib.Core.Path.{_≡_};
 ghost use Prim.Native.Nat.{_<_};
 ghost use Rattle.spec.specs.Frame.{frameOf};
 ghost use Rattle.spec.specs.Checks.{Planned};
-ghost use Rattle.spec.specs.Median.{totalWeight};
 ghost use Rattle.spec.specs.Explain.{Grounded};
 ghost use Rattle.balance.specs.Formula.{Weighs};
 ghost use Rattle.balance.specs.Balance.{Weighed};
 ghost use Rattle.explain.specs.Answer.{AnswerReached};
 
-// The answer of the window at (s, t), by a row of weights.
+// The answer of a window: the total, and where half of it is reached.
+pub struct Answered {
+    pub total: i64,
+    pub half: Half,
+}
+
+// Of the window at (s, t), by a row of weights.
 pub fn answer_half(
     file: &[u8],
     plan: Plan,
@@ -29,15 +31,14 @@ pub fn answer_half(
     formula: Formula,
     s: usize,
     t: usize,
-    total: i64,
-) -> Half
+) -> Answered
     requires { ⌜ (Weighed (now file) plan s t (now weights) formula) × (Weighs (frameOf (now file)) s t (now weights) formula) ⌝ }
-    requires { ⌜ total ≡ totalWeight (frameOf (now file)) s t ⌝ }
     ensures { λ r. ⌜ AnswerReached (frameOf (now (file .entry))) s t r ⌝ }
 {
     let mut sums = [0i64; 1024];
-    add_window(file, plan, weights, formula, s, t, 0, &mut sums);
-    reach_half(&sums, total)
+    let total = add_window(file, plan, weights, formula, s, t, 0, &mut sums);
+    let half = reach_half(&sums, total);
+    Answered { total, half }
 }
 
 // The grounds of the level at (s, t).
@@ -48,19 +49,18 @@ pub fn grounds(file: &[u8], plan: Plan, s: usize, t: usize) -> Grounds
     let mut row = [0u16; 256];
     let counted = weights_of(file, plan, s, t, &mut row);
     let formula = counted.formula;
-    let last = Level((plan.levels - 1) as u16);
-    let total = window_balance(file, plan, &row, formula, s, t, last);
-    let reached = answer_half(file, plan, &row, formula, s, t, total);
-    let level = reached.level;
+    let answered = answer_half(file, plan, &row, formula, s, t);
+    let half = answered.half;
+    let level = half.level;
     let cause = cause_of(&row, counted, plan.guides);
     let columns = span_of(s, plan.radius, plan.width);
     let rows = span_of(t, plan.radius, plan.height);
     Grounds {
         pixels: columns * rows,
-        total,
+        total: answered.total,
         level,
-        below: reached.below,
-        reached: reached.reached,
+        below: half.below,
+        reached: half.reached,
         cause,
     }
 }

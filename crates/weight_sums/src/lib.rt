@@ -15,11 +15,12 @@ use window::pixel;
 ghost use mathlib.Core.Path.{_≡_};
 ghost use Prim.Native.Nat.{_^_, _<_};
 ghost use lib.ListN.{length};
+ghost use lib.IntN.{pos, _+ℤ_};
 ghost use Rattle.spec.specs.Frame.{frameOf};
 ghost use Rattle.spec.specs.Checks.{Planned};
-ghost use Rattle.pixels.specs.Pixels.{countOf};
+ghost use Rattle.pixels.specs.Pixels.{countOf, pixelFold};
 ghost use Rattle.balance.specs.Formula.{Weighs};
-ghost use Rattle.balance.specs.Balance.{PixelsWeighed, Weighed};
+ghost use Rattle.balance.specs.Balance.{signedBy, balanceBy, PixelsWeighed, Weighed};
 ghost use Rattle.weight_sums.specs.Sums.{CountedBy, LineBlocks, BlocksAdded, Zeros, BlocksFit, Gathered};
 
 // How a window is counted: the formula over a row of numbers, and whether it is hollow.
@@ -53,13 +54,15 @@ pub fn weights_of(file: &[u8], plan: Plan, s: usize, t: usize, row: &mut [u16; 2
     }
 }
 
-// A list's pixels, each added to its block of 2 ^ bits levels.
-pub fn add_pixels(p: &[u16], weights: &[u16], formula: Formula, bits: u32, sums: &mut [i64])
+// A list's pixels, each added to its block of 2 ^ bits levels; and what they weigh together, which is their balance at a level that none is above.
+pub fn add_pixels(p: &[u16], weights: &[u16], formula: Formula, bits: u32, sums: &mut [i64]) -> i64
     requires { ⌜ (PixelsWeighed (now p) (now weights) formula) × (LineBlocks (2 ^ bits) (now p) (now sums)) × (bits < 16) ⌝ }
-    ensures { λ _. ⌜ BlocksAdded (2 ^ bits) (now (p .entry)) (now (weights .entry)) formula (countOf (now (p .entry)))
-        (now (sums .entry)) (now (sums .exit)) ⌝ }
+    ensures { λ r. ⌜ (BlocksAdded (2 ^ bits) (now (p .entry)) (now (weights .entry)) formula (countOf (now (p .entry)))
+        (now (sums .entry)) (now (sums .exit)))
+        × (r ≡ pixelFold _+ℤ_ (pos 0) (now (p .entry)) (signedBy (now (weights .entry)) formula 65535)) ⌝ }
 {
     let n = p.len() / 2;
+    let mut total: i64 = 0;
     let mut k = 0;
     while k < n {
         let at = 2 * k;
@@ -69,11 +72,13 @@ pub fn add_pixels(p: &[u16], weights: &[u16], formula: Formula, bits: u32, sums:
         let x = weights[g.0 as usize] as i64;
         let weight = formula::weigh(formula.slope, formula.offset, x);
         sums[b] = add(sums[b], weight);
+        total = add(total, weight);
         k += 1;
     }
+    total
 }
 
-// The window's columns, one after the other.
+// The window's columns, one after the other; and what they weigh together.
 pub fn add_window(
     file: &[u8],
     plan: Plan,
@@ -83,19 +88,23 @@ pub fn add_window(
     t: usize,
     bits: u32,
     sums: &mut [i64],
-)
+) -> i64
     requires { ⌜ (Weighed (now file) plan s t (now weights) formula) × (Weighs (frameOf (now file)) s t (now weights) formula) ⌝ }
     requires { ⌜ (Zeros (now sums)) × (BlocksFit (2 ^ bits) (plan .levels) (now sums)) × (bits < 16) ⌝ }
-    ensures { λ _. ⌜ Gathered (2 ^ bits) (frameOf (now (file .entry))) s t (now (sums .entry)) (now (sums .exit)) ⌝ }
+    ensures { λ r. ⌜ (Gathered (2 ^ bits) (frameOf (now (file .entry))) s t (now (sums .entry)) (now (sums .exit)))
+        × (r ≡ balanceBy (frameOf (now (file .entry))) s t (now (weights .entry)) formula 65535) ⌝ }
 {
     let x = low(s, plan.radius);
     let n = span_of(s, plan.radius, plan.width);
+    let mut total: i64 = 0;
     let mut k = 0;
     while k < n {
         let mut places = [0u16; 62];
         let line = column_line(plan, x + k, t);
         let e = pixels::read(file, plan, line, &mut places);
-        add_pixels(&places[0..e], weights, formula, bits, sums);
+        let line_total = add_pixels(&places[0..e], weights, formula, bits, sums);
+        total = add(total, line_total);
         k += 1;
     }
+    total
 }

@@ -66,13 +66,13 @@ same-length : tie.Need-same-length
 same-length c =
     let z = zeros c in
     let at = z .before .before .before .before in
-    filled-long (room at) (z .clear .ensures) (c .before .add-window .ensures)
+    filled-long (room at) (z .clear .ensures) (c .before .add-window .ensures .0)
 
 returns : tie.Need-returns
 returns c =
     let z = zeros c in
     let at = z .before .before .before .before in
-    filled (room at) (z .clear .ensures) (count at) (c .before .add-window .ensures)
+    filled (room at) (z .clear .ensures) (count at) (c .before .add-window .ensures .0)
 
 pub fill-spec : {M : Type 1} → statement M
 fill-spec =

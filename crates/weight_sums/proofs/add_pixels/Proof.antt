@@ -1,23 +1,30 @@
 -- `add_pixels` meets its contract: after k turns the list's first k pixels are in their blocks. Assumes nothing.
-use mathlib.Core.Path.{_≡_, subst}
+use mathlib.Core.Path.{_≡_, sym, ap, _∙_, subst}
 use native.Mathlib.Omega.{arith}
 use native.Mathlib.Nat.{div-le-self}
 use Prim.Native.Nat.{ℕ, _+_, _-_, _*_, _/_, _^_, _≤_, _<_}
 use lib.ListN.{length, getD}
-use Rattle.pixels.specs.Pixels.{countOf, levelIn, guideIn}
+use lib.IntN.{pos, _+ℤ_}
+use mir.Syntax.{w64}
+use mir.Val.{toZ, ofZ}
+use Rattle.pixels.specs.Pixels.{countOf, levelIn, guideIn, pixelFoldTo}
 use Rattle.pixels.proofs.Laws.{places-in}
+use Rattle.pixels.proofs.AdditiveLaws.{pixels-none}
 use Rattle.balance.specs.Formula.{weightBy}
-use Rattle.balance.proofs.BalanceLaws.{weight-asks, weight-is}
+use Rattle.balance.specs.Balance.{signedBy}
+use Rattle.balance.proofs.BalanceLaws.{signed-up, weight-asks, weight-is, sum-asks as total-asks, sum-again as total-again}
 use Rattle.weight_sums.specs.Sums.{blockOf, BlocksAdded}
 use Rattle.weight_sums.proofs.SumLaws.{added-none, place-in, sum-asks, added-next}
 use Rattle.weight_sums.proofs.add_pixels.Statement.{statement}
 use Rattle.weight_sums.proofs.add_pixels.Tie as tie
 
 abbrev Inv-loop : tie.InvT-loop
-Inv-loop p weights formula bits sums₀ n k₀ sums k = (k ≤ n) × BlocksAdded (2 ^ bits) p weights formula k sums₀ sums
+Inv-loop p weights formula bits sums₀ n total₀ k₀ sums total k =
+    (k ≤ n) × BlocksAdded (2 ^ bits) p weights formula k sums₀ sums ×
+    (toZ w64 total ≡ pixelFoldTo _+ℤ_ (pos 0) p (signedBy weights formula 65535) k)
 
 abbrev μ-loop : tie.MeasureT-loop
-μ-loop p weights formula bits sums₀ n k₀ sums k = n - k
+μ-loop p weights formula bits sums₀ n total₀ k₀ sums total k = n - k
 
 abbrev start : tie.At-loop Inv-loop μ-loop → tie.Start Inv-loop μ-loop
 start h = h .before .before .before
@@ -68,7 +75,7 @@ place-low g =
     )
 
 loop-holds : tie.Need-loop-holds Inv-loop μ-loop
-loop-holds c = (omega arith, added-none _ _ _ _ _)
+loop-holds c = (omega arith, added-none _ _ _ _ _, sym (pixels-none _+ℤ_ (pos 0) _ _))
 
 mul-at : tie.Need-mul-at Inv-loop μ-loop
 mul-at c = omega (arith, turn-low c)
@@ -136,27 +143,43 @@ add-requires c κs =
     let q = sum-asks (2 ^ at .args .bits) (at .pre .0) (at .pre .1) (t .loop-test .taken) (t .before .loop .inv .1) (e .weigh .result) (weighed e) in
     (q .0, omega (arith, q .1))
 
-mul-t21 : tie.Need-mul-t21 Inv-loop μ-loop
-mul-t21 c = let q = place-low (read (c .before .before) .before .before .before .before) in omega (arith, q .0, q .1)
+mul-t22 : tie.Need-mul-t22 Inv-loop μ-loop
+mul-t22 c = let q = place-low (read (c .before .before) .before .before .before .before) in omega (arith, q .0, q .1)
 
 slice-set-from-sums : tie.Need-slice-set-from-sums Inv-loop μ-loop
 slice-set-from-sums c = omega (arith, placed (turn (read (c .before .before) .before)))
 
+add-requires-2 : tie.Need-add-requires-2 Inv-loop μ-loop
+add-requires-2 c κs =
+    let e = c .before .before in
+    let t = turn (read e .before) in
+    let h = t .before in
+    let at = start h in
+    let q = total-asks (at .pre .0) 65535 (t .loop-test .taken) (toZ w64 (h .loop .total)) (e .weigh .result) (h .loop .inv .2) (weighed e) in
+    (omega (arith, q .0, q .1), omega (arith, q .0, q .1))
+
 add-k : tie.Need-add-k Inv-loop μ-loop
-add-k c = omega (arith, turn-low (turn (read (c .before .before) .before)))
+add-k c = omega (arith, turn-low (turn (read (c .before .before .before) .before)))
 
 loop-less : tie.Need-loop-less Inv-loop μ-loop
-loop-less c = omega (arith, turn (read (c .before .before) .before) .loop-test .taken)
+loop-less c = omega (arith, turn (read (c .before .before .before) .before) .loop-test .taken)
 
 loop-again : tie.Need-loop-again Inv-loop μ-loop
 unfolding blockOf
 loop-again c =
-    let e = c .before .before in
-    let t = turn (read e .before) in
-    let at = start (t .before) in (
+    let a = c .before in
+    let e = a .before .before in
+    let r = read e in
+    let t = turn (r .before) in
+    let h = t .before in
+    let at = start h in (
       omega (arith, t .loop-test .taken),
-      added-next (2 ^ at .args .bits) (at .pre .0) (at .pre .1) (t .loop-test .taken) (t .before .loop .inv .1) (e .weigh .result) (weighed e)
-          (c .add .result) (c .add .ok) (c .add .ensures),
+      added-next (2 ^ at .args .bits) (at .pre .0) (at .pre .1) (t .loop-test .taken) (h .loop .inv .1) (e .weigh .result) (weighed e)
+          (a .add .result) (a .add .ok) (a .add .ensures),
+      total-again (at .pre .0) 65535 (t .loop-test .taken) (toZ w64 (h .loop .total)) (e .weigh .result) (h .loop .inv .2) (weighed e)
+          (c .add2 .result) (c .add2 .ok)
+          (c .add2 .ensures ∙ signed-up 65535 (levelIn (at .args .p .now) (h .loop .k)) (toZ w64 (h .loop .total)) (toZ w64 (ofZ w64 (e .weigh .result)))
+          (omega (arith, numbers (r .before .before .before .before) .0))),
     )
 
 same-length : tie.Need-same-length Inv-loop μ-loop
@@ -167,8 +190,10 @@ returns c =
     let h = c .before in
     let at = start h in
     let done : h .loop .k ≡ countOf (at .args .p .now) = omega (arith, h .loop .inv .0, c .loop-test .left) in
-    let added = BlocksAdded (2 ^ at .args .bits) (at .args .p .now) (at .args .weights .now) (at .args .formula) in
-    subst (λ (k : ℕ). added k (at .args .sums .now) (h .loop .sums)) done (h .loop .inv .1)
+    let added = BlocksAdded (2 ^ at .args .bits) (at .args .p .now) (at .args .weights .now) (at .args .formula) in (
+      subst (λ (k : ℕ). added k (at .args .sums .now) (h .loop .sums)) done (h .loop .inv .1),
+      h .loop .inv .2 ∙ ap (pixelFoldTo _+ℤ_ (pos 0) (at .args .p .now) (signedBy (at .args .weights .now) (at .args .formula) 65535)) done,
+    )
 
 pub add-pixels-spec : {M : Type 1} → statement M
 add-pixels-spec =
@@ -193,8 +218,9 @@ add-pixels-spec =
     mul-add
     slice-copy-out-add
     add-requires
-    mul-t21
+    mul-t22
     slice-set-from-sums
+    add-requires-2
     add-k
     loop-less
     loop-again
