@@ -30,7 +30,19 @@ use Rattle.spec.specs.Checks.{
   trailerOutcome,
   verdict,
 }
-use Rattle.spec.specs.Calls.{badWay, badPixel, short, walkChecks, walkOutcome, filterChecks, filterOutcome, balanceChecks, balanceOutcome, explainChecks, explainOutcome}
+use Rattle.spec.specs.Calls.{
+  badWay,
+  badPixel,
+  short,
+  walkChecks,
+  walkOutcome,
+  filterChecks,
+  filterOutcome,
+  balanceChecks,
+  balanceOutcome,
+  explainChecks,
+  explainOutcome,
+}
 use Rattle.spec.specs.Writer.{writtenSize, badLength, scanList, writerOutcome}
 use Rattle.spec.proofs.Checks.{not-refused, both-accepted}
 use Rattle.demands.specs.Table.{fileRows, walkRows, filterRows, balanceRows, explainRows, writerRows, ByTable}

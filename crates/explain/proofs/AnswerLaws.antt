@@ -94,7 +94,8 @@ module _ {p : Frame} {s t : ℕ} (k : Pixel p s t) {xs ys : List ℤ} (g : Gathe
     small = λ i h. rw (below-is i) (below-small k w i);
     positive = total-pos k;
     total-small = total-small k w;
-    reaches = subst (λ (u : ℤ). totalWeight p s t ≤ℤ (pos 2 *ℤ u)) (sym all) (rw (twice (totalWeight p s t)) (let h = total-pos k in omega (arith, ints, h, add-parts (totalWeight p s t) (totalWeight p s t))));
+    reaches = subst (λ (u : ℤ). totalWeight p s t ≤ℤ (pos 2 *ℤ u)) (sym all)
+        (rw (twice (totalWeight p s t)) (let h = total-pos k in omega (arith, ints, h, add-parts (totalWeight p s t) (totalWeight p s t))));
   }
     where
       all : upTo ys (length ys) ≡ totalWeight p s t

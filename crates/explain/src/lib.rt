@@ -1,5 +1,5 @@
-// Why a window has its level (document 02), from the file alone: its weights gathered by level in one pass, then the levels from 0 on until they reach
-// half. No store is lent: the sums of 1,024 levels are in an array here.
+// Why a window has its level (document 02), from the file alone: its weights gathered by level in one pass, then the levels from 0 on until they
+// reach half. No store is lent: the sums of 1,024 levels are in an array here.
 use balance::formula::Formula;
 use explain_cause::cause_of;
 use explain_half::Half;

@@ -50,7 +50,8 @@ cause-is : {p : Frame} {s t : ℕ} → Pixel p s t → causeBy (weightless p s t
 unfolding causeBy causeOf
 cause-is {p} {s} {t} k =
     tests (weightless p s t) (nonNeg (weight p s t 0)) (nonNeg (weight p s t (p .set .guides - 1)))
-    ∙ ap (λ (b : Bool). if weightless p s t then Hollow else if b then Ordinary else if nonNeg (weight p s t 0) then NegativeAtLast else NegativeAtZero)
+    ∙ ap
+    (λ (b : Bool). if weightless p s t then Hollow else if b then Ordinary else if nonNeg (weight p s t 0) then NegativeAtLast else NegativeAtZero)
     (sym (both-ends k))
 
 -- by what the window is counted with

@@ -78,7 +78,8 @@ seen-more {xs} {i} {j} {all} h = record {
 }
 
 pub seen-all : {xs : List ℤ} {i all : ℕ} → SumsSmall xs → i + 16 ≤ length xs → Seen xs i (i + 16) all → all ≡ 0 → Vacant xs i
-seen-all {xs} {i} small room h e = record { inside = room; zeros = λ k l. zero-of (i + k) (omega arith) (h .none e (i + k) (omega arith) (omega arith)) }
+seen-all {xs} {i} small room h e =
+    record { inside = room; zeros = λ k l. zero-of (i + k) (omega arith) (h .none e (i + k) (omega arith) (omega arith)) }
   where
     zero-of : (k : ℕ) → k < length xs → ofZ w64 (getD xs k (pos 0)) ≡ 0 → getD xs k (pos 0) ≡ pos 0
     zero-of k l z = sym (read-bounded w64 {z = getD xs k (pos 0)} 173129780571075 (small .each k l) tt) ∙ ap (toZ w64) z

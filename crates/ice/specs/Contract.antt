@@ -14,7 +14,20 @@ use Rattle.spec.specs.Median.{balance}
 use Rattle.spec.specs.Explain.{Grounded}
 use Rattle.spec.specs.Walk.{State, walkEnd, walkAnswers}
 use Rattle.spec.specs.Filter.{filtered, filterEnd}
-use Rattle.spec.specs.Calls.{wayOf, roomOf, countsOf, wordsOf, NumbersOf, summaryOf, boxOf, zeros, walkOutcome, filterOutcome, balanceOutcome, explainOutcome}
+use Rattle.spec.specs.Calls.{
+  wayOf,
+  roomOf,
+  countsOf,
+  wordsOf,
+  NumbersOf,
+  summaryOf,
+  boxOf,
+  zeros,
+  walkOutcome,
+  filterOutcome,
+  balanceOutcome,
+  explainOutcome,
+}
 use Rattle.ice_step.specs.declared.Walked.{Walked}
 use Rattle.ice.specs.declared.Balanced.{Balanced}
 use Rattle.ice.specs.declared.Explained.{Explained}

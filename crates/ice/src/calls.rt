@@ -1,5 +1,5 @@
-// The public calls: walk, filter, balance and explain. Each makes checks 1 to 7 on the bytes that it is handed, then its own, and changes no buffer where one
-// fires.
+// The public calls: walk, filter, balance and explain. Each makes checks 1 to 7 on the bytes that it is handed, then its own, and changes no buffer
+// where one fires.
 use crate::Balanced;
 use crate::Explained;
 use balance::balance_at;

@@ -135,7 +135,8 @@ module _ {b : List ℕ} {s t i : ℕ} {w : Balanced} (h : Balances b s t i w) {r
 
 -- ---- explain
 pub explain-called : {b : List ℕ} {s t : ℕ} {w : Explained} → Explains b s t w → {r offset₀ offset : ℕ}
-    → Reported (numbered (w .verdict)) r offset₀ offset → {before after : LentGrounds} → GroundsGiven (numbered (w .verdict)) (w .grounds) before after
+    → Reported (numbered (w .verdict)) r offset₀ offset → {before after : LentGrounds}
+    → GroundsGiven (numbered (w .verdict)) (w .grounds) before after
     → ExplainCall b s t r before after offset₀ offset
 explain-called {w = w} h q g =
     record {

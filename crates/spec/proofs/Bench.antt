@@ -117,8 +117,8 @@ unfolding fold foldRect first tabulateFrom tabulate be16 be32 to16 to32 all16 tr
     ownTotal isZero weightless weight monotone totalWeight cumulative balance median answer differences adds arrive move follow step after answers
     walkEnd walkAnswers turn serpentine filtered filterEnd jointCounts occupancyWord occupancyWords balanceBox columnSum columnStore entryOf entries
     blockWeight summary wayOf badWay roomOf badPixel lacks short walkChecks walkOutcome filterChecks filterOutcome balanceChecks balanceOutcome
-    explainChecks explainOutcome cumulativeBelow causeOf fieldBytes distanceBytes written writtenSize badLength scanList writerOutcome digits spaced rows ways tooLarge programOutcome beside outputText
-    printed
+    explainChecks explainOutcome cumulativeBelow causeOf fieldBytes distanceBytes written writtenSize badLength scanList writerOutcome digits spaced
+    rows ways tooLarge programOutcome beside outputText printed
 reply (accept b) = says (verdict b)
 reply (walk b s t l) = let p = frameOf b in closed (walkEnd Joint p s t l) (walkAnswers p s t l)
 reply (filter b) = let p = frameOf b in closed (filterEnd Joint p) (filtered p)

@@ -76,12 +76,11 @@ negative : (z : ℤ) → nonNeg z ≡ false → z <ℤ pos 0
 negative (pos n) e = absurd (true≢false e)
 negative (negsuc n) e = record { lt = tt }
 
--- of x or (y and z) that do not hold, x does not, and y or z does not
-unmet : (x y z : Bool) → (x || (y && z)) ≡ false → (x ≡ false) × ((y ≡ false) ⊎ (z ≡ false))
-unmet true y z e = absurd (true≢false e)
-unmet false false z e = (refl, inl refl)
-unmet false true false e = (refl, inr refl)
-unmet false true true e = absurd (true≢false e)
+-- of x or (y and z) that do not hold, z does not where y does
+unmet : (x y z : Bool) → (x || (y && z)) ≡ false → y ≡ true → z ≡ false
+unmet true y z e h = absurd (true≢false e)
+unmet false false z e h = absurd (true≢false (sym h))
+unmet false true z e h = e
 
 module _ {p : Frame} {s t : ℕ} (k : Pixel p s t) where
   -- document 02: never both. Kind 1 has no negative weight at all
@@ -99,15 +98,10 @@ module _ {p : Frame} {s t : ℕ} (k : Pixel p s t) where
     where
       end : (b : Bool) → nonNeg (weight p s t 0) ≡ b → weightless p s t ≡ false → monotone p s t ≡ false
           → Applies p s t (if b then NegativeAtLast else NegativeAtZero)
-      end true first e m = (
-        m,
-        subst (λ (z : ℤ). z <ℤ pos 0) (weight-own p s t (p .set .guides - 1) e)
-            (negative (weight p s t (p .set .guides - 1)) (last (unmet (eqb (p .set .kind) 1) (nonNeg (weight p s t 0)) (nonNeg (weight p s t (p .set .guides - 1))) m .1))),
-      )
-        where
-          last : (nonNeg (weight p s t 0) ≡ false) ⊎ (nonNeg (weight p s t (p .set .guides - 1)) ≡ false) → nonNeg (weight p s t (p .set .guides - 1)) ≡ false
-          last (inl h) = absurd (true≢false (sym first ∙ h))
-          last (inr h) = h
+      end true first e m =
+          let last = p .set .guides - 1 in
+          let below = unmet (eqb (p .set .kind) 1) (nonNeg (weight p s t 0)) (nonNeg (weight p s t last)) m first in
+          (m, subst (λ (z : ℤ). z <ℤ pos 0) (weight-own p s t last e) (negative (weight p s t last) below))
       end false first e m = (m, subst (λ (z : ℤ). z <ℤ pos 0) (weight-own p s t 0 e) (negative (weight p s t 0) first))
 
       steady : (b : Bool) → monotone p s t ≡ b → weightless p s t ≡ false
@@ -164,4 +158,5 @@ module _ {p : Frame} {s t : ℕ} (k : Pixel p s t) where
 
   pub reached-half : totalWeight p s t ≤ℤ (pos 2 *ℤ cumulative p s t (answer p s t))
   reached-half =
-      subst (λ (m : ℕ). totalWeight p s t ≤ℤ (pos 2 *ℤ cumulative p s t m)) (sym (answer-median p s t)) (balance-le p s t (median p s t) (median-at k))
+      subst (λ (m : ℕ). totalWeight p s t ≤ℤ (pos 2 *ℤ cumulative p s t m)) (sym (answer-median p s t))
+      (balance-le p s t (median p s t) (median-at k))

@@ -62,7 +62,12 @@ module _ {n : ℕ} {xs ys : List ℤ} (room : n ≤ length xs) (g : Cleared n n 
   -- with the sums in it, and what lies beyond
   pub filled : {p : Frame} {s t : ℕ} {zs : List ℤ} → n ≡ blockCount (p .set) → Gathered 16 p s t (take (n - 0) (drop 0 ys)) zs
       → zs ++ drop (n - 0) (drop 0 ys) ≡ summary p s t ++ drop (blockCount (p .set)) xs
-  filled e h = ap₂ _++_ (gathered-summary (ap length part-is ∙ part-long ∙ e) h) (ap (λ (k : ℕ). drop k ys) from-zero ∙ g .rest ∙ ap (λ (k : ℕ). drop k xs) e)
+  filled e h =
+      ap₂ _++_ (gathered-summary (ap length part-is ∙ part-long ∙ e) h)
+      (ap (λ (k : ℕ). drop k ys) from-zero ∙ g .rest ∙ ap (λ (k : ℕ). drop k xs) e)
 
-  pub filled-long : {p : Frame} {s t : ℕ} {zs : List ℤ} → Gathered 16 p s t (take (n - 0) (drop 0 ys)) zs → length (zs ++ drop (n - 0) (drop 0 ys)) ≡ length xs
-  filled-long {zs = zs} h = length-append zs (drop (n - 0) (drop 0 ys)) ∙ omega (arith, h .long, ap length part-is, part-long, length-drop (n - 0) ys, g .long)
+  pub filled-long : {p : Frame} {s t : ℕ} {zs : List ℤ} → Gathered 16 p s t (take (n - 0) (drop 0 ys)) zs
+      → length (zs ++ drop (n - 0) (drop 0 ys)) ≡ length xs
+  filled-long {zs = zs} h =
+      length-append zs (drop (n - 0) (drop 0 ys))
+      ∙ omega (arith, h .long, ap length part-is, part-long, length-drop (n - 0) ys, g .long)

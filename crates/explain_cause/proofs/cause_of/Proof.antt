@@ -18,7 +18,11 @@ weight-of-requires : tie.Need-weight-of-requires
 weight-of-requires c κs = let at = c .before .before .before in (at .pre .0 .small, omega (arith, at .pre .0 .inside, at .pre .1))
 
 returns-2 : tie.Need-returns-2
-returns-2 c = sym (by-zero _ _ (c .before .before .before .if1 .left) (lt-true (toZ-ofZ (record { sfits = c .before .weight-of .ok }) ∙ c .before .weight-of .ensures) refl (c .if2 .taken)))
+returns-2 c =
+    let e = c .before in
+    sym
+    (by-zero _ _ (e .before .before .if1 .left)
+    (lt-true (toZ-ofZ (record { sfits = e .weight-of .ok }) ∙ e .weight-of .ensures) refl (c .if2 .taken)))
 
 sub-t8 : tie.Need-sub-t8
 sub-t8 c = omega (arith, c .before .before .before .before .before .pre .1)
@@ -32,15 +36,21 @@ weight-of-requires-2 c κs = let at = c .before .before .before .before .before 
 returns-3 : tie.Need-returns-3
 returns-3 c =
     let e = c .before in
-    let f = e .before .before in
-    sym (by-last _ _ (f .before .before .if1 .left) (lt-false (toZ-ofZ (record { sfits = f .weight-of .ok }) ∙ f .weight-of .ensures) refl (e .before .if2 .left))
+    let i = e .before in
+    let f = i .before in
+    sym
+    (by-last _ _ (f .before .before .if1 .left)
+    (lt-false (toZ-ofZ (record { sfits = f .weight-of .ok }) ∙ f .weight-of .ensures) refl (i .if2 .left))
     (lt-true (toZ-ofZ (record { sfits = e .weight-of2 .ok }) ∙ e .weight-of2 .ensures) refl (c .if3 .taken)))
 
 returns-4 : tie.Need-returns-4
 returns-4 c =
     let e = c .before in
-    let f = e .before .before in
-    sym (by-none _ _ (f .before .before .if1 .left) (lt-false (toZ-ofZ (record { sfits = f .weight-of .ok }) ∙ f .weight-of .ensures) refl (e .before .if2 .left))
+    let i = e .before in
+    let f = i .before in
+    sym
+    (by-none _ _ (f .before .before .if1 .left)
+    (lt-false (toZ-ofZ (record { sfits = f .weight-of .ok }) ∙ f .weight-of .ensures) refl (i .if2 .left))
     (lt-false (toZ-ofZ (record { sfits = e .weight-of2 .ok }) ∙ e .weight-of2 .ensures) refl (c .if3 .left)))
 
 pub cause-of-spec : {M : Type 1} → statement M

@@ -33,7 +33,10 @@ shared-slice-copy-out-all : tie.Need-shared-slice-copy-out-all Inv-loop μ-loop
 shared-slice-copy-out-all c = omega (arith, c .loop-test .taken, c .before .before .if2 .left)
 
 add-j : tie.Need-add-j Inv-loop μ-loop
-add-j c = let t = c .before in let at = t .before .before .before .before in omega (arith, t .loop-test .taken, t .before .before .if2 .left, at .pre .0 .few)
+add-j c =
+    let t = c .before in
+    let at = t .before .before .before .before in
+    omega (arith, t .loop-test .taken, t .before .before .if2 .left, at .pre .0 .few)
 
 loop-less : tie.Need-loop-less Inv-loop μ-loop
 loop-less c = omega (arith, c .before .loop-test .taken)
@@ -46,7 +49,8 @@ returns-3 c = λ e.
     let h = c .before in
     let at = h .before .before .before in
     let done : h .loop .j ≡ at .args .i + 16 = omega (arith, h .loop .inv .1, c .loop-test .left) in
-    seen-all (at .pre .0) (omega (arith, h .before .if2 .left)) (subst (λ (j : ℕ). Seen (at .args .sums .now) (at .args .i) j (h .loop .all)) done (h .loop .inv .2))
+    seen-all (at .pre .0) (omega (arith, h .before .if2 .left))
+    (subst (λ (j : ℕ). Seen (at .args .sums .now) (at .args .i) j (h .loop .all)) done (h .loop .inv .2))
     (eqb-true (h .loop .all) 0 e)
 
 pub vacant-spec : {M : Type 1} → statement M

@@ -178,7 +178,8 @@ loop-again c =
           (a .add .result) (a .add .ok) (a .add .ensures),
       total-again (at .pre .0) 65535 (t .loop-test .taken) (toZ w64 (h .loop .total)) (e .weigh .result) (h .loop .inv .2) (weighed e)
           (c .add2 .result) (c .add2 .ok)
-          (c .add2 .ensures ∙ signed-up 65535 (levelIn (at .args .p .now) (h .loop .k)) (toZ w64 (h .loop .total)) (toZ w64 (ofZ w64 (e .weigh .result)))
+          (c .add2 .ensures
+          ∙ signed-up 65535 (levelIn (at .args .p .now) (h .loop .k)) (toZ w64 (h .loop .total)) (toZ w64 (ofZ w64 (e .weigh .result)))
           (omega (arith, numbers (r .before .before .before .before) .0))),
     )
 

@@ -26,10 +26,12 @@ returns c =
     }
 
 mul-guide-at : tie.Need-mul-guide-at
-mul-guide-at c = let at = c .before .before .before .before in omega (arith, place-small (at .pre .0) (centre-place (at .pre .0) (at .pre .1) (at .pre .2)))
+mul-guide-at c = let at =
+    c .before .before .before .before in omega (arith, place-small (at .pre .0) (centre-place (at .pre .0) (at .pre .1) (at .pre .2)))
 
 add-guide-at : tie.Need-add-guide-at
-add-guide-at c = let at = c .before .before .before .before in omega (arith, place-small (at .pre .0) (centre-place (at .pre .0) (at .pre .1) (at .pre .2)))
+add-guide-at c = let at =
+    c .before .before .before .before in omega (arith, place-small (at .pre .0) (centre-place (at .pre .0) (at .pre .1) (at .pre .2)))
 
 guide-at-requires : tie.Need-guide-at-requires
 guide-at-requires c κs = let at = c .before .before .before .before in (at .pre .0, centre-place (at .pre .0) (at .pre .1) (at .pre .2))
