@@ -62,7 +62,7 @@ pub fn cause_number(cause: Cause) -> u32
 
 // The lent results of an explanation, where it is accepted.
 pub fn give_grounds(
-    verdict: Verdict,
+    v: Verdict,
     grounds: Grounds,
     pixels: &mut usize,
     total: &mut i64,
@@ -71,11 +71,11 @@ pub fn give_grounds(
     reached: &mut i64,
     cause: &mut u32,
 )
-    ensures { λ _. ⌜ GroundsGiven (numbered verdict) grounds
+    ensures { λ _. ⌜ GroundsGiven (numbered v) grounds
         (lentGrounds (now (pixels .entry)) (now (total .entry)) (now (level .entry)) (now (below .entry)) (now (reached .entry)) (now (cause .entry)))
         (lentGrounds (now (pixels .exit)) (now (total .exit)) (now (level .exit)) (now (below .exit)) (now (reached .exit)) (now (cause .exit))) ⌝ }
 {
-    if let Verdict::Accepted = verdict {
+    if let Verdict::Accepted = v {
         let all = grounds.total;
         let less = grounds.below;
         let enough = grounds.reached;
