@@ -2,10 +2,10 @@
 // blank trailer, so that it shows nothing and no function here asks anything of its caller.
 use crate::check::check;
 use frame_distances::plane_bytes;
-use frame_trailer::TRAILER;
 use frame_trailer::own_weights;
 use frame_trailer::trailer_of;
 use spec::Settings;
+use spec::TRAILER;
 use spec::Trailer;
 use spec::Verdict;
 use spec::stops;

@@ -4,9 +4,11 @@ use big_endian::be32;
 use frame_distances::bad_distance;
 use frame_limits::check_settings;
 use frame_limits::product;
+use spec::MARK;
 use spec::Plan;
 use spec::Refusal;
 use spec::Settings;
+use spec::TRAILER;
 use spec::Trailer;
 use spec::Verdict;
 use spec::stops;
@@ -16,9 +18,6 @@ ghost use lib.ListN.{length};
 ghost use Rattle.spec.specs.Refusal.{numbered};
 ghost use Rattle.spec.specs.Frame.{settingsOf, trailerOf, ownWeights, planOf};
 ghost use Rattle.spec.specs.Checks.{badMark, trailerOutcome};
-
-// The bytes of a trailer.
-pub const TRAILER: usize = 28;
 
 fn settings_of(b: &[u8]) -> Settings
     requires { ⌜ 28 ≤ length (now b) ⌝ }
@@ -57,7 +56,7 @@ fn bad_mark(file: &[u8]) -> bool
         return true;
     }
     let mark = be32(file, file.len() - TRAILER + 24);
-    mark != 0x49434531
+    mark != MARK
 }
 
 // Checks 1 to 6: of the trailer and its distances, without the planes' contents.

@@ -51,7 +51,8 @@ use Rattle.spec.proofs.Checks.{scan-none, scan-accepted}
 use Rattle.spec.proofs.Outcomes.{past}
 use Rattle.frame_write.specs.Write.{Returned}
 use Rattle.frame_bytes.proofs.Stores.{length-all16}
-use Rattle.frame_write.proofs.Writing.{fields-long, distances-long, passes, Lengths, lengths}
+use Rattle.frame_write_trailer.proofs.TrailerLaws.{fields-long, distances-long}
+use Rattle.frame_write.proofs.Writing.{passes, Lengths, lengths}
 
 -- ---- numbers behind a prefix, and in a list of numbers
 be16-behind : (p q : List ℕ) (i : ℕ) → be16 (p ++ q) (length p + i) ≡ be16 q i

@@ -1,7 +1,7 @@
 -- Laws of the writer: its checks in their order, what an accepted writing has, and the file that is stored. Assumes nothing.
 use mathlib.Core.Path.{_≡_, refl, sym, ap, _∙_}
 use mathlib.Core.Bool.{Bool, true, false, true≢false, not, _&&_, _||_}
-use mathlib.Core.List.{List, _++_}
+use mathlib.Core.List.{List, _++_, append-assoc}
 use Prim.Native.Nat.{ℕ, _+_, _*_, _≤_}
 use native.Mathlib.Nat.{mul-le-mul, zero-add}
 use native.Mathlib.Omega.{arith}
@@ -10,7 +10,7 @@ use lib.ListN.{length, drop, length-append}
 use lib.Seq.{sets, sets-eq}
 use borrow.Author.Tests.{ltb-false, eqb-true, not-false}
 use Rattle.spec.specs.declared.Settings.{Settings}
-use Rattle.spec.specs.Bytes.{to16, to32, all16}
+use Rattle.spec.specs.Bytes.{all16}
 use Rattle.spec.specs.Refusal.{Outcome, accepted, refused, _▷_, refuse, fires}
 use Rattle.spec.specs.Frame.{pixels, tableSize}
 use Rattle.spec.specs.Checks.{settingsOutcome}
@@ -19,7 +19,8 @@ use Rattle.spec.proofs.Checks.{not-refused, both-accepted, not-fired, neither, 
 use Rattle.spec.proofs.Limits.{settings-limits}
 use Rattle.spec.proofs.Outcomes.{past}
 use Rattle.frame_write.specs.Write.{reportOf, WritingFits}
-use Rattle.frame_bytes.proofs.Stores.{joined, length-all16}
+use Rattle.frame_bytes.proofs.Stores.{placed, length-all16}
+use Rattle.frame_write_trailer.proofs.TrailerLaws.{fields-long, distances-long}
 
 -- ---- the checks, one after the other
 module _ (k : Settings) (v g a : List ℕ) (room : ℕ) where
@@ -120,38 +121,24 @@ fit k v g a room e =
       space = ltb-false _ _ (p .space);
     }
 
--- ---- the file, in its five pieces
-pub fields-long : (j : Settings) → length (fieldBytes j) ≡ 12
-unfolding fieldBytes to16
-fields-long j = refl
-
-pub distances-long : (n p : ℕ) → length (distanceBytes n p) ≡ 16
-unfolding distanceBytes to32 to16
-distances-long n p = refl
-
-joined0 : (l : List ℕ) (m : ℕ) (vs ws : List ℕ) {prev out : List ℕ} → prev ≡ sets l 0 vs → length vs ≡ m → out ≡ sets prev m ws →
-    out ≡ sets l 0 (vs ++ ws)
-joined0 l m vs ws {prev} e n f = joined l 0 m vs ws e n (f ∙ ap (λ (j : ℕ). sets prev j ws) (sym (zero-add m)))
-
-pub file-stored : (l : List ℕ) (k : Settings) (v g a : List ℕ) {o1 o2 o3 o4 o5 : List ℕ} → length v ≡ pixels k → length g ≡ pixels k
-    → o1 ≡ sets l 0 (all16 v) → o2 ≡ sets o1 (2 * length v) (all16 g) → o3 ≡ sets o2 (4 * length v) (all16 a)
-    → o4 ≡ sets o3 (4 * length v + 2 * length a) (fieldBytes k) →
-    o5 ≡ sets o4 (4 * length v + 2 * length a + 12) (distanceBytes (length a) (length v))
-    → o5 ≡ sets l 0 (written k v g a)
+-- ---- the file, in its four pieces
+pub file-stored : (l : List ℕ) (k : Settings) (v g a : List ℕ) {guide-at table-at trailer-at : ℕ} {o1 o2 o3 o4 : List ℕ}
+    → length v ≡ pixels k → length g ≡ pixels k
+    → o1 ≡ sets l 0 (all16 v) → o2 ≡ sets o1 guide-at (all16 g) → o3 ≡ sets o2 table-at (all16 a)
+    → o4 ≡ sets o3 trailer-at (fieldBytes k ++ distanceBytes (length a) (length v))
+    → guide-at ≡ 2 * length v → table-at ≡ 4 * length v → trailer-at ≡ 4 * length v + 2 * length a → o4 ≡ sets l 0 (written k v g a)
 unfolding written
-file-stored l k v g a hv hg e1 e2 e3 e4 e5 =
-    let n2 : length (all16 v ++ all16 g) ≡ 4 * length v = simp length-append (omega (arith, length-all16 v, length-all16 g)) in
-    let n3 : length ((all16 v ++ all16 g) ++ all16 a) ≡ 4 * length v + 2 * length a =
-    simp length-append (omega (arith, length-all16 v, length-all16 g, length-all16 a)) in
-    let n4 : length (((all16 v ++ all16 g) ++ all16 a) ++ fieldBytes k) ≡ 4 * length v + 2 * length a + 12
-    = simp length-append (omega (arith, length-all16 v, length-all16 g, length-all16 a, fields-long k)) in
-    let f2 = joined0 l (2 * length v) (all16 v) (all16 g) e1 (length-all16 v) e2 in
-    let f3 = joined0 l (4 * length v) (all16 v ++ all16 g) (all16 a) f2 n2 e3 in
-    let f4 = joined0 l (4 * length v + 2 * length a) ((all16 v ++ all16 g) ++ all16 a) (fieldBytes k) f3 n3 e4 in
-    let f5 =
-    joined0 l (4 * length v + 2 * length a + 12) (((all16 v ++ all16 g) ++ all16 a) ++ fieldBytes k) (distanceBytes (length a) (length v)) f4 n4
-    e5 in
-    f5 ∙ ap (λ (n : ℕ). sets l 0 ((((all16 v ++ all16 g) ++ all16 a) ++ fieldBytes k) ++ distanceBytes (length a) n)) hv
+file-stored l k v g a hv hg e1 e2 e3 e4 h2 h3 h4 =
+    let lv = length-all16 v in
+    let lg = length-all16 g in
+    let la = length-all16 a in
+    let planes : List ℕ = all16 v ++ all16 g in
+    let t : List ℕ = fieldBytes k ++ distanceBytes (length a) (length v) in
+    let f2 = placed l 0 (all16 v) (all16 g) e1 e2 (omega arith) in
+    let f3 = placed l 0 planes (all16 a) f2 e3 (simp length-append (omega arith)) in
+    let f4 = placed l 0 (planes ++ all16 a) t f3 e4 (simp length-append (omega arith)) in
+    f4 ∙ ap (λ (n : ℕ). sets l 0 ((planes ++ all16 a) ++ (fieldBytes k ++ distanceBytes (length a) n))) hv
+    ∙ ap (sets l 0) (sym (append-assoc (planes ++ all16 a) (fieldBytes k) (distanceBytes (length a) (pixels k))))
 
 pub written-long : (k : Settings) (v g a : List ℕ) → length v ≡ pixels k → length g ≡ pixels k → length (written k v g a) ≡ writtenSize k (length a)
 unfolding written writtenSize

@@ -1,12 +1,12 @@
 // The writer of a frame: checks first, then every byte straight to its place in the lent output. Any arguments are taken; a refusal changes no byte.
 use frame_bytes::put_all;
-use frame_bytes::put_distances;
-use frame_bytes::put_fields;
 use frame_contents::too_large;
 use frame_limits::check_settings;
 use frame_limits::product;
+use frame_write_trailer::put_trailer;
 use spec::Refusal;
 use spec::Settings;
+use spec::TRAILER;
 use spec::Verdict;
 use spec::stops;
 ghost use mathlib.Core.Path.{_≡_};
@@ -85,7 +85,7 @@ fn check_writing(
     if stops(g) {
         return g;
     }
-    if room < 4 * p + 2 * table.len() + 28 {
+    if room < 4 * p + 2 * table.len() + TRAILER {
         return Verdict::Refused(Refusal::Room);
     }
     Verdict::Accepted
@@ -101,7 +101,7 @@ fn answer(v: Verdict, n: usize) -> Written
     }
 }
 
-// The whole file.
+// The whole file, each part straight to its place in the output.
 fn put_file(out: &mut [u8], settings: Settings, values: &[u16], guides: &[u16], table: &[u16])
     requires { ⌜ WritingFits settings (now values) (now guides) (now table) (length (now out)) ⌝ }
     ensures { λ _. ⌜ now (out .exit)
@@ -113,8 +113,7 @@ fn put_file(out: &mut [u8], settings: Settings, values: &[u16], guides: &[u16], 
     put_all(out, 2 * p, guides);
     put_all(out, 4 * p, table);
     let at = 4 * p + 2 * n;
-    put_fields(out, at, settings);
-    put_distances(out, at + 12, n, p);
+    put_trailer(&mut out[at..], settings, n, p);
 }
 
 // Writes value plane, guide plane, table and trailer without gaps from the output's first byte; an empty table means the built-in weights.
@@ -133,6 +132,6 @@ pub fn write(
         return answer(verdict, 0);
     }
     put_file(output, settings, values, guides, table);
-    let size = 4 * values.len() + 2 * table.len() + 28;
+    let size = 4 * values.len() + 2 * table.len() + TRAILER;
     answer(verdict, size)
 }

@@ -41,6 +41,11 @@ impl Settings {
     }
 }
 
+// The bytes of a file's trailer, and the mark that ends them: 49 43 45 31.
+pub const TRAILER: usize = 28;
+
+pub const MARK: usize = 0x49434531;
+
 // The settings of a file, and the distances back from its trailer to the planes and the table.
 pub struct Trailer {
     pub settings: Settings,

@@ -1,5 +1,6 @@
 -- `frame_bytes::put16` meets its contract. Assumes nothing.
 use Rattle.frame_bytes.proofs.Stores.{pair-stored}
+use native.Mathlib.Omega.{arith}
 use borrow.Author.Needs.{needs}
 use Rattle.frame_bytes.proofs.put16.Statement.{statement}
 use Rattle.frame_bytes.proofs.put16.Tie as tie
@@ -23,7 +24,7 @@ same-length : tie.Need-same-length
 same-length c = search needs
 
 returns : tie.Need-returns
-returns c = pair-stored _ _ _ (c .before .before .before .before .before .before .put8 .ensures) (c .before .before .put82 .ensures)
+returns c = pair-stored _ _ _ (c .before .before .before .before .before .before .put8 .ensures) (c .before .before .put82 .ensures) (omega arith)
 
 pub put16-spec : {M : Type 1} → statement M
 put16-spec =

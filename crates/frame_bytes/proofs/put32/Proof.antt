@@ -1,5 +1,6 @@
 -- `frame_bytes::put32` meets its contract. Assumes nothing.
 use Rattle.frame_bytes.proofs.Stores.{quad-stored}
+use native.Mathlib.Omega.{arith}
 use borrow.Author.Needs.{needs}
 use Rattle.frame_bytes.proofs.put32.Statement.{statement}
 use Rattle.frame_bytes.proofs.put32.Tie as tie
@@ -23,7 +24,7 @@ same-length : tie.Need-same-length
 same-length c = search needs
 
 returns : tie.Need-returns
-returns c = quad-stored _ _ _ (c .before .before .before .before .before .before .put16 .ensures) (c .before .before .put162 .ensures)
+returns c = quad-stored _ _ _ (c .before .before .before .before .before .before .put16 .ensures) (c .before .before .put162 .ensures) (omega arith)
 
 pub put32-spec : {M : Type 1} → statement M
 put32-spec =

@@ -50,7 +50,7 @@ loop-again c =
     let d = c .before .before .before .before .before .before in (
       omega arith,
       all-again _ _ _ _ (c .before .before .before .before .before .loop-test .taken) (d .loop .inv .1)
-          (c .before .before .put16 .ensures),
+          (c .before .before .put16 .ensures) (omega arith),
     )
 
 same-length : tie.Need-same-length Inv-loop μ-loop

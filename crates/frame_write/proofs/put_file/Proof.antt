@@ -1,10 +1,20 @@
 -- `frame_write::put_file` meets its contract. Assumes nothing.
 use Rattle.frame_write.proofs.Writing.{file-stored}
-use Rattle.spec.specs.Writer.{writtenSize}
+use Rattle.frame_bytes.proofs.Stores.{part-stored}
+use Rattle.frame_write_trailer.proofs.TrailerLaws.{trailer-long}
+use Rattle.spec.specs.Writer.{writtenSize, fieldBytes, distanceBytes}
+use Prim.Native.Nat.{_+_, _*_, _≤_}
 use native.Mathlib.Omega.{arith}
+use mathlib.Core.List.{_++_}
+use mathlib.Core.Path.{_≡_, refl, ap, _∙_}
+use lib.ListN.{length, length-take, length-drop}
+use lib.Seq.{length-sets}
 use borrow.Author.Needs.{needs}
 use Rattle.frame_write.proofs.put_file.Statement.{statement}
 use Rattle.frame_write.proofs.put_file.Tie as tie
+
+abbrev start : tie.After-put-all3 → tie.Start
+start c = c .before .before .before .before .before .before .before .before .before .before .before .before .before .before
 
 put-all-requires : tie.Need-put-all-requires
 unfolding writtenSize
@@ -39,26 +49,33 @@ mul-at-2 c = search needs
 add-at : tie.Need-add-at
 add-at c = search needs
 
-put-fields-requires : tie.Need-put-fields-requires
+-- planes and table stored, the output is as long as it was: there is room for the trailer
+room : (c : tie.After-put-all3) → 4 * length (start c .args .values .now) + 2 * length (start c .args .table .now) + 28 ≤ length (c .put-all3 .last .0)
 unfolding writtenSize
-put-fields-requires c κs =
-    let s =
-    c .before .before .before .before .before .before .before .before .before .before .before .before .before .before .before .before .before in
-    omega (arith, s .pre .space, s .pre .values, s .pre .guides, s .pre .table, s .pre .few)
+room c =
+    let b = c .before .before .before .before in
+    let a = b .before .before .before .before in
+    let s = start c in
+    let n1 : length (a .put-all .last .0) ≡ length (s .args .out .now) = ap length (a .put-all .ensures) ∙ simp length-sets in
+    let n2 : length (b .put-all2 .last .0) ≡ length (a .put-all .last .0) = ap length (b .put-all2 .ensures) ∙ simp length-sets in
+    let n3 : length (c .put-all3 .last .0) ≡ length (b .put-all2 .last .0) = ap length (c .put-all3 .ensures) ∙ simp length-sets in
+    omega (arith, s .pre .space, s .pre .values)
 
-add-put-distances : tie.Need-add-put-distances
-add-put-distances c = search needs
+sub-put-trailer : tie.Need-sub-put-trailer
+sub-put-trailer c = omega (arith, room (c .before .before))
 
-put-distances-requires : tie.Need-put-distances-requires
-unfolding writtenSize
-put-distances-requires c κs =
-    let s =
-    c .before .before .before .before .before .before .before .before .before .before .before .before .before .before .before .before .before
-    .before .before .before .before in (
-      omega (arith, s .pre .space, s .pre .values, s .pre .guides, s .pre .table, s .pre .few),
+part-put-trailer-start : tie.Need-part-put-trailer-start
+part-put-trailer-start c = omega (arith, room (c .before .before))
+
+part-put-trailer-end : tie.Need-part-put-trailer-end
+part-put-trailer-end c = search needs
+
+put-trailer-requires : tie.Need-put-trailer-requires
+put-trailer-requires c κs =
+    let s = start (c .before .before .before) in (
+      simp (length-take, length-drop) (omega (arith, room (c .before .before .before))),
       s .pre .table,
-      omega
-          (arith, s .pre .values, s .pre .few),
+      omega (arith, s .pre .values, s .pre .few),
     )
 
 same-length : tie.Need-same-length
@@ -66,14 +83,18 @@ same-length c = search needs
 
 returns : tie.Need-returns
 returns c =
-    let e = c .before .before in
-    let d = e .before .before .before .before in
-    let f = d .before .before .before .before in
-    let g = f .before .before .before .before in
-    let h = g .before .before .before .before in
-    let s = h .before .before .before .before .before .before in
-    file-stored _ _ _ _ _ (s .pre .values) (s .pre .guides) (h .put-all .ensures) (g .put-all2 .ensures) (f .put-all3 .ensures)
-    (d .put-fields .ensures) (e .put-distances .ensures)
+    let t = c .before .before in
+    let o = t .before .before .before .before in
+    let b = o .before .before .before .before in
+    let a = b .before .before .before .before in
+    let s = start o in
+    let k = s .args .settings in
+    let n = length (s .args .table .now) in
+    let p = length (s .args .values .now) in
+    file-stored (s .args .out .now) k (s .args .values .now) (s .args .guides .now) (s .args .table .now) (s .pre .values) (s .pre .guides)
+    (a .put-all .ensures) (b .put-all2 .ensures) (o .put-all3 .ensures)
+    (part-stored (o .put-all3 .last .0) (4 * p + 2 * n) (fieldBytes k ++ distanceBytes n p) (omega (arith, trailer-long k n p, room o))
+    (t .put-trailer .ensures)) refl refl refl
 
 pub put-file-spec : {M : Type 1} → statement M
 put-file-spec =
@@ -87,8 +108,9 @@ put-file-spec =
     mul-at
     mul-at-2
     add-at
-    put-fields-requires
-    add-put-distances
-    put-distances-requires
+    sub-put-trailer
+    part-put-trailer-start
+    part-put-trailer-end
+    put-trailer-requires
     same-length
     returns)
