@@ -37,6 +37,13 @@ inline void keep_best(double &best, size_t parts, const std::function<void()> &r
     if (best == NOT_TIMED || time < best) best = time;
 }
 
+// The same over many calls, where one is too short to be timed by itself: nanoseconds for each part of a call.
+inline void keep_best_of(double &best, size_t calls, size_t parts, const std::function<void()> &call) {
+    keep_best(best, calls * parts, [&] {
+        for (size_t i = 0; i < calls; i++) call();
+    });
+}
+
 // The yardstick's walk from the first pixel.
 inline Walk by_yardstick(Contest contest, const Frame &frame, const std::vector<uint8_t> &moves) {
     auto with = [&](auto way) { return walk(way, frame, 0, 0, moves); };
@@ -57,6 +64,16 @@ struct Explanation {
     uint16_t level;
 };
 
+// A frame as the writer takes it: planes and table of 16-bit numbers, the table empty for the built-in weights.
+struct Planes {
+    std::vector<uint16_t> values, guide, table;
+
+    explicit Planes(const Frame &frame) : values(frame.pixels()), guide(frame.pixels()) {
+        for (size_t p = 0; p < frame.pixels(); p++) values[p] = uint16_t(frame.values[p]), guide[p] = uint16_t(frame.guide[p]);
+        if (!frame.built_in) table = frame.table;
+    }
+};
+
 // The library's calls with their buffers, which a caller makes once and uses for many frames.
 class Library {
   public:
@@ -68,7 +85,8 @@ class Library {
     uint64_t shifts = 0;
 
     Library(Contest contest, const Frame &frame, size_t longest_walk = 0)
-        : file(file_of(frame)), way(way_of(contest)), output(std::max(frame.pixels(), ICEMEDIAN_ANSWERS_LENGTH(longest_walk))) {
+        : k(frame), planes(frame), file(file_of(frame)), written(file.size()), way(way_of(contest)),
+          output(std::max(frame.pixels(), ICEMEDIAN_ANSWERS_LENGTH(longest_walk))) {
         bool joint = way == ICEMEDIAN_JOINT || way == ICEMEDIAN_COARSE;
         if (joint) counts.resize(ICEMEDIAN_COUNTS_LENGTH(frame.levels, frame.guides));
         if (joint) words.resize(ICEMEDIAN_WORDS_LENGTH(frame.levels, frame.guides));
@@ -118,6 +136,19 @@ class Library {
 #endif
         return why;
     }
+    // Writes the frame, to a buffer of its own.
+    void write() {
+#ifdef WITH_LIBRARY
+        uint64_t offset;
+        size_t length;
+        auto wide = [](int number) { return uint32_t(number); };
+        const auto &[values, guide, table] = planes;
+        accept(icemedian_write(wide(k.width), wide(k.height), wide(k.levels), wide(k.guides), wide(k.kind), wide(k.radius),
+                               wide(k.smoothing), values.data(), values.size(), guide.data(), guide.size(), table.data(),
+                               table.size(), written.data(), written.size(), &length, &offset));
+#endif
+    }
+    const std::vector<uint8_t> &last_written() const { return written; }
     // The contestants must have done the same work.
     void compare(const Walk &yardstick, const char *name) const {
         if (shifts != yardstick.shifts) std::printf("shift counts differ: %s\n", name), std::exit(1);
@@ -129,7 +160,9 @@ class Library {
     }
 
   private:
-    std::vector<uint8_t> file;
+    Settings k;
+    Planes planes;
+    std::vector<uint8_t> file, written;
     uint32_t way;
     std::vector<uint16_t> counts, output;
     std::vector<uint64_t> words;

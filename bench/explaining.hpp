@@ -39,14 +39,9 @@ inline Explaining measure_explaining(Contest contest, Settings k, uint32_t level
     const size_t column = size_t(k.width / 2), row = size_t(k.height / 2), calls = 20 + 200000 / frame.pixels();
     Explanation why{};
     int64_t balance = 0;
-    auto repeat = [&](double &best, auto call) {
-        keep_best(best, calls, [&] {
-            for (size_t i = 0; i < calls; i++) call();
-        });
-    };
     for (int round = 0; round < ROUNDS; round++) {
-        repeat(times.balance, [&] { balance = library.balance(column, row, level); });
-        repeat(times.explain, [&] { why = library.explain(column, row); });
+        keep_best_of(times.balance, calls, 1, [&] { balance = library.balance(column, row, level); });
+        keep_best_of(times.explain, calls, 1, [&] { why = library.explain(column, row); });
     }
     // Both must have looked at the same window, with the answer that was meant.
     if (why.level != level || 2 * why.reached - why.total != balance)

@@ -3,6 +3,7 @@
 #include "explaining.hpp"
 #include "rows.hpp"
 #include "text.hpp"
+#include "writing.hpp"
 
 namespace bench {
 
@@ -56,7 +57,7 @@ inline Goal longest(const Explained &all) {
     return goal;
 }
 
-inline std::vector<Goal> goals_of(const Rows &rows, const Explained &explained) {
+inline std::vector<Goal> goals_of(const Rows &rows, const Explained &explained, const Written &written) {
     std::vector<Goal> goals;
     for (Picture picture : {ICE, NOISE})
         goals.push_back({"OpenCV's time / library's, joint, kind 1," + place(picture), Goal::AT_LEAST,
@@ -79,12 +80,14 @@ inline std::vector<Goal> goals_of(const Rows &rows, const Explained &explained) 
         goals.push_back({std::string("library's time at r 15 / at r 3, ") + NAMES[c] + "," + place(ICE), Goal::AT_MOST,
                          growth[c], growth_in_radius(on(ICE, rows), library(c))});
     goals.push_back(longest(explained));
+    for (const Writing &one : written)
+        goals.push_back({std::string("writing's time / plain loops', ") + one.weights, Goal::AT_MOST, 1.5, one.times()});
     return goals;
 }
 
-inline void print_goals(const Rows &rows, const Explained &explained) {
+inline void print_goals(const Rows &rows, const Explained &explained, const Written &written) {
     std::printf("\n## Goals\n\nGeometric means over the frames of this run.\n\n| goal | seen | |\n|---|---|---|\n");
-    for (const Goal &goal : goals_of(rows, explained)) goal.print();
+    for (const Goal &goal : goals_of(rows, explained, written)) goal.print();
 }
 
 }  // namespace bench

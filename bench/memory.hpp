@@ -2,43 +2,60 @@
 #pragma once
 #include "contest.hpp"
 #include "text.hpp"
-#include <pthread.h>
+#include <ucontext.h>
 
 namespace bench {
 
-// The stack that a run touches: it runs on a stack of its own, filled with one byte before, and what
-// still holds that byte at the far end was not used.
+// The stack that a run touches: it runs on a stack of its own, filled with one byte before, and what still holds that
+// byte at the far end was not used. A context of its own and no thread, whose own start and end would reach deeper than
+// a small call does.
 inline size_t stack_touched(std::function<void()> run) {
     constexpr uint8_t FILL = 0xA5;
     alignas(4096) static uint8_t stack[1 << 20];
+    static ucontext_t caller, own;
+    static std::function<void()> *chosen;
     std::fill(std::begin(stack), std::end(stack), FILL);
-    auto call = [](void *function) -> void * {
-        (*static_cast<std::function<void()> *>(function))();
-        return nullptr;
-    };
-    pthread_attr_t attributes;
-    pthread_t thread;
-    pthread_attr_init(&attributes);
-    pthread_attr_setstack(&attributes, stack, sizeof stack);
-    if (pthread_create(&thread, &attributes, call, &run) != 0) std::printf("no thread\n"), std::exit(1);
-    pthread_join(thread, nullptr);
-    pthread_attr_destroy(&attributes);
+    chosen = &run;
+    getcontext(&own);
+    own.uc_stack.ss_sp = stack;
+    own.uc_stack.ss_size = sizeof stack;
+    own.uc_link = &caller;
+    makecontext(&own, [] { (*chosen)(); }, 0);
+    swapcontext(&caller, &own);
     auto deepest = std::find_if(std::begin(stack), std::end(stack), [](uint8_t byte) { return byte != FILL; });
     return size_t(std::end(stack) - deepest);
 }
 
-// What a call takes of the stack, less what a thread takes that does nothing.
-inline double call_stack(Contest contest, void (*call)(Library &)) {
+// The calls, and the most bytes of stack that the header says they take.
+struct Call {
+    const char *what;
+    void (*make)(Library &);
+    size_t most;
+};
+inline constexpr Call CALLS[] = {
+    {"a filter", [](Library &library) { library.filter(); }, ICEMEDIAN_FILTER_STACK},
+    {"a walk", [](Library &library) { library.walk({RIGHT, DOWN, LEFT, UP}); }, ICEMEDIAN_WALK_STACK},
+    {"a balance", [](Library &library) { library.balance(0, 0, 1); }, ICEMEDIAN_BALANCE_STACK},
+    {"an explanation", [](Library &library) { library.explain(0, 0); }, ICEMEDIAN_EXPLAIN_STACK},
+    {"a check", [](Library &library) { library.check(); }, ICEMEDIAN_CHECK_STACK},
+    {"a writing", [](Library &library) { library.write(); }, ICEMEDIAN_WRITE_STACK},
+};
+
+// The bytes that a call takes of the stack, less what a run takes that does nothing.
+inline size_t call_stack(Contest contest, const Call &call) {
     Frame frame = noise({64, 32, 1024, 256, kind_of(contest), 15, 64});
     if (contest == JOINT_OWN) frame.own_table();
     Library library(contest, frame);
-    return Library::LINKED ? double(stack_touched([&] { call(library); }) - stack_touched([] {})) : NOT_TIMED;
+    return stack_touched([&] { call.make(library); }) - stack_touched([] {});
 }
 
-inline void print_stack(const char *what, void (*call)(Library &)) {
-    std::printf("| stack of %s |", what);
-    for (int c = 0; c < CONTESTS; c++) std::printf(" %s |", number("%.1f", call_stack(Contest(c), call) / 1024).c_str());
-    std::printf("\n");
+inline void print_stack(const Call &call) {
+    std::printf("| stack of %s |", call.what);
+    for (int c = 0; c < CONTESTS; c++) {
+        double bytes = Library::LINKED ? double(call_stack(Contest(c), call)) : NOT_TIMED;
+        std::printf(" %s |", number("%.2f", bytes / 1024).c_str());
+    }
+    std::printf(" %.2f |\n", double(call.most) / 1024);
 }
 
 inline void print_stores(int levels, int radius) {
@@ -47,23 +64,19 @@ inline void print_stores(int levels, int radius) {
         Library library(Contest(c), Frame({1024, 1, levels, 256, kind_of(c), radius, 64}));
         std::printf(" %.1f |", double(library.store_bytes()) / 1024);
     }
-    std::printf("\n");
+    std::printf(" |\n");
 }
 
 // Frame and output, which are the caller's own, come on top; nothing else does.
 inline void print_memory() {
     std::printf("\n## Memory, kilobytes, 1024 columns and 256 guides\n\n| |");
     for (const char *name : NAMES) std::printf(" %s |", name);
-    std::printf("\n|---|");
+    std::printf(" at most, by the header |\n|---|");
     for (int c = 0; c < CONTESTS; c++) std::printf("---|");
-    std::printf("\n");
+    std::printf("---|\n");
     for (int levels : {256, 1024})
         for (int radius : {3, 7, 15}) print_stores(levels, radius);
-    print_stack("a filter", [](Library &library) { library.filter(); });
-    print_stack("a walk", [](Library &library) { library.walk({RIGHT, DOWN, LEFT, UP}); });
-    print_stack("a balance", [](Library &library) { library.balance(0, 0, 1); });
-    print_stack("an explanation", [](Library &library) { library.explain(0, 0); });
-    print_stack("a check", [](Library &library) { library.check(); });
+    for (const Call &call : CALLS) print_stack(call);
 }
 
 }  // namespace bench

@@ -54,9 +54,10 @@
  * 0.4: way 4, coarse; icemedian_filter and icemedian_walk take its summary, a store behind `numbers`.
  * 0.5: no call takes other arguments, but a window in which no pixel weighs anything is answered as if each pixel
  * weighed 1. Before, it gave the centre's level and balance 0, added nothing and left the cut point.
- * 0.6: icemedian_explain and its causes are new; nothing else changes. */
+ * 0.6: icemedian_explain and its causes are new; nothing else changes.
+ * 0.7: the stack that a call takes at most is said by macros; no call changes. */
 #define ICEMEDIAN_VERSION_MAJOR 0
-#define ICEMEDIAN_VERSION_MINOR 6
+#define ICEMEDIAN_VERSION_MINOR 7
 
 #ifdef __cplusplus
 #define ICEMEDIAN_SIZE(number) static_cast<size_t>(number)
@@ -115,8 +116,14 @@ enum { ICEMEDIAN_DEFAULT_RADIUS = 7, ICEMEDIAN_DEFAULT_SMOOTHING = 64 };
 #define ICEMEDIAN_RADIUS(file, length) ((file)[(length) - 19])
 #define ICEMEDIAN_SMOOTHING(file, length) ICEMEDIAN_TRAILER16(file, length, 10)
 
-/* Stack: icemedian_filter, icemedian_walk and icemedian_explain take under 16 KB of it, icemedian_balance under 2 KB,
- * the other calls under 1 KB. */
+/* Stack: the most bytes that a call takes of it, with all that it calls. icemedian_write holds no array: every byte goes
+ * straight to its place in `output`. */
+#define ICEMEDIAN_FILTER_STACK 16384
+#define ICEMEDIAN_WALK_STACK 16384
+#define ICEMEDIAN_EXPLAIN_STACK 16384
+#define ICEMEDIAN_BALANCE_STACK 2048
+#define ICEMEDIAN_CHECK_STACK 512
+#define ICEMEDIAN_WRITE_STACK 256
 
 /* Checks 1 to 7. */
 uint32_t icemedian_check(const uint8_t *file, size_t file_length, uint64_t *offset);

@@ -1,5 +1,6 @@
 // Check 7: every value and guide of a file below its limit. A weight may be any number.
 use big_endian::be16;
+use frame_below::file_below;
 use spec::Plan;
 use spec::Refusal;
 use spec::Verdict;
@@ -19,12 +20,12 @@ pub fn too_large(at: usize) -> Verdict
     Verdict::Refused(Refusal::Contents(at))
 }
 
-// Check 7 of n numbers from an offset on.
+// Check 7 of n numbers from an offset on: those that are surely below the limit are passed over.
 fn scan(file: &[u8], offset: usize, n: usize, limit: usize) -> Verdict
     requires { ⌜ offset + 2 * n ≤ length (now file) ⌝ }
     ensures { λ r. ⌜ numbered r ≡ scanFile (now (file .entry)) offset n limit ⌝ }
 {
-    let mut k = 0;
+    let mut k = file_below(file, offset, n, limit);
     while k < n {
         let at = offset + 2 * k;
         if limit <= be16(file, at) as usize {

@@ -1,4 +1,5 @@
 // The writer of a frame: checks first, then every byte straight to its place in the lent output. Any arguments are taken; a refusal changes no byte.
+use frame_below::list_below;
 use frame_bytes::put_all;
 use frame_contents::too_large;
 use frame_limits::check_settings;
@@ -44,12 +45,12 @@ fn bad_length(settings: Settings, v: usize, g: usize, a: usize) -> bool
     a != c
 }
 
-// Check 7 of numbers that would begin at an offset.
+// Check 7 of numbers that would begin at an offset: those that are surely below the limit are passed over.
 fn scan_list(list: &[u16], limit: u16, offset: usize) -> Verdict
     requires { ⌜ offset < 1099511627776 ⌝ }
     ensures { λ r. ⌜ numbered r ≡ scanList (now (list .entry)) limit offset ⌝ }
 {
-    let mut k = 0;
+    let mut k = list_below(list, limit);
     while k < list.len() {
         if limit <= list[k] {
             return too_large(offset + 2 * k);

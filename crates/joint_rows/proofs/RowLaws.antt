@@ -24,7 +24,8 @@ use Rattle.window.proofs.PixelLaws.{guides-range}
 use Rattle.joint_pixel.proofs.BitLaws.{lt-or-le, eq-or-ne}
 use Rattle.joint_search.specs.Window.{RowOwn, RowWeighs}
 use Rattle.joint_search.proofs.WindowLaws.{own-weighs}
-use Rattle.joint_rows.specs.Rows.{Made, Mirror, TableRow, exchanged, lowFirst}
+use Rattle.big_endian_part.specs.Part.{Made}
+use Rattle.joint_rows.specs.Rows.{Mirror, TableRow}
 use Rattle.joint_rows.proofs.TableLaws.{weight-place}
 
 -- the mirrored constants, moved so that the centre's is at its guide
@@ -87,28 +88,6 @@ module _ {b : List ℕ} {z : Plan} (pl : Planned b z) {s t : ℕ} (hs : s < z .w
     row-weighs-own one r =
         table-own-row one (omega (arith, r .long, few)) (λ h l. r .is h (rw (facts pl .guides) l)) (λ h l. r .low h (rw (facts pl .guides) l))
 
--- ---- numbers made one after the other: none at first, one more, as many more; and by the same rule in other words
-pub made-start : (rule : ℕ → ℕ) (from : ℕ) (xs : List ℕ) → Made rule from 0 xs xs
-made-start rule from xs = record { long = refl; is = λ g h l. absurd (omega arith); before = λ g h. refl }
-
-pub made-next : {rule : ℕ → ℕ} {from k : ℕ} (j v : ℕ) {xs ys : List ℕ} → j ≡ from + k → j < length xs → v ≡ rule j → Made rule from k xs ys →
-    Made rule from (k + 1) xs (set ys j v)
-made-next {rule} {from} {k} j v {xs} {ys} ej h e r = record {
-  long = length-set ys j v ∙ r .long;
-  is =
-      λ g l u. ⊎-elim (λ q. ap (λ (i : ℕ). getD (set ys j v) i 0) q ∙ getD-set-same ys j v 0 (rw (r .long) h) ∙ e ∙ ap rule (sym q))
-      (λ n. getD-set-other ys j g v 0 n ∙ r .is g l (omega arith)) (eq-or-ne g j);
-  before = λ g l. getD-set-other ys j g v 0 (λ q. omega arith) ∙ r .before g l;
-}
-
-pub made-more : {rule : ℕ → ℕ} {from n j k : ℕ} {xs ys zs : List ℕ} → j ≡ from + n → Made rule from n xs ys → Made rule j k ys zs →
-    Made rule from (n + k) xs zs
-made-more {j = j} e r q = record {
-  long = q .long ∙ r .long;
-  is = λ g l u. ⊎-elim (λ h. q .before g h ∙ r .is g l (omega arith)) (λ h. q .is g h (omega arith)) (lt-or-le g j);
-  before = λ g l. q .before g (omega arith) ∙ r .before g l;
-}
-
 -- the first k of 256 are those of the table, and none of them is too large: its row
 pub row-made : {p : Frame} {rule : ℕ → ℕ} {m k f : ℕ} {xs row : List ℕ} → Made rule 0 k xs row → length xs ≡ 256 → m ≤ k →
     ((g : ℕ) → g < m → rule g ≡ table p f g) → ((g : ℕ) → g < m → rule g ≤ heaviest) → TableRow p m f row
@@ -117,19 +96,6 @@ row-made r e h same low = record {
   is = λ g l. r .is g (omega arith) (omega arith) ∙ same g l;
   low = λ g l. rw (r .is g (omega arith) (omega arith)) (low g l);
 }
-
--- ---- a number of the file as its bytes stand, and exchanged
-pub low-first : (b : List ℕ) → AllBytes b → (first g : ℕ) → exchanged (lowFirst b first g) ≡ plane b first g
-unfolding lowFirst exchanged be16
-low-first b bytes first g =
-    let x = getD b (first + 2 * g) 0 in
-    let y = getD b (first + 2 * g + 1) 0 in
-    let h : x < 256 = bytes (first + 2 * g) in
-    let e : x + y * 256 ≡ y * 256 + x = omega arith in
-    ap₂ (λ (p q : ℕ). p * 256 + q) (ap (λ (n : ℕ). n % 256) e ∙ digits-mod y h) (ap (λ (n : ℕ). n / 256) e ∙ digits-div y h)
-
-pub plane-on : (b : List ℕ) (first from k : ℕ) → plane b (first + 2 * from) k ≡ plane b first (from + k)
-plane-on b first from k = let e : first + 2 * from + 2 * k ≡ first + 2 * (from + k) = omega arith in ap (be16 b) e
 
 -- ---- the file's own row
 module _ {b : List ℕ} {z : Plan} (pl : Planned b z) {f : ℕ} (hf : f < z .guides) (own : z .weights ≡ 0 → ⊥) where

@@ -1,4 +1,6 @@
 // The weights of a window's pixels as a row of numbers, one for each guide.
+use big_endian_part::copy_low_first;
+use big_endian_part::exchanged;
 use spec::Guide;
 use spec::Plan;
 ghost use mathlib.Core.Path.{_≡_};
@@ -6,7 +8,8 @@ ghost use Prim.Native.Nat.{_+_, _*_, _<_, _≤_};
 ghost use lib.ListN.{length};
 ghost use Rattle.spec.specs.Frame.{frameOf, plane};
 ghost use Rattle.spec.specs.Checks.{Planned};
-ghost use Rattle.joint_rows.specs.Rows.{Made, Mirror, TableRow, WeightRows, exchanged, lowFirst};
+ghost use Rattle.big_endian_part.specs.Part.{Made};
+ghost use Rattle.joint_rows.specs.Rows.{Mirror, TableRow, WeightRows};
 
 // The built-in weights from 255 guides below the centre's to 255 above: guide f's row begins at place 255 - f.
 pub fn mirror(out: &mut [u16])
@@ -29,26 +32,6 @@ pub fn built_rows(plan: Plan, out: &mut [u16])
     if plan.weights == 0 {
         mirror(out);
     }
-}
-
-// n numbers of a file from a byte on, low byte first: a plain copy of the bytes, which is fast.
-fn copy_low_first(file: &[u8], first: usize, n: usize, part: &mut [u16; 64])
-    requires { ⌜ (n ≤ 64) × (first + 2 * n ≤ length (now file)) × (length (now part) ≡ 64) ⌝ }
-    ensures { λ _. ⌜ Made (lowFirst (now (file .entry)) first) 0 n (now (part .entry)) (now (part .exit)) ⌝ }
-{
-    let mut k = 0;
-    while k < n {
-        let at = first + 2 * k;
-        part[k] = (file[at] as u16) + (file[at + 1] as u16) * 256;
-        k += 1;
-    }
-}
-
-// A number's two bytes exchanged.
-fn exchanged(v: u16) -> u16
-    ensures { λ r. ⌜ r ≡ exchanged v ⌝ }
-{
-    (v % 256) * 256 + v / 256
 }
 
 // n numbers of a row that begins at a byte of the file, from one on. In two turns over a short array, because the compiler then does each for many

@@ -87,6 +87,7 @@ pub data Question : Type 0 where
   output : List ℕ → Question
   judge : ℕ → ℕ → ℕ → ℕ → Question
   call : Outcome → Question
+  writes : List ℕ → Question
   parts : List ℕ → Question
   worst : List ℕ → ℕ → List ℕ → Question
   stores : List ℕ → ℕ → ℕ → List ℕ → Question
@@ -129,6 +130,7 @@ reply (constant d) = gives [] (builtIn 0 d)
 reply (output b) = prints (printed b)
 reply (judge w h r e) = says (settingsOutcome (settings w h 8 4 2 r e))
 reply (call v) = says v
+reply (writes b) = prints b
 reply (parts b) = prints (valuePart b ++ guidePart b ++ tablePart b)
 reply (worst b s l) = weighs (map (differences (frameOf b) s 0) l)
 reply (stores b s t l) =
@@ -341,6 +343,11 @@ cases =
     ∷ call (filterOutcome fileA 1 (room 32 8 0) 3) ⇒ says accepted
     ∷ call (balanceOutcome fileA 2 0 8) ⇒ says (refused 9 [])
     ∷ call (balanceOutcome fileA 2 0 7) ⇒ says accepted
+    ∷ writes (made 3 1 8 4 2 1 1 (5 ∷ 1 ∷ 3 ∷ []) (0 ∷ 0 ∷ 2 ∷ []) []) ⇒ prints fileA
+    ∷ writes (made 0x0102 0x0304 0x0506 0x0708 1 9 0x0A0B [] [] (0x1213 ∷ []))
+    ⇒ prints
+    (0x12 ∷ 0x13 ∷ 1 ∷ 2 ∷ 3 ∷ 4 ∷ 5 ∷ 6 ∷ 7 ∷ 8 ∷ 1 ∷ 9 ∷ 10 ∷ 11 ∷ 0 ∷ 12 ∷ 40 ∷ 34 ∷ 0 ∷ 6 ∷ 20 ∷ 18 ∷ 0 ∷ 0 ∷ 0 ∷ 2
+    ∷ 0x49 ∷ 0x43 ∷ 0x45 ∷ 0x31 ∷ [])
     ∷ call (writerOutcome (settings 3 1 8 4 2 1 1) (5 ∷ 1 ∷ 3 ∷ []) (0 ∷ 0 ∷ 2 ∷ []) [] 40) ⇒ says accepted
     ∷ call (writerOutcome (settings 3 1 8 4 2 1 1) (5 ∷ 1 ∷ 3 ∷ []) (0 ∷ 0 ∷ 2 ∷ []) [] 39) ⇒ says (refused 11 [])
     ∷ call (writerOutcome (settings 3 1 8 4 2 1 1) (5 ∷ 1 ∷ 3 ∷ []) (0 ∷ 0 ∷ 4 ∷ []) [] 39) ⇒ says (refused 7 (10 ∷ []))

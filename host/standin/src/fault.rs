@@ -205,4 +205,23 @@ pub fn in_file(output: &mut [u8], length: usize) {
         "beyond_file" => spoil(output, length),
         _ => {}
     }
+    let trailer = &mut output[length - 28..length];
+    a_place_off(trailer, 0, 2, "width_off");
+    a_place_off(trailer, 2, 2, "height_off");
+    a_place_off(trailer, 4, 2, "levels_off");
+    a_place_off(trailer, 6, 2, "guides_off");
+    a_place_off(trailer, 8, 1, "kind_off");
+    a_place_off(trailer, 9, 1, "radius_off");
+    a_place_off(trailer, 10, 2, "smoothing_off");
+    a_place_off(trailer, 12, 4, "value_distance_off");
+    a_place_off(trailer, 16, 4, "guide_distance_off");
+    a_place_off(trailer, 20, 4, "table_distance_off");
+    a_place_off(trailer, 23, 4, "mark_off");
+}
+
+/// The last byte of a field in the place after it too.
+fn a_place_off(trailer: &mut [u8], place: usize, bytes: usize, name: &str) {
+    if makes(name) {
+        trailer[place + bytes] = trailer[place + bytes - 1];
+    }
 }

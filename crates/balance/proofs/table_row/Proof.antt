@@ -6,8 +6,9 @@ use mathlib.Core.Path.{_≡_, refl}
 use lib.ListN.{length}
 use Rattle.spec.specs.Frame.{table, heaviest, frameOf}
 use Rattle.window.proofs.PixelLaws.{guides-high}
-use Rattle.joint_rows.specs.Rows.{Made}
-use Rattle.joint_rows.proofs.RowLaws.{made-start, made-next, row-made}
+use Rattle.big_endian_part.specs.Part.{Made}
+use Rattle.big_endian_part.proofs.PartLaws.{made-start, made-next}
+use Rattle.joint_rows.proofs.RowLaws.{row-made}
 use Rattle.balance.proofs.BalanceLaws.{low-next}
 use Rattle.balance.proofs.table_row.Statement.{statement}
 use Rattle.balance.proofs.table_row.Tie as tie

@@ -16,8 +16,11 @@ Inv-loop file offset n limit k₀ k = (k ≤ n) × ((j : ℕ) → j < k → be16
 abbrev μ-loop : tie.MeasureT-loop
 μ-loop file offset n limit k₀ k = n - k
 
+file-below-requires : tie.Need-file-below-requires Inv-loop μ-loop
+file-below-requires c κs = search needs
+
 loop-holds : tie.Need-loop-holds Inv-loop μ-loop
-loop-holds c = (omega arith, λ j h. absurd (omega arith))
+loop-holds c = c .file-below .ensures
 
 mul-at : tie.Need-mul-at Inv-loop μ-loop
 mul-at c = omega arith
@@ -60,6 +63,7 @@ scan-spec =
     (tie.spec
     Inv-loop
     μ-loop
+    file-below-requires
     loop-holds
     mul-at
     add-at

@@ -50,7 +50,8 @@ add-at : tie.Need-add-at
 add-at c = search needs
 
 -- planes and table stored, the output is as long as it was: there is room for the trailer
-room : (c : tie.After-put-all3) → 4 * length (start c .args .values .now) + 2 * length (start c .args .table .now) + 28 ≤ length (c .put-all3 .last .0)
+room : (c : tie.After-put-all3)
+    → 4 * length (start c .args .values .now) + 2 * length (start c .args .table .now) + 28 ≤ length (c .put-all3 .last .0)
 unfolding writtenSize
 room c =
     let b = c .before .before .before .before in

@@ -16,8 +16,11 @@ Inv-loop list limit offset k₀ k = (k ≤ length list) × ((j : ℕ) → j < k 
 abbrev μ-loop : tie.MeasureT-loop
 μ-loop list limit offset k₀ k = length list - k
 
+list-below-requires : tie.Need-list-below-requires Inv-loop μ-loop
+list-below-requires c κs = search needs
+
 loop-holds : tie.Need-loop-holds Inv-loop μ-loop
-loop-holds c = (omega arith, λ j h. absurd (omega arith))
+loop-holds c = c .list-below .ensures
 
 mul-if1 : tie.Need-mul-if1 Inv-loop μ-loop
 mul-if1 c = omega arith
@@ -59,6 +62,7 @@ scan-list-spec =
     (tie.spec
     Inv-loop
     μ-loop
+    list-below-requires
     loop-holds
     mul-if1
     shared-slice-read-if1

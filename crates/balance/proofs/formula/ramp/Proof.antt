@@ -2,8 +2,8 @@
 use mathlib.Core.Path.{refl}
 use native.Mathlib.Omega.{arith}
 use Prim.Native.Nat.{_-_, _≤_}
-use Rattle.joint_rows.specs.Rows.{Made}
-use Rattle.joint_rows.proofs.RowLaws.{made-start, made-next}
+use Rattle.big_endian_part.specs.Part.{Made}
+use Rattle.big_endian_part.proofs.PartLaws.{made-start, made-next}
 use Rattle.balance.proofs.formula.ramp.Statement.{statement}
 use Rattle.balance.proofs.formula.ramp.Tie as tie
 

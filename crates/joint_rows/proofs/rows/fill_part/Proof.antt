@@ -5,8 +5,8 @@ use mathlib.Core.Path.{_≡_, refl, ap, _∙_}
 use Prim.Native.Nat.{ℕ, _+_, _*_, _-_, _≤_}
 use lib.ListN.{replicate, length-replicate}
 use Rattle.spec.specs.Frame.{plane}
-use Rattle.joint_rows.specs.Rows.{Made, exchanged, lowFirst}
-use Rattle.joint_rows.proofs.RowLaws.{made-start, made-next, low-first, plane-on}
+use Rattle.big_endian_part.specs.Part.{Made, exchanged, lowFirst}
+use Rattle.big_endian_part.proofs.PartLaws.{made-start, made-next, low-first, plane-on}
 use Rattle.joint_rows.proofs.rows.fill_part.Statement.{statement}
 use Rattle.joint_rows.proofs.rows.fill_part.Tie as tie
 

@@ -4,8 +4,8 @@ use borrow.Author.Needs.{needs}
 use Prim.Native.Nat.{_-_, _≤_}
 use Rattle.spec.specs.Frame.{builtIn}
 use Rattle.frame_weights.proofs.Weights.{built-entry}
-use Rattle.joint_rows.specs.Rows.{Made}
-use Rattle.joint_rows.proofs.RowLaws.{made-start, made-next}
+use Rattle.big_endian_part.specs.Part.{Made}
+use Rattle.big_endian_part.proofs.PartLaws.{made-start, made-next}
 use Rattle.joint_rows.proofs.rows.mirror.Statement.{statement}
 use Rattle.joint_rows.proofs.rows.mirror.Tie as tie
 

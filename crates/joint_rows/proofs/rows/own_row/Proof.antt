@@ -8,8 +8,9 @@ use Rattle.spec.proofs.Plans.{facts}
 use Rattle.window.proofs.PixelLaws.{guides-range}
 use Rattle.joint_rows.proofs.TableLaws.{weight-place}
 use Rattle.spec.specs.Frame.{plane}
-use Rattle.joint_rows.specs.Rows.{Made}
-use Rattle.joint_rows.proofs.RowLaws.{made-start, made-more, row-inside, row-own}
+use Rattle.big_endian_part.specs.Part.{Made}
+use Rattle.big_endian_part.proofs.PartLaws.{made-start, made-more}
+use Rattle.joint_rows.proofs.RowLaws.{row-inside, row-own}
 use Rattle.joint_rows.proofs.rows.own_row.Statement.{statement}
 use Rattle.joint_rows.proofs.rows.own_row.Tie as tie
 

@@ -1,9 +1,9 @@
 -- `exchanged` meets its contract. Assumes nothing.
 use mathlib.Core.Path.{refl}
 use borrow.Author.Needs.{needs}
-use Rattle.joint_rows.specs.Rows.{exchanged}
-use Rattle.joint_rows.proofs.rows.exchanged.Statement.{statement}
-use Rattle.joint_rows.proofs.rows.exchanged.Tie as tie
+use Rattle.big_endian_part.specs.Part.{exchanged}
+use Rattle.big_endian_part.proofs.exchanged.Statement.{statement}
+use Rattle.big_endian_part.proofs.exchanged.Tie as tie
 
 mul-result : tie.Need-mul-result
 mul-result c = search needs

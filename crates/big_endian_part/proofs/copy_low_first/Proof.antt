@@ -2,10 +2,10 @@
 use native.Mathlib.Omega.{arith}
 use Prim.Native.Nat.{ℕ, _+_, _*_, _-_, _≤_}
 use mathlib.Core.Path.{refl}
-use Rattle.joint_rows.specs.Rows.{Made, lowFirst}
-use Rattle.joint_rows.proofs.RowLaws.{made-start, made-next}
-use Rattle.joint_rows.proofs.rows.copy_low_first.Statement.{statement}
-use Rattle.joint_rows.proofs.rows.copy_low_first.Tie as tie
+use Rattle.big_endian_part.specs.Part.{Made, lowFirst}
+use Rattle.big_endian_part.proofs.PartLaws.{made-start, made-next}
+use Rattle.big_endian_part.proofs.copy_low_first.Statement.{statement}
+use Rattle.big_endian_part.proofs.copy_low_first.Tie as tie
 
 abbrev Inv-loop : tie.InvT-loop
 Inv-loop file first n part₀ k₀ part k = (k ≤ n) × Made (lowFirst file first) 0 k part₀ part

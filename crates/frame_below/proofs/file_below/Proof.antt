@@ -1,0 +1,75 @@
+-- `frame_below::file_below` meets its contract. The invariant: every number before place k is below the limit. Assumes nothing.
+use Rattle.frame_below.proofs.BelowLaws.{run-below}
+use Rattle.frame_below.specs.Below.{Below}
+use Prim.Native.Nat.{ℕ, _+_, _-_, _*_, _≤_, _<_}
+use native.Mathlib.Omega.{arith}
+use mathlib.Core.Path.{_≡_, subst}
+use Rattle.spec.specs.Bytes.{be16}
+use Rattle.spec.specs.Frame.{plane}
+use Rattle.frame_below.proofs.file_below.Statement.{statement}
+use Rattle.frame_below.proofs.file_below.Tie as tie
+
+abbrev Inv-loop : tie.InvT-loop
+Inv-loop file offset n limit k₀ k = (k ≤ n) × Below (plane file offset) k limit
+
+abbrev μ-loop : tie.MeasureT-loop
+μ-loop file offset n limit k₀ k = n - k
+
+loop-holds : tie.Need-loop-holds Inv-loop μ-loop
+loop-holds c = (omega arith, λ j less. absurd (omega arith))
+
+sub-loop : tie.Need-sub-loop Inv-loop μ-loop
+sub-loop c = omega arith
+
+mul-most-of-file : tie.Need-mul-most-of-file Inv-loop μ-loop
+mul-most-of-file c = omega arith
+
+add-most-of-file : tie.Need-add-most-of-file Inv-loop μ-loop
+add-most-of-file c = omega arith
+
+most-of-file-requires : tie.Need-most-of-file-requires Inv-loop μ-loop
+most-of-file-requires c κs = omega arith
+
+cast-if1 : tie.Need-cast-if1 Inv-loop μ-loop
+cast-if1 c = omega arith
+
+returns : tie.Need-returns Inv-loop μ-loop
+returns c = c .before .before .before .loop .inv
+
+add-k : tie.Need-add-k Inv-loop μ-loop
+add-k c = omega arith
+
+loop-less : tie.Need-loop-less Inv-loop μ-loop
+loop-less c = omega arith
+
+loop-again : tie.Need-loop-again Inv-loop μ-loop
+loop-again c =
+    let d = c .before .before .before in
+    let a = d .before .before .args in
+    let b = a .file .now in
+    let m = c .before .most-of-file .result in
+    let place : (j : ℕ) → a .offset + 2 * d .loop .k + 2 * j ≡ a .offset + 2 * (d .loop .k + j) = λ j. omega arith in
+    let run : Below (λ j. plane b (a .offset) (d .loop .k + j)) 64 (m + 1) =
+    λ j less. subst (λ (at : ℕ). be16 b at < m + 1) (place j) (c .before .most-of-file .ensures j less) in
+    (omega arith, run-below (plane b (a .offset)) (d .loop .k) 64 (d .loop .inv .1) run (omega arith))
+
+returns-2 : tie.Need-returns-2 Inv-loop μ-loop
+returns-2 c = c .before .loop .inv
+
+pub file-below-spec : {M : Type 1} → statement M
+file-below-spec =
+    tie.close
+    (tie.spec
+    Inv-loop
+    μ-loop
+    loop-holds
+    sub-loop
+    mul-most-of-file
+    add-most-of-file
+    most-of-file-requires
+    cast-if1
+    returns
+    add-k
+    loop-less
+    loop-again
+    returns-2)

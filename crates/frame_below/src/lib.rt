@@ -1,0 +1,74 @@
+// Check 7 sped up: how many numbers of a plane, from its first on, are surely below a limit. They are looked at 64 at a time, by the largest of each
+// 64, which the compiler takes many at a time; where it is too large the check goes on one by one, so nothing more is promised.
+use big_endian_part::copy_low_first;
+use big_endian_part::exchanged;
+ghost use Prim.Native.Nat.{_+_, _*_, _≤_};
+ghost use lib.ListN.{length, getD};
+ghost use Rattle.spec.specs.Frame.{plane};
+ghost use Rattle.frame_below.specs.Below.{Below};
+
+const RUN: usize = 64;
+
+// No number of the 64 from a place on is larger.
+fn most_of_list(list: &[u16], from: usize) -> u16
+    requires { ⌜ from + 64 ≤ length (now list) ⌝ }
+    ensures { λ r. ⌜ Below (λ j. getD (now (list .entry)) (from + j) 0) 64 (r + 1) ⌝ }
+{
+    let mut most = 0;
+    let mut j = 0;
+    while j < RUN {
+        let number = list[from + j];
+        if most < number {
+            most = number;
+        }
+        j += 1;
+    }
+    most
+}
+
+pub fn list_below(list: &[u16], limit: u16) -> usize
+    ensures { λ r. ⌜ (r ≤ length (now (list .entry))) × Below (λ j. getD (now (list .entry)) j 0) r limit ⌝ }
+{
+    let mut k = 0;
+    while RUN <= list.len() - k {
+        if limit <= most_of_list(list, k) {
+            return k;
+        }
+        k += RUN;
+    }
+    k
+}
+
+// The same of numbers of a file, the first of which begins at an offset.
+fn most_of_file(file: &[u8], offset: usize) -> u16
+    requires { ⌜ offset + 2 * 64 ≤ length (now file) ⌝ }
+    ensures { λ r. ⌜ Below (plane (now (file .entry)) offset) 64 (r + 1) ⌝ }
+{
+    let mut part = [0u16; 64];
+    copy_low_first(file, offset, RUN, &mut part);
+    let mut most = 0;
+    let mut j = 0;
+    while j < RUN {
+        let number = exchanged(part[j]);
+        if most < number {
+            most = number;
+        }
+        j += 1;
+    }
+    most
+}
+
+// Of the n numbers from an offset on.
+pub fn file_below(file: &[u8], offset: usize, n: usize, limit: usize) -> usize
+    requires { ⌜ offset + 2 * n ≤ length (now file) ⌝ }
+    ensures { λ r. ⌜ (r ≤ n) × Below (plane (now (file .entry)) offset) r limit ⌝ }
+{
+    let mut k = 0;
+    while RUN <= n - k {
+        if limit <= most_of_file(file, offset + 2 * k) as usize {
+            return k;
+        }
+        k += RUN;
+    }
+    k
+}
