@@ -7,6 +7,7 @@ ghost use lib.ListN.{length, getD};
 ghost use Rattle.spec.specs.Frame.{plane};
 ghost use Rattle.frame_below.specs.Below.{Below};
 
+// The numbers that are looked at together.
 const RUN: usize = 64;
 
 // No number of the 64 from a place on is larger.
@@ -26,6 +27,7 @@ fn most_of_list(list: &[u16], from: usize) -> u16
     most
 }
 
+// So many numbers of a list, from its first on, are below the limit.
 pub fn list_below(list: &[u16], limit: u16) -> usize
     ensures { λ r. ⌜ (r ≤ length (now (list .entry))) × Below (λ j. getD (now (list .entry)) j 0) r limit ⌝ }
 {
@@ -39,7 +41,7 @@ pub fn list_below(list: &[u16], limit: u16) -> usize
     k
 }
 
-// The same of numbers of a file, the first of which begins at an offset.
+// The same of 64 numbers of a file, the first of which begins at an offset.
 fn most_of_file(file: &[u8], offset: usize) -> u16
     requires { ⌜ offset + 2 * 64 ≤ length (now file) ⌝ }
     ensures { λ r. ⌜ Below (plane (now (file .entry)) offset) 64 (r + 1) ⌝ }
@@ -58,7 +60,7 @@ fn most_of_file(file: &[u8], offset: usize) -> u16
     most
 }
 
-// Of the n numbers from an offset on.
+// So many of the n numbers from an offset on.
 pub fn file_below(file: &[u8], offset: usize, n: usize, limit: usize) -> usize
     requires { ⌜ offset + 2 * n ≤ length (now file) ⌝ }
     ensures { λ r. ⌜ (r ≤ n) × Below (plane (now (file .entry)) offset) r limit ⌝ }
