@@ -1,5 +1,5 @@
-// Up to 64 numbers of a file at once. In two turns, the bytes copied as they stand into a short array and then each number's two exchanged, because the
-// compiler does each for many numbers at a time and keeps them in registers; read one by one, high byte first, they are not.
+// Up to 64 numbers of a file at once, in two turns: the bytes copied as they stand into a short array, and then each number's two exchanged. The
+// compiler does each turn for many numbers at a time and keeps them in registers, which it does not where a number is read high byte first.
 ghost use mathlib.Core.Path.{_≡_};
 ghost use Prim.Native.Nat.{_+_, _*_, _≤_};
 ghost use lib.ListN.{length};

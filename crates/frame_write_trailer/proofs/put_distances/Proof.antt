@@ -5,6 +5,7 @@ use Rattle.spec.specs.Writer.{distanceBytes}
 use mathlib.Core.List.{[], _++_}
 use mathlib.Core.Path.{refl}
 use Prim.Native.Nat.{_+_, _*_}
+use native.Mathlib.Omega.{arith}
 use borrow.Author.Needs.{needs}
 use Rattle.frame_write_trailer.proofs.put_distances.Statement.{statement}
 use Rattle.frame_write_trailer.proofs.put_distances.Tie as tie
@@ -59,10 +60,10 @@ returns c =
     let v1 = to32 (2 * n + 4 * p) in
     let v2 = v1 ++ to32 (2 * n + 2 * p) in
     let v3 = v2 ++ to32 (2 * n) in
-    let e1 = placed l 12 [] v1 refl (a .put32 .ensures) refl in
-    let e2 = placed l 12 v1 (to32 (2 * n + 2 * p)) e1 (b .put322 .ensures) refl in
-    let e3 = placed l 12 v2 (to32 (2 * n)) e2 (d .put323 .ensures) refl in
-    placed l 12 v3 (to32 0x49434531) e3 (e .put324 .ensures) refl
+    let e1 = placed l 12 [] v1 refl (a .put32 .ensures) (omega arith) in
+    let e2 = placed l 12 v1 (to32 (2 * n + 2 * p)) e1 (b .put322 .ensures) (omega arith) in
+    let e3 = placed l 12 v2 (to32 (2 * n)) e2 (d .put323 .ensures) (omega arith) in
+    placed l 12 v3 (to32 0x49434531) e3 (e .put324 .ensures) (omega arith)
 
 pub put-distances-spec : {M : Type 1} → statement M
 put-distances-spec =

@@ -4,6 +4,7 @@ use Rattle.spec.specs.Bytes.{to16}
 use Rattle.spec.specs.Writer.{fieldBytes}
 use mathlib.Core.List.{[], _∷_, _++_}
 use mathlib.Core.Path.{refl}
+use native.Mathlib.Omega.{arith}
 use borrow.Author.Needs.{needs}
 use Rattle.frame_write_trailer.proofs.put_settings.Statement.{statement}
 use Rattle.frame_write_trailer.proofs.put_settings.Tie as tie
@@ -51,13 +52,13 @@ returns c =
     let v4 = v3 ++ to16 (k .guides) in
     let v5 = v4 ++ (k .kind ∷ []) in
     let v6 = v5 ++ (k .radius ∷ []) in
-    let e1 = placed l 0 [] v1 refl (a .put16 .ensures) refl in
-    let e2 = placed l 0 v1 (to16 (k .height)) e1 (b .put162 .ensures) refl in
-    let e3 = placed l 0 v2 (to16 (k .levels)) e2 (h .put163 .ensures) refl in
-    let e4 = placed l 0 v3 (to16 (k .guides)) e3 (d .put164 .ensures) refl in
-    let e5 = placed l 0 v4 (k .kind ∷ []) e4 (e .put8 .ensures) refl in
-    let e6 = placed l 0 v5 (k .radius ∷ []) e5 (f .put82 .ensures) refl in
-    placed l 0 v6 (to16 (k .smoothing)) e6 (g .put165 .ensures) refl
+    let e1 = placed l 0 [] v1 refl (a .put16 .ensures) (omega arith) in
+    let e2 = placed l 0 v1 (to16 (k .height)) e1 (b .put162 .ensures) (omega arith) in
+    let e3 = placed l 0 v2 (to16 (k .levels)) e2 (h .put163 .ensures) (omega arith) in
+    let e4 = placed l 0 v3 (to16 (k .guides)) e3 (d .put164 .ensures) (omega arith) in
+    let e5 = placed l 0 v4 (k .kind ∷ []) e4 (e .put8 .ensures) (omega arith) in
+    let e6 = placed l 0 v5 (k .radius ∷ []) e5 (f .put82 .ensures) (omega arith) in
+    placed l 0 v6 (to16 (k .smoothing)) e6 (g .put165 .ensures) (omega arith)
 
 pub put-settings-spec : {M : Type 1} → statement M
 put-settings-spec =
