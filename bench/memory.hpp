@@ -7,8 +7,8 @@
 namespace bench {
 
 // The stack that a run touches: it runs on a stack of its own, filled with one byte before, and what still holds that
-// byte at the far end was not used. A context of its own and no thread, whose own start and end would reach deeper than
-// a small call does.
+// byte at the far end was not used. A context of its own and no thread: a thread that does nothing takes more than the
+// frame that a call is made from, so that every call would come out too small.
 inline size_t stack_touched(std::function<void()> run) {
     constexpr uint8_t FILL = 0xA5;
     alignas(4096) static uint8_t stack[1 << 20];

@@ -55,7 +55,7 @@
  * 0.5: no call takes other arguments, but a window in which no pixel weighs anything is answered as if each pixel
  * weighed 1. Before, it gave the centre's level and balance 0, added nothing and left the cut point.
  * 0.6: icemedian_explain and its causes are new; nothing else changes.
- * 0.7: the stack that a call takes at most is said by macros; no call changes. */
+ * 0.7: the stack that is enough for a call is said by macros; no call changes. */
 #define ICEMEDIAN_VERSION_MAJOR 0
 #define ICEMEDIAN_VERSION_MINOR 7
 
@@ -116,7 +116,8 @@ enum { ICEMEDIAN_DEFAULT_RADIUS = 7, ICEMEDIAN_DEFAULT_SMOOTHING = 64 };
 #define ICEMEDIAN_RADIUS(file, length) ((file)[(length) - 19])
 #define ICEMEDIAN_SMOOTHING(file, length) ICEMEDIAN_TRAILER16(file, length, 10)
 
-/* Stack: the most bytes that a call takes of it, with all that it calls. icemedian_write holds no array: every byte goes
+/* Stack in bytes that is enough for a call with all that it calls, as this library is compiled for x86-64: measured on
+ * accepted frames of every way and kind and rounded up, not proved. icemedian_write holds no array: every byte goes
  * straight to its place in `output`. */
 #define ICEMEDIAN_FILTER_STACK 16384
 #define ICEMEDIAN_WALK_STACK 16384
