@@ -10,7 +10,7 @@ use Rattle.spec.specs.declared.Settings.{Settings}
 use Rattle.spec.specs.declared.Room.{Room}
 use Rattle.spec.specs.declared.Way.the-variants.{Joint, Coarse}
 use Rattle.spec.specs.declared.Cause.{Cause}
-use Rattle.spec.specs.declared.Cause.the-variants.{Ordinary, Hollow, NegativeAtZero, NegativeAtLast}
+use Rattle.spec.specs.declared.Cause.the-variants.{Ordinary, Hollow, NegativeAtZero, NegativeAtLast, Empty}
 use Rattle.spec.specs.Base.{fold, foldRect, first, tabulateFrom, tabulate}
 use Rattle.spec.specs.Bytes.{be16, be32, to16, to32, all16}
 use Rattle.spec.specs.Refusal.{Outcome, accepted, refused}
@@ -45,10 +45,10 @@ use Rattle.spec.specs.Checks.{
   trailerOutcome,
   verdict,
 }
-use Rattle.spec.specs.Window.{span, over, pixelCount, guideSum, squareSum, count, levelSum}
+use Rattle.spec.specs.Window.{span, live, over, inColumn, pixelCount, empty, guideSum, squareSum, count, levelSum}
 use Rattle.spec.specs.Weight.{scaledVariance, guidedWeight, ownWeight, ownTotal, isZero, weightless, weight, monotone}
 use Rattle.spec.specs.Median.{totalWeight, cumulative, balance, median, answer, differences}
-use Rattle.spec.specs.Walk.{State, adds, arrive, move, follow, step, after, answers, walkEnd, walkAnswers}
+use Rattle.spec.specs.Walk.{State, adds, nextCut, arrive, move, follow, step, after, answers, walkEnd, walkAnswers}
 use Rattle.spec.specs.Filter.{turn, serpentine, filtered, filterEnd}
 use Rattle.spec.specs.Joint.{jointCounts, occupancyWord, occupancyWords, balanceBox}
 use Rattle.spec.specs.Columns.{columnSum, columnStore}
@@ -94,6 +94,7 @@ pub data Question : Type 0 where
   coarse : List ℕ → ℕ → ℕ → List ℕ → Question
   coarseFilter : List ℕ → Question
   explain : List ℕ → ℕ → ℕ → Question
+  chain : List ℕ → ℕ → ℕ → Question
 
 pub data Reply : Type 0 where
   says : Outcome → Reply
@@ -103,6 +104,7 @@ pub data Reply : Type 0 where
   holds : List ℕ → List ℕ → List ℤ → List ℕ → List Entry → Reply
   sums : List ℕ → ℕ → List ℤ → Reply
   grounds : ℕ → ℤ → ℕ → ℤ → ℤ → Cause → Reply
+  chained : List Entry → Reply
 
 abbrev closed : State → List ℕ → Reply
 closed x l = gives l (x .shifts)
@@ -114,8 +116,8 @@ settings w h l m k r e = record { width = w; height = h; levels = l; guides = m;
 unfoldable pub reply : Question → Reply
 unfolding fold foldRect first tabulateFrom tabulate be16 be32 to16 to32 all16 trailerAt settingsOf trailerOf ownWeights valuePart guidePart tablePart
     builtIn planOf pixelLevel pixelGuide frameOf badMark badSize badCounts badKind badRadius settingsOutcome badDistance scan scanFile valueScan
-    guideScan contents trailerOutcome verdict span over pixelCount guideSum squareSum count levelSum scaledVariance guidedWeight ownWeight
-    ownTotal isZero weightless weight monotone totalWeight cumulative balance median answer differences adds arrive move follow step after answers
+    guideScan contents trailerOutcome verdict span live over inColumn pixelCount empty guideSum squareSum count levelSum scaledVariance guidedWeight ownWeight
+    ownTotal isZero weightless weight monotone totalWeight cumulative balance median answer differences adds nextCut arrive move follow step after answers
     walkEnd walkAnswers turn serpentine filtered filterEnd jointCounts occupancyWord occupancyWords balanceBox columnSum columnStore entryOf entries
     blockWeight summary wayOf badWay roomOf badPixel lacks short walkChecks walkOutcome filterChecks filterOutcome balanceChecks balanceOutcome
     explainChecks explainOutcome cumulativeBelow causeOf fieldBytes distanceBytes written writtenSize badLength scanList writerOutcome digits spaced
@@ -152,6 +154,7 @@ reply (explain b s t) =
     let p = frameOf b in
     let m = answer p s t in
     grounds (pixelCount p s t) (totalWeight p s t) m (cumulativeBelow p s t m) (cumulative p s t m) (causeOf p s t)
+reply (chain b s t) = let p = frameOf b in chained (entries p s t (p .set .levels))
 
 -- ---- the files
 
@@ -211,6 +214,23 @@ fileEnds = made 4 1 40 2 1 1 0 (33 ∷ 2 ∷ 39 ∷ 17 ∷ []) (1 ∷ 0 ∷ 1 �
 
 abbrev fileOthers : List ℕ
 fileOthers = made 3 1 8 2 1 1 0 (1 ∷ 5 ∷ 7 ∷ []) (0 ∷ 1 ∷ 0 ∷ []) (0 ∷ 1 ∷ 1 ∷ 0 ∷ [])
+
+-- document 02, ask 6: B with two dead pixels, one of them at the end; all but one dead, all weights 1; an empty window in the middle of kind 2 and of
+-- kind 1, there with a row of zeros beside it; A with its middle dead
+abbrev fileAged : List ℕ
+fileAged = made 5 1 8 16 2 2 1 (1 ∷ 65535 ∷ 5 ∷ 3 ∷ 65535 ∷ []) (7 ∷ 7 ∷ 15 ∷ 7 ∷ 0 ∷ []) []
+
+abbrev fileAlone : List ℕ
+fileAlone = made 4 1 8 2 1 1 0 (65535 ∷ 65535 ∷ 65535 ∷ 5 ∷ []) (0 ∷ 0 ∷ 0 ∷ 0 ∷ []) (1 ∷ 1 ∷ 1 ∷ 1 ∷ [])
+
+abbrev fileGap : List ℕ
+fileGap = made 5 1 8 16 2 1 1 (1 ∷ 65535 ∷ 65535 ∷ 65535 ∷ 4 ∷ []) (7 ∷ 15 ∷ 3 ∷ 0 ∷ 9 ∷ []) []
+
+abbrev fileGapTable : List ℕ
+fileGapTable = made 5 1 8 2 1 1 0 (2 ∷ 65535 ∷ 65535 ∷ 65535 ∷ 6 ∷ []) (0 ∷ 1 ∷ 1 ∷ 0 ∷ 0 ∷ []) (1 ∷ 0 ∷ 0 ∷ 0 ∷ [])
+
+abbrev fileDeadMiddle : List ℕ
+fileDeadMiddle = made 3 1 8 4 2 1 1 (5 ∷ 65535 ∷ 3 ∷ []) (0 ∷ 0 ∷ 2 ∷ []) []
 
 -- two rows; one window's formula is negative at guide 0, another's at M − 1
 abbrev fileTwoRows : List ℕ
@@ -398,6 +418,30 @@ cases =
     ∷ explain fileHeavy 1 0 ⇒ grounds 3 (pos 65537) 5 (pos 2) (pos 65537) Ordinary
     ∷ explain fileApart 2 0 ⇒ grounds 5 (pos 2945) 37 (pos 835) (pos 2945) NegativeAtZero
     ∷ explain (made 2 1 8 2 1 1 0 (0 ∷ 6 ∷ []) (0 ∷ 0 ∷ []) (1 ∷ 1 ∷ 1 ∷ 1 ∷ [])) 1 0 ⇒ grounds 2 (pos 2) 0 (pos 0) (pos 1) Ordinary
+    ∷ filter fileAged ⇒ gives (1 ∷ 3 ∷ 5 ∷ 3 ∷ 3 ∷ []) 13
+    ∷ coarseFilter fileAged ⇒ sums (1 ∷ 3 ∷ 5 ∷ 3 ∷ 3 ∷ []) 15 (pos 136 ∷ [])
+    ∷ explain fileAged 0 0 ⇒ grounds 2 (pos 136) 1 (pos 0) (pos 132) Ordinary
+    ∷ explain fileAged 1 0 ⇒ grounds 3 (pos 411) 3 (pos 201) (pos 402) Ordinary
+    ∷ explain fileAged 2 0 ⇒ grounds 3 (pos 411) 5 (pos 18) (pos 411) NegativeAtZero
+    ∷ explain fileAged 3 0 ⇒ grounds 2 (pos 136) 3 (pos 0) (pos 132) Ordinary
+    ∷ explain fileAged 4 0 ⇒ grounds 2 (pos 136) 3 (pos 0) (pos 244) NegativeAtLast
+    ∷ filter fileAlone ⇒ gives (65535 ∷ 65535 ∷ 5 ∷ 5 ∷ []) 5
+    ∷ coarseFilter fileAlone ⇒ sums (65535 ∷ 65535 ∷ 5 ∷ 5 ∷ []) 10 (pos 1 ∷ [])
+    ∷ explain fileAlone 0 0 ⇒ grounds 0 (pos 0) 65535 (pos 0) (pos 0) Empty
+    ∷ filter fileGap ⇒ gives (1 ∷ 1 ∷ 65535 ∷ 4 ∷ 4 ∷ []) 6
+    ∷ walk fileGap 0 0 (0 ∷ 0 ∷ 0 ∷ 0 ∷ 1 ∷ 1 ∷ []) ⇒ gives (1 ∷ 1 ∷ 65535 ∷ 4 ∷ 4 ∷ 4 ∷ 65535 ∷ []) 10
+    ∷ balances fileGap 2 (0 ∷ 3 ∷ 7 ∷ []) ⇒ weighs (pos 0 ∷ pos 0 ∷ pos 0 ∷ [])
+    ∷ filter fileGapTable ⇒ gives (2 ∷ 2 ∷ 65535 ∷ 6 ∷ 6 ∷ []) 6
+    ∷ balances fileGapTable 2 (0 ∷ 3 ∷ 7 ∷ []) ⇒ weighs (pos 0 ∷ pos 0 ∷ pos 0 ∷ [])
+    ∷ coarse fileGapTable 0 0 (0 ∷ 0 ∷ []) ⇒ sums (2 ∷ 2 ∷ 65535 ∷ []) 4 (pos 0 ∷ [])
+    ∷ stores fileDeadMiddle 0 0 (0 ∷ []) ⇒ holds
+    (0 ∷ 0 ∷ 0 ∷ 0 ∷ 0 ∷ 0 ∷ 0 ∷ 0 ∷ 0 ∷ 0 ∷ 0 ∷ 0 ∷ 0 ∷ 0 ∷ 1 ∷ 0 ∷ 0 ∷ 0 ∷ 0 ∷ 0 ∷ 1 ∷ 0 ∷ 0 ∷ 0 ∷ 0 ∷ 0 ∷ 0 ∷ 0 ∷ 0 ∷ 0 ∷ 0 ∷ 0 ∷ [])
+    (0 ∷ 0 ∷ 0 ∷ 4 ∷ 0 ∷ 1 ∷ 0 ∷ 0 ∷ [])
+    (pos 1 ∷ pos 0 ∷ pos 1 ∷ pos 0 ∷ pos 0 ∷ [])
+    (0 ∷ 0 ∷ 0 ∷ 0 ∷ 0 ∷ 1 ∷ 0 ∷ 0 ∷ 0 ∷ 0 ∷ 0 ∷ 0 ∷ 0 ∷ 0 ∷ 0 ∷ 0 ∷ 0 ∷ 0 ∷ 0 ∷ 1 ∷ 0 ∷ 0 ∷ 0 ∷ 0 ∷ 0 ∷ 0 ∷ 0 ∷ 0 ∷ 0 ∷ 0 ∷ 0 ∷ 0 ∷ 0 ∷ 0 ∷ 0 ∷ 0 ∷
+    0 ∷ 0 ∷ 0 ∷ 0 ∷ 0 ∷ 0 ∷ 0 ∷ 2 ∷ 0 ∷ 0 ∷ 0 ∷ 0 ∷ 0 ∷ 0 ∷ 0 ∷ 1 ∷ 0 ∷ 1 ∷ 0 ∷ 0 ∷ 0 ∷ 0 ∷ 0 ∷ 2 ∷ 0 ∷ 0 ∷ 0 ∷ 0 ∷ [])
+    (record { level = 3; count = 1; guides = 2 } ∷ record { level = 5; count = 1; guides = 0 } ∷ [])
+    ∷ chain fileAged 4 0 ⇒ chained (record { level = 3; count = 1; guides = 7 } ∷ record { level = 5; count = 1; guides = 15 } ∷ [])
     ∷ []
 
 benches : map given cases ≡ map due cases
@@ -409,5 +453,5 @@ chainA : List ℕ
 chainA = 2 ∷ 3 ∷ 1 ∷ 2 ∷ 4 ∷ 1 ∷ 1 ∷ 0 ∷ 1 ∷ 9 ∷ 9 ∷ 9 ∷ 9 ∷ 5 ∷ 1 ∷ 0 ∷ 0 ∷ []
 
 chain-read : ChainStore (frameOf fileA) 1 0 chainA
-unfolding reply chainA ChainStore Reads
+unfolding reply chainA ChainStore Reads live
 chain-read = (lit< tt, lit≤ tt, refl, refl, refl, (lit< tt, lit≤ tt, refl, refl, refl, (lit< tt, lit≤ tt, refl, refl, refl, refl)))

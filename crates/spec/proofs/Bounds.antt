@@ -17,11 +17,11 @@ use Rattle.spec.specs.Window.{span, Σ, Σℤ, pixelCount, guideSum, squ
 use Rattle.spec.specs.Weight.{scaledVariance, guidedWeight, ownWeight, weight, variance, deviation, slope, offset}
 use Rattle.spec.specs.Median.{totalWeight, cumulative, balance, differences}
 use Rattle.spec.specs.Window.{levelSum}
-use Rattle.spec.proofs.Sums.{over-le, over-abs, over-constant, pixelCount-is}
+use Rattle.spec.proofs.Sums.{over-le, over-abs, over-constant, pixelCount-fits}
 use Rattle.spec.specs.Checks.{SettingsLimits}
 use Rattle.spec.proofs.Limits.{FrameLimits, Pixel}
 use Rattle.spec.proofs.Plans.{smoothing-of}
-use Rattle.spec.proofs.Own.{own-table, weight-table, tableWeight-high, weight-guided, variance-pos}
+use Rattle.spec.proofs.Own.{own-table, weight-table, tableWeight-high, weight-guided, variance-nonneg}
 use Rattle.spec.proofs.Levels.{levelWeight, cell, balance-signed}
 
 span-high : (r c n : ℕ) → span r c n ≤ 2 * r + 1
@@ -31,7 +31,7 @@ span-high r c n = omega arith
 -- ---- n, S, Q
 pub pixelCount-nodes : (p : Frame) (s t : ℕ) → pixelCount p s t ≤ (2 * p .set .radius + 1) * (2 * p .set .radius + 1)
 pixelCount-nodes p s t =
-    le-trans (le-of-eq (pixelCount-is p s t))
+    le-trans (pixelCount-fits p s t)
     (mul-le-mul (span-high (p .set .radius) s (p .set .width)) (span-high (p .set .radius) t (p .set .height)))
 
 pub pixelCount-high : {p : Frame} {s t : ℕ} → Pixel p s t → pixelCount p s t ≤ 961
@@ -150,7 +150,7 @@ variance-abs {p} {s} {t} k e h =
     let a : n * squareSum p s t ≤ 60051953025 = mul-le-mul (pixelCount-high k) (squareSum-high k) in
     let c : n * n * p .set .smoothing ≤ 60051953025 = mul-le-mul (mul-le-mul (pixelCount-high k) (pixelCount-high k)) h in
     let u = pos (n * squareSum p s t) -ℤ pos (guideSum p s t * guideSum p s t) in
-    abs-le-nonneg (<-to-≤ (variance-pos k e))
+    abs-le-nonneg (variance-nonneg p s t)
     (omega
     (arith, ints, add-parts u (pos (n * n * p .set .smoothing)), diff-parts (pos (n * squareSum p s t)) (pos (guideSum p s t * guideSum p s t))))
 

@@ -15,7 +15,7 @@ use Rattle.spec.specs.Base.{if_then_else_}
 use Rattle.spec.specs.declared.Settings.{Settings}
 use Rattle.spec.specs.Frame.{Frame, guide}
 use Rattle.spec.specs.Median.{totalWeight, cumulative, balance, median}
-use Rattle.spec.specs.Window.{levelSum}
+use Rattle.spec.specs.Window.{empty, levelSum}
 use Rattle.spec.specs.Chain.{Entry, entries, entryOf}
 use Rattle.spec.specs.Explain.{cumulativeBelow}
 use Rattle.spec.specs.Checks.{SettingsLimits}
@@ -127,11 +127,12 @@ entries-from p s t (suc n) =
     ap (λ (r : List Entry). r ++ entryOf p s t n) (entries-from p s t n) ∙ ap (λ (k : ℕ). entriesFrom p s t 0 n ++ entryOf p s t k) (sym (zero-add n))
     ∙ sym (from-last p s t 0 n)
 
-pub climb-from : {p : Frame} {s t : ℕ} → Pixel p s t → p .set .kind ≡ 2 → (n a : ℕ) → a + n ≡ p .set .levels → Failed p s t a
+pub climb-from : {p : Frame} {s t : ℕ} → Pixel p s t → empty p s t ≡ false → p .set .kind ≡ 2 → (n a : ℕ) → a + n ≡ p .set .levels
+    → Failed p s t a
     → climb (totalWeight p s t) (slope p s t) (offset p s t) (cumulativeBelow p s t a) (entriesFrom p s t a n) ≡ median p s t
 unfolding climb entriesFrom entryOf
-climb-from {p} {s} {t} k two zero a e f = absurd (omega (arith, median-low k, failed-low k a f))
-climb-from {p} {s} {t} k two (suc n) a e f = go (eqb (levelSum p s t (λ x y. 1) a) 0) refl (climb-from k two n (suc a) (omega arith))
+climb-from {p} {s} {t} k r two zero a e f = absurd (omega (arith, median-low k, failed-low k a f))
+climb-from {p} {s} {t} k r two (suc n) a e f = go (eqb (levelSum p s t (λ x y. 1) a) 0) refl (climb-from k r two n (suc a) (omega arith))
   where
     weighed : cumulativeBelow p s t a +ℤ (slope p s t *ℤ pos (levelSum p s t (guide p) a) +ℤ offset p s t *ℤ pos (levelSum p s t (λ x y. 1) a)) ≡
         cumulative p s t a
@@ -155,13 +156,13 @@ climb-from {p} {s} {t} k two (suc n) a e f = go (eqb (levelSum p s t (λ x y. 1)
         ((if b then [] else record { level = a; count = levelSum p s t (λ x y. 1) a; guides = levelSum p s t (guide p) a } ∷ []) ++ entriesFrom p s t
         (suc a) n) ≡ median p s t
     go true d ih =
-        let q = climb-over p s t a (total-pos k) f (eqb-true _ _ d) in
+        let q = climb-over p s t a (total-pos k r) f (eqb-true _ _ d) in
         ap (λ (u : ℤ). climb (totalWeight p s t) (slope p s t) (offset p s t) u (entriesFrom p s t (suc a) n)) (sym (q .0)) ∙ ih (q .1)
     go false d ih = rw weighed (test (leZ (totalWeight p s t) (pos 2 *ℤ cumulative p s t a)) refl ih)
 
 -- the chain's climb finds the answer
-pub climb-median : {p : Frame} {s t : ℕ} → Pixel p s t → p .set .kind ≡ 2
+pub climb-median : {p : Frame} {s t : ℕ} → Pixel p s t → empty p s t ≡ false → p .set .kind ≡ 2
     → climb (totalWeight p s t) (slope p s t) (offset p s t) (pos 0) (entries p s t (p .set .levels)) ≡ median p s t
-climb-median {p} {s} {t} k two =
+climb-median {p} {s} {t} k r two =
     ap₂ (climb (totalWeight p s t) (slope p s t) (offset p s t)) (sym (cumulativeBelow-zero p s t)) (entries-from p s t (p .set .levels))
-    ∙ climb-from k two (p .set .levels) 0 (zero-add (p .set .levels)) (failed-zero p s t)
+    ∙ climb-from k r two (p .set .levels) 0 (zero-add (p .set .levels)) (failed-zero p s t)

@@ -9,8 +9,8 @@ use native.Mathlib.Decide.{ℕ-discrete}
 use lib.Dec.{eqb}
 use borrow.Author.Tests.{eq-eqb, ne-eqb}
 use Rattle.spec.specs.Base.{if_then_else_, indicator, fold, foldRect}
-use Rattle.spec.specs.Frame.{Frame, level, guide}
-use Rattle.spec.specs.Window.{span, over, count, inCell}
+use Rattle.spec.specs.Frame.{Frame, level, guide, dead}
+use Rattle.spec.specs.Window.{live, span, over, count, inCell}
 use Rattle.spec.proofs.Ranges.{AdditionLaws, fold-none, fold-same, foldRect-turn}
 
 module _ {A : Type 0} (_⊕_ : A → A → A) (z : A) where
@@ -72,13 +72,34 @@ module _ {A : Type 0} (_⊕_ : A → A → A) (z : A) (laws : AdditionLaws _⊕_
   unfolding foldRect
   turn f x nx y ny = foldRect-turn _⊕_ z laws f x nx y ny
 
+  inside : (p : Frame) (G : ℕ → ℕ → ℕ → A) (n x y : ℕ)
+      → live z p (λ u v. fold _⊕_ z (λ i. G i u v) 0 n) x y ≡ fold _⊕_ z (λ i. live z p (G i) x y) 0 n
+  unfolding live
+  inside p G n x y = go (dead p x y)
+    where
+      go : (b : Bool) → (if b then z else fold _⊕_ z (λ i. G i x y) 0 n) ≡ fold _⊕_ z (λ i. if b then z else G i x y) 0 n
+      go true = sym (fold-none _⊕_ z laws 0 n)
+      go false = refl
+
   pub over-fold : (p : Frame) (s t : ℕ) (G : ℕ → ℕ → ℕ → A) (n : ℕ)
       → over _⊕_ z p s t (λ x y. fold _⊕_ z (λ i. G i x y) 0 n) ≡ fold _⊕_ z (λ i. over _⊕_ z p s t (G i)) 0 n
   unfolding over foldRect
   over-fold p s t G n =
       ap (λ (q : ℕ → A). fold _⊕_ z q (s - p .set .radius) (span (p .set .radius) s (p .set .width)))
-      (fun-ext (λ x. turn (λ y i. G i x y) (t - p .set .radius) (span (p .set .radius) t (p .set .height)) 0 n))
-      ∙ turn (λ x i. fold _⊕_ z (G i x) (t - p .set .radius) (span (p .set .radius) t (p .set .height))) _ _ 0 n
+      (fun-ext
+      (λ x. ap (λ (q : ℕ → A). fold _⊕_ z q (t - p .set .radius) (span (p .set .radius) t (p .set .height))) (fun-ext (λ y. inside p G n x y))
+      ∙ turn (λ y i. live z p (G i) x y) (t - p .set .radius) (span (p .set .radius) t (p .set .height)) 0 n))
+      ∙ turn (λ x i. fold _⊕_ z (live z p (G i) x) (t - p .set .radius) (span (p .set .radius) t (p .set .height))) _ _ 0 n
+
+  one : (p : Frame) (i f : ℕ) (c : A) (x y : ℕ)
+      → live z p (λ u v. if eqb (level p u v) i && eqb (guide p u v) f then c else z) x y ≡ times _⊕_ z (live 0 p (inCell p i f) x y) c
+  unfolding live times
+  one p i f c x y = go (dead p x y)
+    where
+      go : (b : Bool) →
+          (if b then z else (if eqb (level p x y) i && eqb (guide p x y) f then c else z)) ≡ times _⊕_ z (if b then 0 else inCell p i f x y) c
+      go true = refl
+      go false = times-one (eqb (level p x y) i && eqb (guide p x y) f) c
 
   pub over-count : (p : Frame) (s t i f : ℕ) (c : A)
       → over _⊕_ z p s t (λ x y. if eqb (level p x y) i && eqb (guide p x y) f then c else z) ≡ times _⊕_ z (count p s t i f) c
@@ -86,24 +107,31 @@ module _ {A : Type 0} (_⊕_ : A → A → A) (z : A) (laws : AdditionLaws _⊕_
   over-count p s t i f c =
       ap (λ (q : ℕ → A). fold _⊕_ z q (s - p .set .radius) (span (p .set .radius) s (p .set .width)))
       (fun-ext (λ x. ap (λ (q : ℕ → A). fold _⊕_ z q (t - p .set .radius) (span (p .set .radius) t (p .set .height)))
-      (fun-ext (λ y. times-one (eqb (level p x y) i && eqb (guide p x y) f) c))
-      ∙ times-fold (inCell p i f x) c _ _))
-      ∙ times-fold (λ x. fold _+_ 0 (inCell p i f x) (t - p .set .radius) (span (p .set .radius) t (p .set .height))) c _ _
+      (fun-ext (λ y. one p i f c x y))
+      ∙ times-fold (live 0 p (inCell p i f) x) c _ _))
+      ∙ times-fold (λ x. fold _+_ 0 (live 0 p (inCell p i f) x) (t - p .set .radius) (span (p .set .radius) t (p .set .height))) c _ _
 
-  pub over-same : (p : Frame) (s t : ℕ) (f g : ℕ → ℕ → A) → ((x y : ℕ) → x < p .set .width → y < p .set .height → f x y ≡ g x y)
+  pub over-same : (p : Frame) (s t : ℕ) (f g : ℕ → ℕ → A)
+      → ((x y : ℕ) → x < p .set .width → y < p .set .height → dead p x y ≡ false → f x y ≡ g x y)
       → over _⊕_ z p s t f ≡ over _⊕_ z p s t g
-  unfolding over foldRect span
+  unfolding over foldRect span live
   over-same p s t f g h =
-      fold-same _⊕_ z laws _ _ _ _ (λ x a b. fold-same _⊕_ z laws _ _ _ _ (λ y c d. h x y (omega arith) (omega arith)))
+      fold-same _⊕_ z laws _ _ _ _
+      (λ x a b. fold-same _⊕_ z laws _ _ _ _ (λ y c d. go x y (omega arith) (omega arith) (dead p x y) refl))
+    where
+      go : (x y : ℕ) → x < p .set .width → y < p .set .height → (b : Bool) → dead p x y ≡ b → (if b then z else f x y) ≡ (if b then z else g x y)
+      go x y u v true e = refl
+      go x y u v false e = h x y u v e
 
   -- the window's sum of F, by its joint counts
   pub over-joint : (p : Frame) (s t : ℕ) (F : ℕ → ℕ → A)
-      → ((x y : ℕ) → x < p .set .width → y < p .set .height → level p x y < p .set .levels)
+      → ((x y : ℕ) → x < p .set .width → y < p .set .height → dead p x y ≡ false → level p x y < p .set .levels)
       → ((x y : ℕ) → x < p .set .width → y < p .set .height → guide p x y < p .set .guides)
       → over _⊕_ z p s t (λ x y. F (level p x y) (guide p x y))
       ≡ fold _⊕_ z (λ i. fold _⊕_ z (λ f. times _⊕_ z (count p s t i f) (F i f)) 0 (p .set .guides)) 0 (p .set .levels)
   over-joint p s t F hl hg =
-      over-same p s t _ _ (λ x y a b. sym (pick-both F (level p x y) (guide p x y) (p .set .levels) (p .set .guides) (hl x y a b) (hg x y a b)))
+      over-same p s t _ _
+      (λ x y a b e. sym (pick-both F (level p x y) (guide p x y) (p .set .levels) (p .set .guides) (hl x y a b e) (hg x y a b)))
       ∙ over-fold p s t (λ i x y. fold _⊕_ z (λ f. if eqb (level p x y) i && eqb (guide p x y) f then F i f else z) 0 (p .set .guides))
       (p .set .levels)
       ∙ ap (λ (q : ℕ → A). fold _⊕_ z q 0 (p .set .levels))

@@ -19,6 +19,7 @@ use Rattle.spec.specs.Refusal.{accepted, _▷_, refuse}
 use Rattle.spec.specs.Frame.{
   Frame,
   level,
+  dead,
   guide,
   table,
   pixels,
@@ -49,7 +50,7 @@ use Rattle.spec.proofs.Checks.{both-accepted, not-fired, neither, insid
 
 pub record FrameLimits (p : Frame) : Type 0 where
   pub sound : SettingsLimits (p .set)
-  pub level-low : (x y : ℕ) → x < p .set .width → y < p .set .height → level p x y < p .set .levels
+  pub level-low : (x y : ℕ) → x < p .set .width → y < p .set .height → dead p x y ≡ false → level p x y < p .set .levels
   pub guide-low : (x y : ℕ) → x < p .set .width → y < p .set .height → guide p x y < p .set .guides
 
 -- a pixel of a good frame
@@ -135,6 +136,6 @@ module _ (b : List ℕ) (ok : verdict b ≡ accepted) where
   limits-of =
       record {
         sound = settings-limits (settingsOf b) (passed b ok .settings);
-        level-low = λ x y hx hy. level-below _ (in-plane (settingsOf b) x y hx hy);
+        level-low = λ x y hx hy e. level-below _ (in-plane (settingsOf b) x y hx hy);
         guide-low = λ x y hx hy. guide-below _ (in-plane (settingsOf b) x y hx hy);
       }

@@ -16,13 +16,14 @@ use Rattle.ints.specs.Polynomial.{_⊕_, _⊗_, opposite, #_, _≐_, solve2}
 use Rattle.spec.specs.Base.{if_then_else_, distance}
 use Rattle.spec.specs.declared.Settings.{Settings}
 use Rattle.spec.specs.Frame.{Frame, level, guide}
+use Rattle.spec.specs.Window.{pixelCount, empty}
 use Rattle.spec.specs.Weight.{ownWeight, weightless}
 use Rattle.spec.specs.Median.{balance, median, answer, differences, NoneNegative, NotAllZero}
 use Rattle.spec.proofs.Ranges.{intSums}
-use Rattle.spec.proofs.Sums.{over-inWindow, over-add}
+use Rattle.spec.proofs.Sums.{over-inWindow, over-add, over-term}
 use Rattle.spec.specs.Checks.{SettingsLimits}
 use Rattle.spec.proofs.Limits.{FrameLimits, Pixel}
-use Rattle.spec.proofs.Own.{weight-own, weightless-zero}
+use Rattle.spec.proofs.Own.{weight-own, weightless-zero, empty-count}
 use Rattle.spec.proofs.Levels.{balance-signed}
 use Rattle.spec.proofs.Totals.{median-at, median-before, answer-median}
 use Rattle.spec.proofs.Monotone.{CountsNonNegative, balance-mono}
@@ -105,6 +106,15 @@ weighs-some p s t light some = go (weightless p s t) refl
     go false e = refl
     go true e = absurd (some (weightless-zero p s t light e))
 
+-- then there is a reading
+pub some-reading : (p : Frame) (s t : ℕ) → NotAllZero p s t → empty p s t ≡ false
+unfolding pixelCount
+some-reading p s t some = go (empty p s t) refl
+  where
+    go : (b : Bool) → empty p s t ≡ b → b ≡ false
+    go false e = refl
+    go true e = absurd (some (λ x y h. absurd (omega (arith, over-term p s t (λ u v. 1) x y h, empty-count p s t e))))
+
 counts-own : (p : Frame) (s t : ℕ) → weightless p s t ≡ false → NoneNegative p s t → CountsNonNegative p s t
 counts-own p s t full light x y h = subst (λ (z : ℤ). pos 0 ≤ℤ z) (sym (weight-own p s t (guide p x y) full)) (light x y h)
 
@@ -112,4 +122,4 @@ pub minimum : {p : Frame} {s t : ℕ} → Pixel p s t → NoneNegative p s t →
     → (differences p s t (answer p s t) ≤ℤ differences p s t i) × (i < answer p s t → differences p s t (answer p s t) <ℤ differences p s t i)
 minimum {p} {s} {t} k light some i =
     let full = weighs-some p s t light some in
-    rw (answer-median p s t) (least p s t full k (counts-own p s t full light) i, λ h. least-below p s t full i h)
+    rw (answer-median p s t (some-reading p s t some)) (least p s t full k (counts-own p s t full light) i, λ h. least-below p s t full i h)

@@ -11,7 +11,7 @@ use borrow.Author.Tests.{ltb-true, ltb-false, leb-true, leb-false}
 use lib.IntN.{pos, _+ℤ_, +ℤ-idl, +ℤ-idr, +ℤ-assoc, +ℤ-comm}
 use Rattle.spec.specs.Base.{if_then_else_, fold, foldRect}
 use Rattle.spec.specs.Frame.{Frame}
-use Rattle.spec.specs.Window.{span, over, inColumn, inRow}
+use Rattle.spec.specs.Window.{span, live, over, inColumn, inRow}
 
 module _ {A : Type 0} (_⊕_ : A → A → A) (z : A) where
   infixl 6 _⊕_
@@ -126,17 +126,17 @@ module _ {A : Type 0} (_⊕_ : A → A → A) (z : A) (laws : AdditionLaws _⊕_
       ≡ over _⊕_ z p s t f ⊕ gained _⊕_ z (inColumn _⊕_ z p t f) (p .set .radius) s (p .set .width)
   unfolding over foldRect inColumn
   over-right p s t f h =
-      window-right (λ x. fold _⊕_ z (f x) (t - p .set .radius) (span (p .set .radius) t (p .set .height))) (p .set .radius) s (p .set .width) h
+      window-right (λ x. fold _⊕_ z (live z p f x) (t - p .set .radius) (span (p .set .radius) t (p .set .height))) (p .set .radius) s (p .set .width) h
 
   pub over-down : (p : Frame) (s t : ℕ) (f : ℕ → ℕ → A) → t + 1 < p .set .height
       → over _⊕_ z p s (t + 1) f ⊕ lost _⊕_ z (inRow _⊕_ z p s f) (p .set .radius) t
       ≡ over _⊕_ z p s t f ⊕ gained _⊕_ z (inRow _⊕_ z p s f) (p .set .radius) t (p .set .height)
   unfolding over foldRect inRow
   over-down p s t f h =
-      ap (λ (q : A). q ⊕ lost _⊕_ z (inRow _⊕_ z p s f) (p .set .radius) t) (foldRect-turn f _ _ _ _)
-      ∙ window-right (λ y. fold _⊕_ z (λ x. f x y) (s - p .set .radius) (span (p .set .radius) s (p .set .width))) (p .set .radius) t
+      ap (λ (q : A). q ⊕ lost _⊕_ z (inRow _⊕_ z p s f) (p .set .radius) t) (foldRect-turn (live z p f) _ _ _ _)
+      ∙ window-right (λ y. fold _⊕_ z (λ x. live z p f x y) (s - p .set .radius) (span (p .set .radius) s (p .set .width))) (p .set .radius) t
       (p .set .height) h
-      ∙ ap (λ (q : A). q ⊕ gained _⊕_ z (inRow _⊕_ z p s f) (p .set .radius) t (p .set .height)) (sym (foldRect-turn f _ _ _ _))
+      ∙ ap (λ (q : A). q ⊕ gained _⊕_ z (inRow _⊕_ z p s f) (p .set .radius) t (p .set .height)) (sym (foldRect-turn (live z p f) _ _ _ _))
 
 pub natSums : AdditionLaws _+_ 0
 natSums = record { idl = zero-add; idr = add-zero; assoc = add-assoc; comm = add-comm }

@@ -1,4 +1,4 @@
--- Which level the answer is: the one whose balance is the first that is not negative. There is one, because T is above 0.
+-- Which level the median is: the one whose balance is the first that is not negative. There is one, because T is not negative. And what is answered.
 -- Assumes nothing.
 use mathlib.Core.Path.{_≡_, refl, sym, ap, _∙_, subst}
 use mathlib.Core.Bool.{Bool, true, false, true≢false}
@@ -9,16 +9,17 @@ use native.Mathlib.Decide.{decLt}
 use lib.Dec.{T}
 use lib.IntN.{ℤ, pos, negsuc, _-ℤ_, _*ℤ_}
 use lib.Signed.{_≤ℤ_, _<ℤ_, leZ, nonNeg, clashℤ}
-use Rattle.ints.specs.Order.{diff-parts, ≤-or->, <-to-≤, 0≤pos}
+use Rattle.ints.specs.Order.{diff-parts, ≤-or->, 0≤pos}
 use Rattle.ints.specs.Linear.{ints}
 use Rattle.ints.specs.Polynomial.{_⊖_, _⊗_, #_, _≐_, solve1}
 use Rattle.spec.specs.declared.Settings.{Settings}
-use Rattle.spec.specs.Frame.{Frame}
+use Rattle.spec.specs.Frame.{Frame, noReading}
+use Rattle.spec.specs.Window.{empty}
 use Rattle.spec.specs.Median.{totalWeight, cumulative, balance, median, answer}
 use Rattle.spec.proofs.First.{First, first-is, first-unique}
 use Rattle.spec.specs.Checks.{SettingsLimits}
 use Rattle.spec.proofs.Limits.{FrameLimits, Pixel}
-use Rattle.spec.proofs.Own.{total-pos}
+use Rattle.spec.proofs.Own.{total-low}
 use Rattle.spec.proofs.Levels.{cumulative-last}
 
 -- ---- tests of integers
@@ -88,7 +89,7 @@ median-low {p} {s} {t} k = go (decLt (median p s t) (p .set .levels))
     go (yes h) = h
     go (no h) =
         clashℤ (median-before p s t (p .set .levels - 1) (omega (arith, k .good .sound .levels-low)))
-        (subst (λ (z : ℤ). pos 0 ≤ℤ z) (sym (balance-last k)) (<-to-≤ (total-pos k)))
+        (subst (λ (z : ℤ). pos 0 ≤ℤ z) (sym (balance-last k)) (total-low k))
 
 pub median-at : {p : Frame} {s t : ℕ} → Pixel p s t → pos 0 ≤ℤ balance p s t (median p s t)
 median-at {p} {s} {t} k =
@@ -103,10 +104,18 @@ median-is p s t m h b before =
     first-unique (λ i. leZ (totalWeight p s t) (pos 2 *ℤ cumulative p s t i)) (p .set .levels) m
     (record { within = omega arith; passes = λ l. le-leZ (balance-le p s t m b); before = λ i l. lt-leZ (balance-lt p s t i (before i l)) })
 
--- the answer is a level
-pub answer-median : (p : Frame) (s t : ℕ) → answer p s t ≡ median p s t
+-- the answer is a level where there is a reading
+pub answer-median : (p : Frame) (s t : ℕ) → empty p s t ≡ false → answer p s t ≡ median p s t
 unfolding answer
-answer-median p s t = refl
+answer-median p s t e = rw e refl
 
-pub answer-low : {p : Frame} {s t : ℕ} → Pixel p s t → answer p s t < p .set .levels
-answer-low {p} {s} {t} k = rw (answer-median p s t) (median-low k)
+pub answer-empty : (p : Frame) (s t : ℕ) → empty p s t ≡ true → answer p s t ≡ noReading
+unfolding answer
+answer-empty p s t e = rw e refl
+
+pub answer-low : {p : Frame} {s t : ℕ} → Pixel p s t → (answer p s t < p .set .levels) ⊎ (answer p s t ≡ noReading)
+answer-low {p} {s} {t} k = go (empty p s t) refl
+  where
+    go : (b : Bool) → empty p s t ≡ b → (answer p s t < p .set .levels) ⊎ (answer p s t ≡ noReading)
+    go true e = inr (answer-empty p s t e)
+    go false e = inl (rw (answer-median p s t e) (median-low k))

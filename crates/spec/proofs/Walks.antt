@@ -15,14 +15,16 @@ use Rattle.spec.specs.Base.{if_then_else_, fold, sum}
 use Rattle.spec.specs.declared.Settings.{Settings}
 use Rattle.spec.specs.declared.Way.{Way}
 use Rattle.spec.specs.declared.Way.the-variants.{Joint, Columns, Chain, Coarse}
-use Rattle.spec.specs.Frame.{Frame}
-use Rattle.spec.specs.Median.{median, answer}
+use Rattle.spec.specs.Frame.{Frame, noReading}
+use Rattle.spec.specs.Window.{empty}
+use Rattle.spec.specs.Median.{median, answer, LevelOrNone}
 use Rattle.spec.specs.Weight.{monotone}
 use Rattle.spec.specs.Walk.{
   State,
   byBlocks,
   shiftsTo,
   adds,
+  nextCut,
   arrive,
   toIf,
   move,
@@ -41,7 +43,7 @@ use Rattle.spec.specs.declared.Move.the-variants.{To, Nowhere}
 use Rattle.spec.proofs.Steps.{after-one, length-answers, getD-answers}
 use Rattle.spec.specs.Checks.{SettingsLimits}
 use Rattle.spec.proofs.Limits.{FrameLimits, Pixel}
-use Rattle.spec.proofs.Totals.{median-low, answer-low}
+use Rattle.spec.proofs.Totals.{median-low, answer-empty, answer-low}
 
 -- ---- where a byte leads: inside the picture by one of the four moves, or nowhere, with 65,534 for these and 65,533 for another byte
 abbrev pub Fine : Settings → ℕ → Move → Type 0
@@ -84,7 +86,7 @@ pub arrive-row : (way : Way) (p : Frame) (s t c n : ℕ) → arrive way p s t c 
 unfolding arrive
 arrive-row way p s t c n = refl
 
-pub arrive-cut : (way : Way) (p : Frame) (s t c n : ℕ) → arrive way p s t c n .cut ≡ median p s t
+pub arrive-cut : (way : Way) (p : Frame) (s t c n : ℕ) → arrive way p s t c n .cut ≡ nextCut p s t c
 unfolding arrive
 arrive-cut way p s t c n = refl
 
@@ -95,6 +97,29 @@ arrive-shifts way p s t c n = refl
 pub arrive-answer : (way : Way) (p : Frame) (s t c n : ℕ) → arrive way p s t c n .answer ≡ answer p s t
 unfolding arrive
 arrive-answer way p s t c n = refl
+
+-- by whether there is a reading
+pub cut-empty : (p : Frame) (s t c : ℕ) → empty p s t ≡ true → nextCut p s t c ≡ c
+unfolding nextCut
+cut-empty p s t c e = rw e refl
+
+pub cut-read : (p : Frame) (s t c : ℕ) → empty p s t ≡ false → nextCut p s t c ≡ median p s t
+unfolding nextCut
+cut-read p s t c e = rw e refl
+
+pub adds-empty : (way : Way) (p : Frame) (s t c : ℕ) → empty p s t ≡ true → adds way p s t c ≡ 0
+unfolding adds
+adds-empty way p s t c e = rw e refl
+
+pub adds-read : (way : Way) (p : Frame) (s t c : ℕ) → empty p s t ≡ false
+    → adds way p s t c ≡ (if monotone p s t then shiftsTo (byBlocks way) (median p s t) c else median p s t)
+unfolding adds
+adds-read way p s t c e = rw e refl
+
+pub arrive-empty : (way : Way) (p : Frame) (s t c n : ℕ) → empty p s t ≡ true
+    → arrive way p s t c n ≡ record { way = way; column = s; row = t; cut = c; shifts = n; answer = noReading }
+unfolding arrive
+arrive-empty way p s t c n e = rw (cut-empty p s t c e, adds-empty way p s t c e, add-zero n, answer-empty p s t e) refl
 
 -- ---- one byte
 pub step-to : (p : Frame) (x : State) (b s t : ℕ) → move (p .set) (x .column) (x .row) b ≡ To s t
@@ -121,9 +146,20 @@ shift-low true true m c l h k z = omega arith
 shift-low blocks false m c l h k z = omega arith
 
 adds-low : {p : Frame} {s t : ℕ} → Pixel p s t → (way : Way) (c : ℕ) → c < p .set .levels → adds way p s t c ≤ 1023
-unfolding adds
-adds-low {p} {s} {t} w way c h =
-    shift-low (byBlocks way) (monotone p s t) (median p s t) c (p .set .levels) (median-low w) h (w .good .sound .levels-high)
+adds-low {p} {s} {t} w way c h = go (empty p s t) refl
+  where
+    go : (b : Bool) → empty p s t ≡ b → adds way p s t c ≤ 1023
+    go true e = omega (arith, adds-empty way p s t c e)
+    go false e =
+        subst (λ (n : ℕ). n ≤ 1023) (sym (adds-read way p s t c e))
+        (shift-low (byBlocks way) (monotone p s t) (median p s t) c (p .set .levels) (median-low w) h (w .good .sound .levels-high))
+
+cut-low : {p : Frame} {s t : ℕ} → Pixel p s t → (c : ℕ) → c < p .set .levels → nextCut p s t c < p .set .levels
+cut-low {p} {s} {t} w c h = go (empty p s t) refl
+  where
+    go : (b : Bool) → empty p s t ≡ b → nextCut p s t c < p .set .levels
+    go true e = subst (λ (n : ℕ). n < p .set .levels) (sym (cut-empty p s t c e)) h
+    go false e = subst (λ (n : ℕ). n < p .set .levels) (sym (cut-read p s t c e)) (median-low w)
 
 pub bounded-arrive : {p : Frame} {s t : ℕ} → Pixel p s t → (way : Way) (c n k : ℕ) → c < p .set .levels → n ≤ k * 1023 →
     StateBounded p (arrive way p s t c n) (suc k)
@@ -133,7 +169,7 @@ bounded-arrive w way c n k hc hn =
       good = w .good;
       in-column = w .in-column;
       in-row = w .in-row;
-      cut-low = median-low w;
+      cut-low = cut-low w c hc;
       shifts-low = let q = adds-low w way c hc in omega (arith, q);
     }
 
@@ -163,9 +199,9 @@ step-level p x b s t e = rw (step-to p x b s t e) (arrive-answer (x .way) p s t 
 pub step-mark : (p : Frame) (x : State) (b m : ℕ) → move (p .set) (x .column) (x .row) b ≡ Nowhere m → step p x b .answer ≡ m
 step-mark p x b m e = rw (step-nowhere p x b m e) refl
 
--- a level, below 1,024, where the byte moves; where it does not, 65,534 for a move off the picture and 65,533 for another byte
+-- a level, below 1,024, or no reading where the byte moves; where it does not, 65,534 for a move off the picture and 65,533 for another byte
 abbrev pub Told : Frame → State → ℕ → Move → Type 0
-Told p x b (To s t) = (step p x b .answer ≡ answer p s t) × (answer p s t < 1024) × (s < p .set .width) × (t < p .set .height) × (b ≤ 3)
+Told p x b (To s t) = (step p x b .answer ≡ answer p s t) × LevelOrNone (answer p s t) × (s < p .set .width) × (t < p .set .height) × (b ≤ 3)
 Told p x b (Nowhere m) = ((step p x b .answer ≡ 65534) × (b ≤ 3)) ⊎ ((step p x b .answer ≡ 65533) × (3 < b))
 
 pub told : {p : Frame} {x : State} {n : ℕ} → StateBounded p x n → (b : ℕ) → Told p x b (move (p .set) (x .column) (x .row) b)
@@ -174,11 +210,15 @@ told {p} {x} {n} h b = go (move (p .set) (x .column) (x .row) b) refl (move-fine
     go : (m : Move) → move (p .set) (x .column) (x .row) b ≡ m → Fine (p .set) b m → Told p x b m
     go (To s t) e f = (
       step-level p x b s t e,
-      omega (arith, answer-low (record { good = h .good; in-column = f .0; in-row = f .1 }), h .good .sound .levels-high),
+      level-of (answer-low (record { good = h .good; in-column = f .0; in-row = f .1 })),
       f .0,
       f .1,
       f .2,
     )
+      where
+        level-of : (answer p s t < p .set .levels) ⊎ (answer p s t ≡ noReading) → LevelOrNone (answer p s t)
+        level-of (inl l) = inl (omega (arith, h .good .sound .levels-high))
+        level-of (inr d) = inr d
     go (Nowhere m) e (inl f) = inl (step-mark p x b m e ∙ f .0, f .1)
     go (Nowhere m) e (inr f) = inr (step-mark p x b m e ∙ f .0, f .1)
 
@@ -186,7 +226,7 @@ told {p} {x} {n} h b = go (move (p .set) (x .column) (x .row) b) refl (move-fine
 pub record Marks (p : Frame) (x : State) (b : ℕ) : Type 0 where
   pub off : (step p x b .answer ≡ 65534) ↔ (move (p .set) (x .column) (x .row) b ≡ Nowhere 65534)
   pub other : (step p x b .answer ≡ 65533) ↔ (3 < b)
-  pub level : (step p x b .answer < 1024) ↔ ((s : ℕ) × (t : ℕ) × (move (p .set) (x .column) (x .row) b ≡ To s t))
+  pub level : LevelOrNone (step p x b .answer) ↔ ((s : ℕ) × (t : ℕ) × (move (p .set) (x .column) (x .row) b ≡ To s t))
 
 apart-moves : {A : Type 0} {s t m : ℕ} → To s t ≡ Nowhere m → A
 apart-moves {A} {s} {t} {m} e = absurd (subst (λ (q : Move). Is q) e tt)
@@ -195,6 +235,11 @@ apart-moves {A} {s} {t} {m} e = absurd (subst (λ (q : Move). Is q) e tt)
     Is (To s t) = Unit {0}
     Is (Nowhere m) = ⊥
 
+-- a mark is neither a level nor no reading
+no-mark : (m : ℕ) → 1024 ≤ m → m < noReading → {n : ℕ} → LevelOrNone n → n ≡ m → ⊥
+no-mark m h l (inl a) e = omega arith
+no-mark m h l (inr a) e = omega arith
+
 pub marks : {p : Frame} {x : State} {n : ℕ} → StateBounded p x n → (b : ℕ) → Marks p x b
 marks {p} {x} {n} h b =
     go (move (p .set) (x .column) (x .row) b) refl (told h b) (move-fine (p .set) (x .column) (x .row) b (h .in-column) (h .in-row))
@@ -202,21 +247,21 @@ marks {p} {x} {n} h b =
     go : (m : Move) → move (p .set) (x .column) (x .row) b ≡ m → Told p x b m → Fine (p .set) b m → Marks p x b
     go (To s t) e f g =
         record {
-          off = (λ d. absurd (omega (arith, f .0, f .1)), λ d. apart-moves (sym e ∙ d));
-          other = (λ d. absurd (omega (arith, f .0, f .1)), λ d. absurd (omega (arith, f .4)));
-          level = (λ d. (s, t, e), λ d. omega (arith, f .0, f .1));
+          off = (λ d. absurd (no-mark 65534 (omega arith) (omega arith) (f .1) (sym (f .0) ∙ d)), λ d. apart-moves (sym e ∙ d));
+          other = (λ d. absurd (no-mark 65533 (omega arith) (omega arith) (f .1) (sym (f .0) ∙ d)), λ d. absurd (omega (arith, f .4)));
+          level = (λ d. (s, t, e), λ d. subst LevelOrNone (sym (f .0)) (f .1));
         }
     go (Nowhere m) e (inl f) g =
         record {
           off = (λ d. e ∙ ap Nowhere (sym (step-mark p x b m e) ∙ f .0), λ d. f .0);
           other = (λ d. absurd (omega (arith, f .0)), λ d. absurd (omega (arith, f .1)));
-          level = (λ d. absurd (omega (arith, f .0)), λ d. apart-moves (sym (d .2) ∙ e));
+          level = (λ d. absurd (no-mark _ (omega arith) (omega arith) d (f .0)), λ d. apart-moves (sym (d .2) ∙ e));
         }
     go (Nowhere m) e (inr f) g =
         record {
           off = (λ d. absurd (omega (arith, f .0)), λ d. absurd (omega (arith, f .0, step-mark p x b 65534 d)));
           other = (λ d. f .1, λ d. f .0);
-          level = (λ d. absurd (omega (arith, f .0)), λ d. apart-moves (sym (d .2) ∙ e));
+          level = (λ d. absurd (no-mark _ (omega arith) (omega arith) d (f .0)), λ d. apart-moves (sym (d .2) ∙ e));
         }
 
 -- ---- place by place
@@ -332,7 +377,7 @@ same-arrive way way′ e p s t c n = record {
   column = refl;
   row = refl;
   cut = refl;
-  shifts = ap (λ (b : Bool). n + (if monotone p s t then shiftsTo b (median p s t) c else median p s t)) e;
+  shifts = ap (λ (b : Bool). n + (if empty p s t then 0 else if monotone p s t then shiftsTo b (median p s t) c else median p s t)) e;
 }
 
 same-step : (p : Frame) (x y : State) → SameCount x y → (b : ℕ) → SameCount (step p x b) (step p y b)

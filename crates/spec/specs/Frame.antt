@@ -1,13 +1,13 @@
 -- The frame of a file: its trailer, its planes and its weights.
 -- Assumes nothing.
 use Prim.Native.Nat.{ℕ, _+_, _-_, _*_, _/_}
+use mathlib.Core.Bool.{Bool}
 use mathlib.Core.List.{List}
 use lib.Dec.{eqb}
 use lib.ListN.{length, getD, take, drop}
 use Rattle.spec.specs.declared.Settings.{Settings}
 use Rattle.spec.specs.declared.Trailer.{Trailer}
 use Rattle.spec.specs.declared.Plan.{Plan}
-use Rattle.spec.specs.declared.Level.{Level}
 use Rattle.spec.specs.declared.Guide.{Guide}
 use Rattle.spec.specs.Base.{if_then_else_, distance}
 use Rattle.spec.specs.Bytes.{be16, be32}
@@ -16,18 +16,25 @@ use Rattle.spec.specs.Bytes.{be16, be32}
 abbrev pub newSettings : Settings
 newSettings = record { width = 0; height = 0; levels = 0; guides = 0; kind = 2; radius = 7; smoothing = 64 }
 
--- a picture: the level and the guide of the pixel in a column and a row; and the weight that the table gives a pixel of the second guide in a window
+-- a picture: the value and the guide of the pixel in a column and a row; and the weight that the table gives a pixel of the second guide in a window
 -- whose centre has the first
 pub record Frame : Type 0 where
   pub set : Settings
-  pub levelAt : ℕ → ℕ → Level
+  pub valueAt : ℕ → ℕ → ℕ
   pub guideAt : ℕ → ℕ → Guide
   pub weightAt : Guide → Guide → ℕ
 
--- the same as numbers
-abbrev pub level : Frame → ℕ → ℕ → ℕ
-level p s t = p .levelAt s t .0
+-- document 02: the value of a pixel that has no reading; such a pixel is dead. Any other value is a level
+abbrev pub noReading : ℕ
+noReading = 65535
 
+abbrev pub level : Frame → ℕ → ℕ → ℕ
+level p s t = p .valueAt s t
+
+abbrev pub dead : Frame → ℕ → ℕ → Bool
+dead p s t = eqb (level p s t) noReading
+
+-- the guide and the table's weight as numbers
 abbrev pub guide : Frame → ℕ → ℕ → ℕ
 guide p s t = p .guideAt s t .0
 
@@ -140,7 +147,7 @@ frameOf b =
     let k = settingsOf b in
     record {
       set = k;
-      levelAt = λ s t. record { 0 = pixelLevel b (t * k .width + s) };
+      valueAt = λ s t. pixelLevel b (t * k .width + s);
       guideAt = λ s t. record { 0 = pixelGuide b (t * k .width + s) };
       weightAt = λ f g. if eqb (trailerOf b .table) 0 then builtIn (f .0) (g .0) else plane b (planOf b .table) (f .0 * k .guides + g .0);
     }

@@ -12,13 +12,15 @@ use Rattle.spec.specs.declared.Way.the-variants.{Joint, Columns, Chain, 
 use Rattle.spec.specs.declared.Move.{Move}
 use Rattle.spec.specs.declared.Move.the-variants.{To, Nowhere}
 use Rattle.spec.specs.Base.{if_then_else_, distance}
-use Rattle.spec.specs.Frame.{Frame}
+use Rattle.spec.specs.Frame.{Frame, noReading}
+use Rattle.spec.specs.Window.{empty}
 use Rattle.spec.specs.Weight.{monotone}
 use Rattle.spec.specs.Median.{median, answer}
 
 -- the number that an answer is lent as, for each case of the code's enum
 abbrev pub answerNumber : Answer → ℕ
 answerNumber (Answer.Level level) = level .0
+answerNumber Answer.NoReading = noReading
 answerNumber (Answer.Mark mark) = mark
 
 -- the walk after some bytes: the way that counts its shifts, its pixel, its cut point, its shift count, and its last answer
@@ -43,20 +45,25 @@ byBlocks Coarse = true
 abbrev pub shiftsTo : Bool → ℕ → ℕ → ℕ
 shiftsTo blocks m c = if blocks then m / 16 + m % 16 else distance m c
 
--- the window at (s, t), with cut point c before it; a hollow one is steady (`weightless-monotone` of proofs/Own)
+-- the window at (s, t), with cut point c before it: nothing where it has no reading; a hollow one is steady (`weightless-monotone` of proofs/Own)
 unfoldable pub adds : Way → Frame → ℕ → ℕ → ℕ → ℕ
-adds way p s t c = if monotone p s t then shiftsTo (byBlocks way) (median p s t) c else median p s t
+adds way p s t c =
+    if empty p s t then 0 else if monotone p s t then shiftsTo (byBlocks way) (median p s t) c else median p s t
 
 -- ---- the walk
 
--- at a new pixel, with cut point c and shift count n before it: what the window there answers and adds; its median is the next cut point
+-- the cut point after the window: its median; document 02: one with no reading keeps the cut point before it
+unfoldable pub nextCut : Frame → ℕ → ℕ → ℕ → ℕ
+nextCut p s t c = if empty p s t then c else median p s t
+
+-- at a new pixel, with cut point c and shift count n before it: what the window there answers and adds, and the next cut point
 unfoldable pub arrive : Way → Frame → ℕ → ℕ → ℕ → ℕ → State
 arrive way p s t c n =
     record {
       way = way;
       column = s;
       row = t;
-      cut = median p s t;
+      cut = nextCut p s t c;
       shifts = n + adds way p s t c;
       answer = answer p s t;
     }

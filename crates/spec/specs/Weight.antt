@@ -1,14 +1,14 @@
 -- What a pixel weighs, in both kinds: by the frame itself, and where a window is counted.
 -- Assumes nothing.
 use Prim.Native.Nat.{ℕ, _-_, _*_}
-use mathlib.Core.Bool.{Bool, false, _&&_, _||_}
+use mathlib.Core.Bool.{Bool, false, not, _&&_, _||_}
 use lib.Dec.{eqb}
 use lib.IntN.{ℤ, pos, negsuc, _+ℤ_, _-ℤ_, _*ℤ_}
 use lib.Signed.{nonNeg}
 use Rattle.spec.specs.declared.Settings.{Settings}
 use Rattle.spec.specs.Base.{if_then_else_}
 use Rattle.spec.specs.Frame.{Frame, guide, table}
-use Rattle.spec.specs.Window.{Σℤ, pixelCount, guideSum, squareSum}
+use Rattle.spec.specs.Window.{Σℤ, pixelCount, empty, guideSum, squareSum}
 
 -- document 01: V, n² times the guide's variance plus E
 unfoldable pub scaledVariance : ℕ → ℕ → ℕ → ℕ → ℤ
@@ -32,9 +32,9 @@ unfoldable pub isZero : ℤ → Bool
 isZero (pos n) = eqb n 0
 isZero (negsuc n) = false
 
--- document 01: hollow, said of the frame's own weights
+-- document 01: hollow, said of the frame's own weights. Document 02: a window with no reading is not
 unfoldable pub weightless : Frame → ℕ → ℕ → Bool
-weightless p s t = isZero (ownTotal p s t)
+weightless p s t = not (empty p s t) && isZero (ownTotal p s t)
 
 -- the weight that is counted with. Document 02: each pixel of a hollow window weighs 1
 unfoldable pub weight : Frame → ℕ → ℕ → ℕ → ℤ

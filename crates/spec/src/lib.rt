@@ -4,7 +4,7 @@ ghost use Rattle.spec.specs.Frame.{newSettings};
 ghost use Rattle.spec.specs.Refusal.{number, offsetOf, numbered, fires};
 ghost use Rattle.spec.specs.Walk.{answerNumber, byBlocks, shiftsTo};
 
-// A level index counts temperature steps.
+// A level index counts temperature steps. The value of a pixel that has no reading (document 02) is none.
 pub struct Level(pub u16);
 
 // A guide index counts brightness steps.
@@ -109,20 +109,22 @@ pub const BLOCK_BITS: u32 = 4;
 
 const BLOCK_OF_SHIFTS: u64 = BLOCK as u64;
 
-// Why a window has its level (document 02): the formula of a window that is not steady is negative at one end of the guides, 0 or M - 1.
+// Why a window has its answer (document 02): the formula of a window that is not steady is negative at one end of the guides, 0 or M - 1; a window
+// with no reading is empty.
 pub enum Cause {
     Ordinary,
     Hollow,
     NegativeAtZero,
     NegativeAtLast,
+    Empty,
 }
 
-// The grounds of a window's level: how many pixels the window has, what they weigh, the level, what the levels below it weigh, and what they weigh
+// The grounds of a window's answer: how many pixels the window has, what they weigh, the answer, what the levels below it weigh, and what they weigh
 // with it.
 pub struct Grounds {
     pub pixels: usize,
     pub total: i64,
-    pub level: Level,
+    pub answer: Answer,
     pub below: i64,
     pub reached: i64,
     pub cause: Cause,
@@ -142,9 +144,13 @@ pub enum Move {
     Nowhere(u16),
 }
 
-// What a walk answers: a window's level, or the mark of a byte that moves nothing.
+// The value of a pixel that has no reading, and the answer of a window that has none (document 02).
+pub const NO_READING: u16 = 65535;
+
+// What a walk answers: a window's level, that the window has no reading, or the mark of a byte that moves nothing.
 pub enum Answer {
     Level(Level),
+    NoReading,
     Mark(u16),
 }
 
@@ -181,6 +187,7 @@ pub fn answer_number(answer: Answer) -> u16
 {
     match answer {
         Answer::Level(level) => level.0,
+        Answer::NoReading => NO_READING,
         Answer::Mark(mark) => mark,
     }
 }
