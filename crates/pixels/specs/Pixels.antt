@@ -1,4 +1,4 @@
--- The pixels of a line as a list: level and guide in turn. Sums over them.
+-- The live pixels of a line as a list: level and guide in turn. Sums over them.
 -- Assumes nothing.
 use mathlib.Core.Path.{_≡_}
 use mathlib.Core.List.{List}
@@ -38,8 +38,7 @@ pub record PixelsBelow (l m : ℕ) (p : List ℕ) : Type 0 where
   pub level : (k : ℕ) → k < countOf p → levelIn p k < l
   pub guide : (k : ℕ) → k < countOf p → guideIn p k < m
 
--- the list has the line's pixels: every sum over it is that over the line. Nothing else is said of their order or number, so that a line may have
--- pixels that count nowhere.
+-- the list has the line's live pixels: every sum over it is that over the line. Nothing else is said of their order or number.
 pub record LinePixels (b : List ℕ) (plan : Plan) (line : Line) (p : List ℕ) : Type 0 where
   pub below : PixelsBelow (plan .levels) (plan .guides) p
   pub sum : (h : ℕ → ℕ → ℕ) → pixelFold _+_ 0 p h ≡ lineFold _+_ 0 b line h

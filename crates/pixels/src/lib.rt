@@ -1,8 +1,9 @@
-// A line's pixels, read once: a list of each pixel's level and guide in turn. What counts pixels (sums, tally, histogram, joint store, linked list)
-// goes by such lists and knows neither file nor border.
+// A line's live pixels, read once: a list of each one's level and guide in turn. What counts pixels (sums, tally, histogram, joint store, linked
+// list) goes by such lists and knows neither file nor border nor dead pixels.
 pub mod store;
 pub mod sums;
 
+use spec::NO_READING;
 use spec::Plan;
 use window::line::Line;
 use window::pixel;
@@ -12,7 +13,8 @@ ghost use Rattle.spec.specs.Checks.{Planned};
 ghost use Rattle.window.specs.Line.{InPlanes};
 ghost use Rattle.pixels.specs.Pixels.{LinePixels};
 
-// The line's pixels into the first places; how many places they take.
+// The line's live pixels into the first places; how many places they take. Each pixel is written and a dead one written over, so that no branch goes
+// by the reading.
 pub fn read(file: &[u8], plan: Plan, line: Line, places: &mut [u16]) -> usize
     requires { ⌜ (Planned (now file) plan) × (InPlanes plan line) × (62 ≤ length (now places)) ⌝ }
     ensures { λ r. ⌜ (r ≤ 62) × (LinePixels (now (file .entry)) plan line (take r (now (places .exit)))) ⌝ }
@@ -21,15 +23,19 @@ pub fn read(file: &[u8], plan: Plan, line: Line, places: &mut [u16]) -> usize
     let stride = line.stride;
     let n = line.count;
     let mut k = 0;
+    let mut m = 0;
     while k < n {
         let q = first + k * stride;
-        let level = pixel::level_at(file, plan, q);
+        let value = pixel::value_at(file, plan, q);
         let guide = pixel::guide_at(file, plan, q);
-        let at = 2 * k;
+        let at = 2 * m;
         let next = at + 1;
-        places[at] = level.0;
+        places[at] = value;
         places[next] = guide.0;
+        if value != NO_READING {
+            m += 1;
+        }
         k += 1;
     }
-    2 * n
+    2 * m
 }

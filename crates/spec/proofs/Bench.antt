@@ -441,6 +441,17 @@ cases =
     (0 ∷ 0 ∷ 0 ∷ 0 ∷ 0 ∷ 1 ∷ 0 ∷ 0 ∷ 0 ∷ 0 ∷ 0 ∷ 0 ∷ 0 ∷ 0 ∷ 0 ∷ 0 ∷ 0 ∷ 0 ∷ 0 ∷ 1 ∷ 0 ∷ 0 ∷ 0 ∷ 0 ∷ 0 ∷ 0 ∷ 0 ∷ 0 ∷ 0 ∷ 0 ∷ 0 ∷ 0 ∷ 0 ∷ 0 ∷ 0 ∷ 0 ∷
     0 ∷ 0 ∷ 0 ∷ 0 ∷ 0 ∷ 0 ∷ 0 ∷ 2 ∷ 0 ∷ 0 ∷ 0 ∷ 0 ∷ 0 ∷ 0 ∷ 0 ∷ 1 ∷ 0 ∷ 1 ∷ 0 ∷ 0 ∷ 0 ∷ 0 ∷ 0 ∷ 2 ∷ 0 ∷ 0 ∷ 0 ∷ 0 ∷ [])
     (record { level = 3; count = 1; guides = 2 } ∷ record { level = 5; count = 1; guides = 0 } ∷ [])
+    ∷ accept fileAged ⇒ says accepted
+    ∷ accept (made 3 1 8 4 2 1 1 (5 ∷ 65534 ∷ 3 ∷ []) (0 ∷ 0 ∷ 2 ∷ []) []) ⇒ says (refused 7 (2 ∷ []))
+    ∷ accept (made 3 1 8 4 2 1 1 (5 ∷ 65533 ∷ 3 ∷ []) (0 ∷ 0 ∷ 2 ∷ []) []) ⇒ says (refused 7 (2 ∷ []))
+    ∷ accept (made 3 1 8 4 2 1 1 (5 ∷ 65535 ∷ 8 ∷ []) (0 ∷ 0 ∷ 2 ∷ []) []) ⇒ says (refused 7 (4 ∷ []))
+    ∷ accept (made 3 1 8 4 2 1 1 (5 ∷ 65535 ∷ 3 ∷ []) (0 ∷ 65535 ∷ 2 ∷ []) []) ⇒ says (refused 7 (8 ∷ []))
+    ∷ call (writerOutcome (settings 3 1 8 4 2 1 1) (65535 ∷ 1 ∷ 65535 ∷ []) (0 ∷ 0 ∷ 2 ∷ []) [] 40) ⇒ says accepted
+    ∷ call (writerOutcome (settings 3 1 8 4 2 1 1) (65535 ∷ 65534 ∷ 3 ∷ []) (0 ∷ 0 ∷ 2 ∷ []) [] 40) ⇒ says (refused 7 (2 ∷ []))
+    ∷ call (writerOutcome (settings 3 1 8 4 2 1 1) (65535 ∷ 1 ∷ 3 ∷ []) (0 ∷ 65535 ∷ 2 ∷ []) [] 40) ⇒ says (refused 7 (8 ∷ []))
+    ∷ output fileAlone ⇒ prints
+    (52 ∷ 32 ∷ 49 ∷ 10 ∷ 54 ∷ 53 ∷ 53 ∷ 51 ∷ 53 ∷ 32 ∷ 54 ∷ 53 ∷ 53 ∷ 51 ∷ 53 ∷ 32 ∷ 53 ∷ 32 ∷ 53 ∷ 10
+    ∷ 106 ∷ 111 ∷ 105 ∷ 110 ∷ 116 ∷ 32 ∷ 53 ∷ 10 ∷ 99 ∷ 111 ∷ 97 ∷ 114 ∷ 115 ∷ 101 ∷ 32 ∷ 49 ∷ 48 ∷ 10 ∷ [])
     ∷ chain fileAged 4 0 ⇒ chained (record { level = 3; count = 1; guides = 7 } ∷ record { level = 5; count = 1; guides = 15 } ∷ [])
     ∷ []
 

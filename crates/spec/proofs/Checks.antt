@@ -2,24 +2,26 @@
 -- Assumes nothing.
 use mathlib.Core.Path.{_≡_, refl, sym, ap, ap₂, _∙_, subst}
 use mathlib.Core.Bool.{Bool, true, false, true≢false, not, _&&_, _||_}
+use mathlib.Core.Logic.{_⊎_, inl, inr}
 use mathlib.Core.List.{List, [], _∷_}
 use Prim.Native.Nat.{ℕ, _+_, _*_, _≤_, _<_}
 use native.Mathlib.Omega.{arith}
 use lib.Dec.{leb, ltb, eqb}
 use lib.ListN.{length}
-use borrow.Author.Tests.{ltb-false, leb-false, le-leb, lt-leb, lt-ltb, le-ltb, eqb-true}
+use borrow.Author.Tests.{ltb-false, leb-false, le-leb, lt-leb, lt-ltb, le-ltb, eqb-true, eq-eqb, ne-eqb}
 use Rattle.spec.specs.declared.Settings.{Settings}
 use Rattle.spec.specs.declared.Trailer.{Trailer}
 use Rattle.spec.specs.declared.Plan.{Plan}
 use Rattle.spec.specs.Base.{if_then_else_, first}
 use Rattle.spec.specs.Refusal.{Outcome, accepted, refused, _▷_, refuse}
-use Rattle.spec.specs.Frame.{trailerAt, settingsOf, trailerOf, pixels, tableSize, ownWeights, plane, planOf}
+use Rattle.spec.specs.Frame.{noReading, trailerAt, settingsOf, trailerOf, pixels, tableSize, ownWeights, plane, planOf}
 use Rattle.spec.specs.Checks.{
   outside,
   badMark,
   settingsOutcome,
   badDistance,
   scan,
+  judged,
   scanFile,
   valueScan,
   guideScan,
@@ -88,6 +90,21 @@ scan-accepted f n limit offset e k h = go (ltb (first (λ j. leb limit (f j)) n)
         let all : n ≤ first (λ j. leb limit (f j)) n = ltb-false _ _ d in
         leb-false _ _ (first-is (λ j. leb limit (f j)) n .before k (omega arith))
 
+-- ---- what is judged: a number itself, or 0 where a value says that there is no reading
+pub judged-dead : (n : ℕ) → n ≡ noReading → judged true n ≡ 0
+judged-dead n e = rw (eq-eqb n noReading e) refl
+
+pub judged-same : (values : Bool) (n : ℕ) → (n ≡ noReading → ⊥) → judged values n ≡ n
+judged-same true n h = rw (ne-eqb n noReading h) refl
+judged-same false n h = refl
+
+pub judged-below : (limit n : ℕ) → judged true n < limit → (n < limit) ⊎ (n ≡ noReading)
+judged-below limit n = go (eqb n noReading) refl
+  where
+    go : (b : Bool) → eqb n noReading ≡ b → (if b then 0 else n) < limit → (n < limit) ⊎ (n ≡ noReading)
+    go true e h = inr (eqb-true _ _ e)
+    go false e h = inl h
+
 -- ---- for readers: check 7 looks at the two planes and at nothing else, so no weight can be refused
 scan-same : (f g : ℕ → ℕ) (n limit offset : ℕ) → ((j : ℕ) → j < n → f j ≡ g j) → scan f n limit offset ≡ scan g n limit offset
 unfolding scan
@@ -105,7 +122,8 @@ pub contents-planes : (b c : List ℕ) (plan : Plan) →
     ((q : ℕ) → q < plan .width * plan .height → plane b (plan .value) q ≡ plane c (plan .value) q) →
     ((q : ℕ) → q < plan .width * plan .height → plane b (plan .guide) q ≡ plane c (plan .guide) q) → contents b plan ≡ contents c plan
 unfolding contents valueScan guideScan scanFile
-contents-planes b c plan values guides = ap₂ _▷_ (scan-same _ _ _ _ _ values) (scan-same _ _ _ _ _ guides)
+contents-planes b c plan values guides =
+    ap₂ _▷_ (scan-same _ _ _ _ _ (λ j h. ap (judged true) (values j h))) (scan-same _ _ _ _ _ guides)
 
 -- ---- check 6: what it promises of a trailer that begins at an offset
 pub record Near (at : ℕ) (t : Trailer) : Type 0 where

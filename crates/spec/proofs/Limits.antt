@@ -9,7 +9,7 @@ use native.Mathlib.Omega.{arith}
 use native.Mathlib.Nat.{div-le-of-le-mul, mul-comm}
 use lib.Arith.{digits-lt}
 use lib.Dec.{ltb, eqb}
-use borrow.Author.Tests.{ltb-false, eqb-true, not-false}
+use borrow.Author.Tests.{ltb-false, eqb-true, not-false, eqb-false}
 use Rattle.spec.specs.declared.Settings.{Settings}
 use Rattle.spec.specs.declared.Trailer.{Trailer}
 use Rattle.spec.specs.declared.Plan.{Plan}
@@ -19,6 +19,7 @@ use Rattle.spec.specs.Refusal.{accepted, _▷_, refuse}
 use Rattle.spec.specs.Frame.{
   Frame,
   level,
+  noReading,
   dead,
   guide,
   table,
@@ -46,7 +47,7 @@ use Rattle.spec.specs.Checks.{
   verdict,
   SettingsLimits,
 }
-use Rattle.spec.proofs.Checks.{both-accepted, not-fired, neither, inside, scan-accepted, FilePassed, passed}
+use Rattle.spec.proofs.Checks.{both-accepted, not-fired, neither, inside, scan-accepted, judged-below, FilePassed, passed}
 
 pub record FrameLimits (p : Frame) : Type 0 where
   pub sound : SettingsLimits (p .set)
@@ -123,9 +124,17 @@ pub in-plane : (k : Settings) (s t : ℕ) → s < k .width → t < k .height →
 in-plane k s t hs ht = subst (λ (n : ℕ). t * k .width + s < n) (mul-comm (k .height) (k .width)) (digits-lt ht hs)
 
 module _ (b : List ℕ) (ok : verdict b ≡ accepted) where
-  pub level-below : (q : ℕ) → q < pixels (settingsOf b) → pixelLevel b q < settingsOf b .levels
+  -- a level, or no reading
+  pub level-below : (q : ℕ) → q < pixels (settingsOf b) → (pixelLevel b q < settingsOf b .levels) ⊎ (pixelLevel b q ≡ noReading)
   unfolding pixelLevel valueScan scanFile planOf
-  level-below q h = scan-accepted _ _ _ _ (passed b ok .values) q h
+  level-below q h = judged-below _ _ (scan-accepted _ _ _ _ (passed b ok .values) q h)
+
+  pub level-live : (q : ℕ) → q < pixels (settingsOf b) → eqb (pixelLevel b q) noReading ≡ false → pixelLevel b q < settingsOf b .levels
+  level-live q h e = go (level-below q h)
+    where
+      go : (pixelLevel b q < settingsOf b .levels) ⊎ (pixelLevel b q ≡ noReading) → pixelLevel b q < settingsOf b .levels
+      go (inl l) = l
+      go (inr d) = absurd (eqb-false _ _ e d)
 
   pub guide-below : (q : ℕ) → q < pixels (settingsOf b) → pixelGuide b q < settingsOf b .guides
   unfolding pixelGuide guideScan scanFile planOf
@@ -136,6 +145,6 @@ module _ (b : List ℕ) (ok : verdict b ≡ accepted) where
   limits-of =
       record {
         sound = settings-limits (settingsOf b) (passed b ok .settings);
-        level-low = λ x y hx hy e. level-below _ (in-plane (settingsOf b) x y hx hy);
+        level-low = λ x y hx hy. level-live _ (in-plane (settingsOf b) x y hx hy);
         guide-low = λ x y hx hy. guide-below _ (in-plane (settingsOf b) x y hx hy);
       }

@@ -3,7 +3,7 @@
 use mathlib.Core.Logic.{_⊎_}
 use mathlib.Core.Path.{_≡_}
 use Prim.Native.Nat.{ℕ, _+_, _*_, _≤_}
-use mathlib.Core.Bool.{Bool, true, not, _&&_, _||_}
+use mathlib.Core.Bool.{Bool, true, false, not, _&&_, _||_}
 use mathlib.Core.List.{List, [], _∷_}
 use lib.Dec.{leb, ltb, eqb}
 use lib.ListN.{length}
@@ -13,7 +13,7 @@ use Rattle.spec.specs.declared.Plan.{Plan}
 use Rattle.spec.specs.Base.{if_then_else_, first}
 use Rattle.spec.specs.Bytes.{be32}
 use Rattle.spec.specs.Refusal.{Outcome, accepted, refused, _▷_, refuse}
-use Rattle.spec.specs.Frame.{trailerAt, settingsOf, trailerOf, pixels, tableSize, plane, planOf}
+use Rattle.spec.specs.Frame.{noReading, trailerAt, settingsOf, trailerOf, pixels, tableSize, plane, planOf}
 
 abbrev pub outside : ℕ → ℕ → ℕ → Bool
 outside low high n = ltb n low || ltb high n
@@ -69,15 +69,20 @@ scan number n limit offset =
     let k = first (λ j. leb limit (number j)) n in
     if ltb k n then refused 7 ((offset + 2 * k) ∷ []) else accepted
 
--- of the n numbers that begin at an offset of the file
-unfoldable pub scanFile : List ℕ → ℕ → ℕ → ℕ → Outcome
-scanFile b offset n limit = scan (plane b offset) n limit offset
+-- the number that a scan judges. Document 02: among values, the one that says there is no reading passes; it is judged as 0
+abbrev pub judged : Bool → ℕ → ℕ
+judged true n = if eqb n noReading then 0 else n
+judged false n = n
+
+-- of the n numbers, values or not, that begin at an offset of the file
+unfoldable pub scanFile : List ℕ → Bool → ℕ → ℕ → ℕ → Outcome
+scanFile b values offset n limit = scan (λ j. judged values (plane b offset j)) n limit offset
 
 unfoldable pub valueScan : List ℕ → Plan → Outcome
-valueScan b plan = scanFile b (plan .value) (plan .width * plan .height) (plan .levels)
+valueScan b plan = scanFile b true (plan .value) (plan .width * plan .height) (plan .levels)
 
 unfoldable pub guideScan : List ℕ → Plan → Outcome
-guideScan b plan = scanFile b (plan .guide) (plan .width * plan .height) (plan .guides)
+guideScan b plan = scanFile b false (plan .guide) (plan .width * plan .height) (plan .guides)
 
 -- check 7, of the two planes: a weight may be any number
 unfoldable pub contents : List ℕ → Plan → Outcome

@@ -1,7 +1,7 @@
 -- The writer: the bytes of a file, its outcome, and what it leaves in the output.
 -- Assumes nothing.
 use Prim.Native.Nat.{ℕ, _+_, _*_}
-use mathlib.Core.Bool.{Bool, not, _&&_, _||_}
+use mathlib.Core.Bool.{Bool, true, false, not, _&&_, _||_}
 use mathlib.Core.List.{List, [], _∷_, _++_}
 use lib.Dec.{ltb, eqb}
 use lib.ListN.{length, getD, drop}
@@ -9,7 +9,7 @@ use Rattle.spec.specs.declared.Settings.{Settings}
 use Rattle.spec.specs.Bytes.{to16, to32, all16}
 use Rattle.spec.specs.Refusal.{Outcome, accepted, refused, _▷_, refuse}
 use Rattle.spec.specs.Frame.{pixels, tableSize}
-use Rattle.spec.specs.Checks.{settingsOutcome, scan}
+use Rattle.spec.specs.Checks.{settingsOutcome, scan, judged}
 
 -- the trailer's first 12 bytes
 unfoldable pub fieldBytes : Settings → List ℕ
@@ -33,15 +33,15 @@ unfoldable pub badLength : Settings → ℕ → ℕ → ℕ → Bool
 badLength settings v g a =
     not (eqb v (pixels settings)) || not (eqb g (pixels settings)) || (not (eqb a 0) && not (eqb (settings .kind) 1 && eqb a (tableSize settings)))
 
--- check 7 of numbers that would begin at an offset
-unfoldable pub scanList : List ℕ → ℕ → ℕ → Outcome
-scanList l limit offset = scan (λ j. getD l j 0) (length l) limit offset
+-- check 7 of numbers, values or not, that would begin at an offset
+unfoldable pub scanList : List ℕ → Bool → ℕ → ℕ → Outcome
+scanList l values limit offset = scan (λ j. judged values (getD l j 0)) (length l) limit offset
 
 -- into an output of room bytes; the table's weights may be any numbers
 unfoldable pub writerOutcome : Settings → List ℕ → List ℕ → List ℕ → ℕ → Outcome
 writerOutcome settings v g a room =
     settingsOutcome settings ▷ refuse 6 (badLength settings (length v) (length g) (length a))
-    ▷ scanList v (settings .levels) 0 ▷ scanList g (settings .guides) (2 * pixels settings)
+    ▷ scanList v true (settings .levels) 0 ▷ scanList g false (settings .guides) (2 * pixels settings)
     ▷ refuse 11 (ltb room (writtenSize settings (length a)))
 
 -- the output afterwards: the file and then the rest as it was; or all as it was

@@ -1,5 +1,6 @@
 // The types that every contract speaks of. What they mean is in specs/, which uses these same types.
 ghost use mathlib.Core.Path.{_≡_};
+ghost use Rattle.spec.specs.Checks.{judged};
 ghost use Rattle.spec.specs.Frame.{newSettings};
 ghost use Rattle.spec.specs.Refusal.{number, offsetOf, numbered, fires};
 ghost use Rattle.spec.specs.Walk.{answerNumber, byBlocks, shiftsTo};
@@ -146,6 +147,18 @@ pub enum Move {
 
 // The value of a pixel that has no reading, and the answer of a window that has none (document 02).
 pub const NO_READING: u16 = 65535;
+
+// A number as a scan judges it: among values, the one that says there is no reading passes.
+pub fn judged(values: bool, number: u16) -> u16
+    ensures { λ r. ⌜ r ≡ judged values number ⌝ }
+{
+    if values {
+        if number == NO_READING {
+            return 0;
+        }
+    }
+    number
+}
 
 // What a walk answers: a window's level, that the window has no reading, or the mark of a byte that moves nothing.
 pub enum Answer {

@@ -14,7 +14,7 @@ use Rattle.spec.specs.declared.Plan.{Plan}
 use Rattle.spec.specs.Base.{if_then_else_, fold, foldRect}
 use Rattle.spec.specs.Frame.{level, guide, pixelLevel, pixelGuide, frameOf}
 use Rattle.spec.specs.Checks.{Planned}
-use Rattle.spec.specs.Window.{span, over, inColumn, inRow}
+use Rattle.spec.specs.Window.{span, live, over, inColumn, inRow}
 use Rattle.spec.proofs.Ranges.{AdditionLaws, natSums, lost, gained, over-right, over-down}
 use Rattle.spec.proofs.Plans.{facts, place-low}
 use Rattle.window.specs.declared.line.Line.{Line}
@@ -35,6 +35,7 @@ use Rattle.window.specs.Line.{
   down,
   up,
   pixelOf,
+  reading,
   InPlanes,
   StepInPlanes,
   lineFoldTo,
@@ -83,6 +84,11 @@ module _ {A : Type 0} (_⊕_ : A → A → A) (e : A) where
   unfolding lineFoldTo
   line-none b d h = fold-none _ 0
 
+  pub line-more : (b : List ℕ) (d : Line) (h : ℕ → ℕ → A) (n : ℕ)
+      → lineFoldTo _⊕_ e b d h (n + 1) ≡ lineFoldTo _⊕_ e b d h n ⊕ reading e h (pixelLevel b (pixelOf d n)) (pixelGuide b (pixelOf d n))
+  unfolding lineFoldTo
+  line-more b d h n = fold-more _ 0 n ∙ ap (λ (k : ℕ). lineFoldTo _⊕_ e b d h n ⊕ reading e h (pixelLevel b (pixelOf d k)) (pixelGuide b (pixelOf d k))) (zero-add n)
+
   shift-fold : (b : List ℕ) (h : ℕ → ℕ → A) (d : Line) (by : ℕ) (on : Bool)
       → lineFold _⊕_ e b (shift d by on) h ≡ (if on then lineFold _⊕_ e b (shift d by true) h else e)
   unfolding shift lineFoldTo fold
@@ -106,28 +112,29 @@ module _ {A : Type 0} (_⊕_ : A → A → A) (e : A) where
     abbrev pub at : ℕ → ℕ → A
     at x y = h (level (frameOf b) x y) (guide (frameOf b) x y)
 
-    place-at : (q x y : ℕ) → q ≡ y * z .width + x → h (pixelLevel b q) (pixelGuide b q) ≡ at x y
-    place-at q x y k = let f = facts pl in ap₂ h (ap (pixelLevel b) k ∙ f .level-at x y) (ap (pixelGuide b) k ∙ f .guide-at x y)
+    place-at : (q x y : ℕ) → q ≡ y * z .width + x → reading e h (pixelLevel b q) (pixelGuide b q) ≡ live e (frameOf b) at x y
+    unfolding live
+    place-at q x y k = let f = facts pl in ap₂ (reading e h) (ap (pixelLevel b) k ∙ f .level-at x y) (ap (pixelGuide b) k ∙ f .guide-at x y)
 
     along-column : (first x t : ℕ) → first ≡ (t - z .radius) * z .width + x
-        → fold _⊕_ e (λ k. h (pixelLevel b (first + k * z .width)) (pixelGuide b (first + k * z .width))) 0 (span (z .radius) t (z .height))
+        → fold _⊕_ e (λ k. reading e h (pixelLevel b (first + k * z .width)) (pixelGuide b (first + k * z .width))) 0 (span (z .radius) t (z .height))
         ≡ inColumn _⊕_ e (frameOf b) t at x
     unfolding inColumn
     along-column first x t k =
         let f = facts pl in
-        fold-moved _ (at x) (t - z .radius) (span (z .radius) t (z .height))
+        fold-moved _ (live e (frameOf b) at x) (t - z .radius) (span (z .radius) t (z .height))
         (λ j. place-at _ x (t - z .radius + j) (column-place (z .width) (t - z .radius) x j first k))
-        ∙ ap₂ (λ (r n : ℕ). fold _⊕_ e (at x) (t - r) (span r t n)) (f .radius) (f .height)
+        ∙ ap₂ (λ (r n : ℕ). fold _⊕_ e (live e (frameOf b) at x) (t - r) (span r t n)) (f .radius) (f .height)
 
     along-row : (first s y : ℕ) → first ≡ y * z .width + (s - z .radius)
-        → fold _⊕_ e (λ k. h (pixelLevel b (first + k * 1)) (pixelGuide b (first + k * 1))) 0 (span (z .radius) s (z .width))
+        → fold _⊕_ e (λ k. reading e h (pixelLevel b (first + k * 1)) (pixelGuide b (first + k * 1))) 0 (span (z .radius) s (z .width))
         ≡ inRow _⊕_ e (frameOf b) s at y
     unfolding inRow
     along-row first s y k =
         let f = facts pl in
-        fold-moved _ (λ x. at x y) (s - z .radius) (span (z .radius) s (z .width))
+        fold-moved _ (λ x. live e (frameOf b) at x y) (s - z .radius) (span (z .radius) s (z .width))
         (λ j. place-at _ (s - z .radius + j) y (row-place (z .width) y (s - z .radius) j first k))
-        ∙ ap₂ (λ (r n : ℕ). fold _⊕_ e (λ x. at x y) (s - r) (span r s n)) (f .radius) (f .width)
+        ∙ ap₂ (λ (r n : ℕ). fold _⊕_ e (λ x. live e (frameOf b) at x y) (s - r) (span r s n)) (f .radius) (f .width)
 
     pub column-fold : (x t : ℕ) → lineFold _⊕_ e b (columnLine z x t) h ≡ inColumn _⊕_ e (frameOf b) t at x
     unfolding columnLine lineFoldTo
@@ -207,7 +214,6 @@ module _ {A : Type 0} (_⊕_ : A → A → A) (e : A) where
       step-law {s} {t} {s′} {t′} (up es et hs ht) =
           rw (is-up z s t s′ t′ (omega arith) (omega arith) (omega arith), es, et) (sym (row-law s t′ (omega arith)))
 
--- the same for plain sums, by the step that the code makes
 -- ---- every line is in the picture
 module _ {z : Plan} (lim : PlanLimits z) where
   in-column : (first x t : ℕ) → first ≡ (t - z .radius) * z .width + x → x < z .width

@@ -1,14 +1,16 @@
 -- Where a plan's pixels stand in its file, and how large their numbers are.
 -- Assumes nothing.
 use mathlib.Core.Path.{_≡_}
+use mathlib.Core.Bool.{false}
 use mathlib.Core.List.{List}
 use Prim.Native.Nat.{ℕ, _+_, _-_, _*_, _≤_, _<_}
 use native.Mathlib.Omega.{arith}
+use lib.Dec.{eqb}
 use lib.ListN.{length}
 use Rattle.spec.specs.declared.Plan.{Plan}
-use Rattle.spec.specs.Frame.{settingsOf, pixelLevel, pixelGuide, frameOf}
+use Rattle.spec.specs.Frame.{noReading, settingsOf, pixelLevel, pixelGuide, frameOf}
 use Rattle.spec.specs.Checks.{Planned}
-use Rattle.spec.proofs.Limits.{level-below, guide-below}
+use Rattle.spec.proofs.Limits.{level-live, guide-below}
 use Rattle.spec.proofs.Plans.{facts, plane-small}
 use Rattle.window.specs.Line.{PlanLimits}
 
@@ -38,9 +40,9 @@ module _ {b : List ℕ} {z : Plan} (pl : Planned b z) where
     unfolding frameOf
     in-pixels = let f = facts pl in rw (f .width, f .height) at h
 
-    pub level-low : pixelLevel b q < z .levels
+    pub level-low : eqb (pixelLevel b q) noReading ≡ false → pixelLevel b q < z .levels
     unfolding frameOf
-    level-low = rw (facts pl .levels) (level-below b (pl .accepts) q in-pixels)
+    level-low e = rw (facts pl .levels) (level-live b (pl .accepts) q in-pixels e)
 
     pub guide-low : pixelGuide b q < z .guides
     unfolding frameOf
