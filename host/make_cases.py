@@ -11,6 +11,7 @@ import sys
 
 MARK = b"\x49\x43\x45\x31"
 TABLE, GUIDED = 1, 2
+NO_READING = 65535
 
 
 class Random:
@@ -173,6 +174,44 @@ def block_cases():
     ]
 
 
+def dead_cases():
+    """Dead pixels: among readings, at the centre, in windows without a reading, and of every pixel."""
+    dead = NO_READING
+    b = row([1, dead, 5, 3, dead], [7, 7, 15, 7, 0], 8, 16, GUIDED, 2, 1)
+    mostly = row([dead, dead, dead, 5], [0] * 4, 8, 2, TABLE, 1, 0, [1] * 4)
+    all_dead = row([dead] * 3, [0, 0, 2], 8, 4, GUIDED, 1, 1)
+    all_dead_table = frame(2, 2, 8, 2, TABLE, 1, 0, [dead] * 4, [0, 1, 1, 0], [1, 2, 3, 4])
+    # The dead middle pixel's guide chooses the row; by the other row the lower level would reach half.
+    centre = row([2, dead, 6], [0, 1, 1], 8, 2, TABLE, 1, 0, [3, 1, 1, 3])
+    # What the dead pixel would weigh is all that weighs: its window is hollow.
+    hollow = row([6, dead, 4], [1, 0, 1], 8, 2, TABLE, 1, 0, [1, 0, 1, 1])
+    # A gap wider than a window between two blocks of levels: the cut stays where it was.
+    gap = row([3, 39] + [dead] * 4 + [20, 33], [0, 7, 3, 3, 0, 3, 3, 7], 40, 8, GUIDED, 1, 1)
+    gap_table = row([3, 39] + [dead] * 4 + [20, 33], [0, 1] * 4, 40, 2, TABLE, 1, 0, [2, 1, 1, 2])
+    # Columns beside the window have dead pixels too.
+    field = frame(4, 3, 16, 8, GUIDED, 1, 1, [dead, 2, 15, dead, 1, dead, dead, 3, 8, 0, dead, 14],
+                  [0, 1, 7, 0, 6, 0, 2, 0, 3, 5, 0, 7])
+    return [
+        ("dead_b", b, 0, 0, "0000"),
+        ("dead_b_back", b, 4, 0, "1111"),
+        ("dead_b_pixel_4", b, 4, 0, "-"),
+        ("dead_mostly", mostly, 0, 0, "000"),
+        ("dead_mostly_back", mostly, 3, 0, "1111"),
+        ("dead_all", all_dead, 0, 0, "0024"),
+        ("dead_all_table", all_dead_table, 1, 1, "1302"),
+        ("dead_centre", centre, 0, 0, "00"),
+        ("dead_centre_only", centre, 1, 0, "-"),
+        ("dead_hollow", hollow, 0, 0, "00"),
+        ("dead_gap", gap, 0, 0, "0000000"),
+        ("dead_gap_back", gap, 7, 0, "1111111"),
+        ("dead_gap_inside", gap, 3, 0, "-"),
+        ("dead_gap_table", gap_table, 0, 0, "0000000"),
+        ("dead_gap_table_inside", gap_table, 6, 0, "11"),
+        ("dead_field", field, 0, 0, "000211120003"),
+        ("dead_field_corner", field, 3, 2, "1113"),
+    ]
+
+
 def every_start_cases():
     """One 3 by 3 frame from each of its pixels, turning once through all four directions."""
     nine = frame(3, 3, 16, 8, GUIDED, 1, 2, [4, 13, 2, 9, 0, 15, 7, 7, 11], [1, 0, 7, 0, 6, 0, 2, 0, 3])
@@ -183,8 +222,8 @@ def every_start_cases():
 WEIGHTS_BELOW = {1: 257, 5: 65536, 9: 32768}
 
 
-def random_case(number):
-    """A random frame of at most 6 by 6 with a random walk; odd numbers are kind 1."""
+def random_case(number, dead_of_ten=0):
+    """A random frame of at most 6 by 6 with a random walk; odd numbers are kind 1. So many pixels of ten are dead."""
     random = Random(1000 + number)
     width, height = 1 + random.below(6), 1 + random.below(6)
     levels, guides = 2 + random.below(15), 2 + random.below(7)
@@ -196,13 +235,16 @@ def random_case(number):
     table = random.numbers(guides * guides, WEIGHTS_BELOW[number]) if number in WEIGHTS_BELOW else []
     bound = 5 if number % 3 == 0 else 4
     moves = "".join(str(digit) for digit in random.numbers(12 + random.below(9), bound))
+    if dead_of_ten:
+        values = [NO_READING if random.below(10) < dead_of_ten else value for value in values]
     data = frame(width, height, levels, guides, kind, radius, smoothing, values, guide, table)
     return (f"random_{number}", data, random.below(width), random.below(height), moves)
 
 
 def main():
-    cases = bench_cases() + shaped_cases() + block_cases() + every_start_cases()
+    cases = bench_cases() + shaped_cases() + block_cases() + dead_cases() + every_start_cases()
     cases += [random_case(number) for number in range(1, 13)]
+    cases += [random_case(number, dead_of_ten) for number, dead_of_ten in zip(range(13, 21), [1, 1, 3, 3, 5, 5, 9, 9])]
     beside = os.path.join(os.path.dirname(os.path.abspath(__file__)), "cases.txt")
     path = sys.argv[1] if len(sys.argv) > 1 else beside
     with open(path, "w", encoding="ascii") as out:

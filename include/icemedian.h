@@ -16,9 +16,9 @@
  *           or reaches before the file; or kind 2 has a table.
  *           In icemedian_write: the length of a plane is not width * height, or that of the table is
  *           neither 0 nor, in kind 1, guides * guides
- *   7       a value >= level count or a guide >= guide count, searched in that order; `offset` is the byte
- *           offset of the first such number's high byte in the file, for icemedian_write the one that it
- *           would have. A weight may be any 16-bit number
+ *   7       a value >= level count that is not 65,535 (no reading), or a guide >= guide count, searched in that
+ *           order; `offset` is the byte offset of the first such number's high byte in the file, for
+ *           icemedian_write the one that it would have. A weight may be any 16-bit number
  *   8       the way is not 1 to 4, or does not serve the kind (ways 2 and 3 serve kind 2 only)
  *   9       the pixel is outside the picture, or the level of a balance outside the levels
  *   10      over 1,048,576 moves
@@ -55,9 +55,11 @@
  * 0.5: no call takes other arguments, but a window in which no pixel weighs anything is answered as if each pixel
  * weighed 1. Before, it gave the centre's level and balance 0, added nothing and left the cut point.
  * 0.6: icemedian_explain and its causes are new; nothing else changes.
- * 0.7: the stack that is enough for a call is said by macros; no call changes. */
+ * 0.7: the stack that is enough for a call is said by macros; no call changes.
+ * 0.8: no call takes other arguments, but a value of 65,535 means no reading, which 7 refused before, so that an
+ * answer may be 65,535 too; ICEMEDIAN_NO_READING and the cause ICEMEDIAN_EMPTY are new. */
 #define ICEMEDIAN_VERSION_MAJOR 0
-#define ICEMEDIAN_VERSION_MINOR 7
+#define ICEMEDIAN_VERSION_MINOR 8
 
 #ifdef __cplusplus
 #define ICEMEDIAN_SIZE(number) static_cast<size_t>(number)
@@ -66,9 +68,16 @@ extern "C" {
 #define ICEMEDIAN_SIZE(number) ((size_t)(number))
 #endif
 
+/* A value that is no reading: a dead pixel of the camera, in the value plane only. It belongs to no window: it counts,
+ * weighs and adds nothing, and no store holds it. It may still be the pixel that is asked for: its own guide then
+ * chooses the table's row or stands in kind 2's formula, and it gets the level of the readings around it. A window
+ * without any reading answers ICEMEDIAN_NO_READING. */
+enum { ICEMEDIAN_NO_READING = 65535 };
+
 /* Ways of counting: all give the same answers. Ways 1 to 3 give the same shift count too. Way 4, made for
  * many levels, counts by a rule of its own: a window with answer m adds m / 16 (rounded down) plus m mod 16,
- * but m where kind 2's weight formula is negative for guide 0 or for the last guide. */
+ * but m where kind 2's weight formula is negative for guide 0 or for the last guide. A window without a reading adds
+ * nothing in any way. */
 enum { ICEMEDIAN_JOINT = 1, ICEMEDIAN_COLUMNS = 2, ICEMEDIAN_CHAIN = 3, ICEMEDIAN_COARSE = 4 };
 
 /* Kinds of weights: from a table (or built in), or from the guide by equation 22 of source 000. A table of the
@@ -80,11 +89,18 @@ enum { ICEMEDIAN_TABLE = 1, ICEMEDIAN_GUIDED = 2 };
 /* What sort of window icemedian_explain finds; exactly one applies. Hollow: no pixel weighs anything, so that each
  * counts 1; only a table of the file's own leaves such windows. Negative: kind 2's weight formula is below 0 for
  * guide 0, or for the last guide, never for both; a pixel of such a guide counts against its own level, so that the
- * levels up to one may weigh less than those up to a lower one. Ordinary: none of these, and no pixel weighs less
- * than 0. */
-enum { ICEMEDIAN_ORDINARY = 1, ICEMEDIAN_HOLLOW = 2, ICEMEDIAN_NEGATIVE_AT_ZERO = 3, ICEMEDIAN_NEGATIVE_AT_LAST = 4 };
+ * levels up to one may weigh less than those up to a lower one. Empty: no pixel has a reading; such a window is not
+ * hollow. Ordinary: none of these, and no pixel weighs less than 0. */
+enum {
+    ICEMEDIAN_ORDINARY = 1,
+    ICEMEDIAN_HOLLOW = 2,
+    ICEMEDIAN_NEGATIVE_AT_ZERO = 3,
+    ICEMEDIAN_NEGATIVE_AT_LAST = 4,
+    ICEMEDIAN_EMPTY = 5
+};
 
-/* Move bytes, and the answers to a byte that moves nothing. */
+/* Move bytes, and the answers to a byte that moves nothing. ICEMEDIAN_NO_READING is none of these: it answers a move
+ * that is made. */
 enum { ICEMEDIAN_RIGHT = 0, ICEMEDIAN_LEFT = 1, ICEMEDIAN_DOWN = 2, ICEMEDIAN_UP = 3 };
 enum { ICEMEDIAN_UNKNOWN_MOVE = 65533, ICEMEDIAN_OFF_PICTURE = 65534 };
 
@@ -130,8 +146,9 @@ enum { ICEMEDIAN_DEFAULT_RADIUS = 7, ICEMEDIAN_DEFAULT_SMOOTHING = 64 };
 uint32_t icemedian_check(const uint8_t *file, size_t file_length, uint64_t *offset);
 
 /* Filters a frame: checks 1 to 8 and 11. `output` gets a level for each pixel, row by row from the top
- * left; `shifts` the sum of level distances that the cut point travelled along the serpentine, or way 4's
- * own count. The way's stores hold the serpentine's last window, as after a walk. */
+ * left, or ICEMEDIAN_NO_READING where the pixel's window has no reading; `shifts` the sum of level distances that the
+ * cut point travelled along the serpentine, or way 4's own count. The way's stores hold the serpentine's last window,
+ * as after a walk. */
 uint32_t icemedian_filter(const uint8_t *file, size_t file_length, uint32_t way,
                           uint16_t *counts, size_t counts_length,
                           uint64_t *words, size_t words_length,
@@ -141,9 +158,11 @@ uint32_t icemedian_filter(const uint8_t *file, size_t file_length, uint32_t way,
                           uint64_t *shifts, uint64_t *offset);
 
 /* Walks from a pixel along a list of moves: checks 1 to 11. `answers` gets the start's answer and then
- * one for each move byte. The way's stores hold the last window: way 4's counts and words as way 1's, and
- * `summary` the weight sum of each block. `cut` is the cut point there and `balance_box`, of 256 cells,
- * way 1's balance at it (zeros for the other ways). */
+ * one for each move byte: a level, ICEMEDIAN_NO_READING, or one of the two marks of a byte that moves nothing. The
+ * way's stores hold the readings of the last window, way 2's columns those of its rows in all columns of the picture:
+ * way 4's counts and words as way 1's, and `summary` the weight sum of each block. `cut` is the cut point there and
+ * `balance_box`, of 256 cells, way 1's balance at it (zeros for the other ways). A window without a reading keeps the
+ * cut point; where it is the last, its counts, words, sums and box are zeros and way 3's first node is 0. */
 uint32_t icemedian_walk(const uint8_t *file, size_t file_length, uint32_t way,
                         size_t column, size_t row,
                         const uint8_t *moves, size_t moves_length,
@@ -155,24 +174,25 @@ uint32_t icemedian_walk(const uint8_t *file, size_t file_length, uint32_t way,
                         uint64_t *shifts, uint16_t *cut, int16_t *balance_box, uint64_t *offset);
 
 /* The balance 2U(level) - T of the window at a pixel, T being its weight sum and U(level) that of its pixels of
- * level at most `level`: checks 1 to 7 and 9. */
+ * level at most `level`: checks 1 to 7 and 9. It is 0 at every level where the window has no reading. */
 uint32_t icemedian_balance(const uint8_t *file, size_t file_length,
                            size_t column, size_t row, uint32_t level,
                            int64_t *balance, uint64_t *offset);
 
-/* Why a pixel has its level: checks 1 to 7 and 9. `pixels` is how many pixels the window there has and `total` what
+/* Why a pixel has its level: checks 1 to 7 and 9. `pixels` is how many readings the window there has and `total` what
  * they weigh in all; `level` is the pixel's answer, as icemedian_filter and icemedian_walk give it; `below` is what
- * the pixels of lower levels weigh (0 for level 0) and `reached` the same with those of `level` itself. Always
- * 2 * below < total <= 2 * reached. `cause` is what sort of window it is; where that is hollow, all three sums count
- * pixels. In kind 2 `below` may be under 0 and `reached` above `total`. */
+ * the pixels of lower levels weigh (0 for level 0) and `reached` the same with those of `level` itself. `cause` is what
+ * sort of window it is. But for ICEMEDIAN_EMPTY always 2 * below < total <= 2 * reached; there `level` is
+ * ICEMEDIAN_NO_READING, and `pixels` and all three sums are 0. Where it is hollow, the sums count pixels. In kind 2
+ * `below` may be under 0 and `reached` above `total`. */
 uint32_t icemedian_explain(const uint8_t *file, size_t file_length,
                            size_t column, size_t row,
                            size_t *pixels, int64_t *total, uint16_t *level, int64_t *below, int64_t *reached,
                            uint32_t *cause, uint64_t *offset);
 
-/* Writes a frame without gaps: checks 2 to 7 and 11. A table has a row of weights, 0 to 65,535 each, for each
- * guide of the centre; one of length 0 means, in kind 1, the built-in weights. `length` is the file's length
- * in bytes. */
+/* Writes a frame without gaps: checks 2 to 7 and 11. A value is a level or ICEMEDIAN_NO_READING. A table has a row of
+ * weights, 0 to 65,535 each, for each guide of the centre; one of length 0 means, in kind 1, the built-in weights.
+ * `length` is the file's length in bytes. */
 uint32_t icemedian_write(uint32_t width, uint32_t height, uint32_t levels, uint32_t guides,
                          uint32_t kind, uint32_t radius, uint32_t smoothing,
                          const uint16_t *values, size_t values_length,

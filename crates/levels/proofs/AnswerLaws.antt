@@ -20,10 +20,10 @@ use Rattle.spec.specs.declared.Way.{Way}
 use Rattle.spec.specs.Base.{if_then_else_, sum}
 use Rattle.spec.specs.Frame.{Frame, level, guide, frameOf}
 use Rattle.spec.specs.Checks.{Planned}
-use Rattle.spec.specs.Window.{levelSum}
+use Rattle.spec.specs.Window.{empty, levelSum}
 use Rattle.spec.specs.Weight.{weight, monotone, slope, offset}
 use Rattle.spec.specs.Median.{totalWeight, cumulative, median, answer}
-use Rattle.spec.specs.Walk.{byBlocks, shiftsTo, adds, arrive}
+use Rattle.spec.specs.Walk.{byBlocks, shiftsTo, nextCut, adds, arrive}
 use Rattle.spec.proofs.First.{first-unique}
 use Rattle.spec.proofs.Ranges.{natSums}
 use Rattle.spec.proofs.Sums.{sum-none, sum-suc, over-inWindow, over-both, over-constant, over-mono, over-scale, over-pos}
@@ -177,18 +177,18 @@ module _ {p : Frame} {s t : ℕ} (q : Pixel p s t) {counts sums : List ℕ} (c :
           small = e .small;
         }
 
--- ---- what is answered
+-- ---- what is answered, where there is a reading
 pub answered : {p : Frame} {s t : ℕ} → Pixel p s t → {counts sums : List ℕ} → Profiled p s t counts sums → p .set .kind ≡ 2 → {k : Coefficients} →
     WeighsAt p s t k → (way : Way) {c n : ℕ} {f : Found} {m : Bool}
-    → m ≡ monotone p s t → FoundAt k counts sums f → f .shifts ≡ n + (if m then shiftsTo (byBlocks way) (f .level .0) c else f .level .0)
+    → m ≡ monotone p s t → empty p s t ≡ false → FoundAt k counts sums f → f .shifts ≡ n + (if m then shiftsTo (byBlocks way) (f .level .0) c else f .level .0)
     → Answered way p s t c n f
-unfolding arrive adds answer
-answered {p} {s} {t} q cells two w way {c} {n} {f} {m} em e sh =
+unfolding arrive adds nextCut answer
+answered {p} {s} {t} q cells two w way {c} {n} {f} {m} em r e sh =
     let l : f .level .0 ≡ median p s t = e .level ∙ median-is q cells two w in
     record {
-      answer = l;
-      cut = l;
-      shifts = sh ∙ rw (em, l) refl;
+      answer = rw r l;
+      cut = rw r l;
+      shifts = sh ∙ rw (r, em, l) refl;
       below = tally-below q cells (omega (arith, l, median-low q)) (e .tally);
     }
 
@@ -218,9 +218,9 @@ module _ {b : List ℕ} {z : Plan} (pl : Planned b z) (two : z .kind ≡ 2) {s t
       tally = λ e. below-tally q v (omega (arith, facts pl .levels)) (below e);
     }
 
-    pub answered-at : (way : Way) {c n : ℕ} {f : Found} → FoundAt k counts sums f
+    pub answered-at : (way : Way) {c n : ℕ} {f : Found} → empty (frameOf b) s t ≡ false → FoundAt k counts sums f
         → f .shifts ≡ n + (if m then shiftsTo (byBlocks way) (f .level .0) c else f .level .0) → Answered way (frameOf b) s t c n f
-    answered-at way e sh = answered q v (guided pl two) (w .0) way is-monotone e sh
+    answered-at way r e sh = answered q v (guided pl two) (w .0) way is-monotone r e sh
 
 -- ---- the tally of the levels below an end
 module _ {b : List ℕ} {z : Plan} (pl : Planned b z) {s t : ℕ} (hs : s < z .width) (ht : t < z .height) {counts sums : List ℕ}

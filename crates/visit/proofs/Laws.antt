@@ -2,15 +2,19 @@
 -- Assumes nothing.
 use Prim.Native.Nat.{ℕ}
 use mathlib.Core.Path.{_≡_, sym, ap, _∙_, subst}
+use mathlib.Core.Bool.{true}
 use Rattle.spec.specs.declared.Answer.{Answer}
 use Rattle.spec.specs.declared.Level.{Level}
 use Rattle.spec.specs.declared.Way.{Way}
 use Rattle.spec.specs.Frame.{Frame}
+use Rattle.spec.specs.Window.{empty}
 use Rattle.spec.specs.Walk.{State, arrive}
-use Rattle.spec.proofs.Walks.{arrive-way, arrive-column, arrive-row}
+use Rattle.spec.proofs.Walks.{arrive-way, arrive-column, arrive-row, arrive-empty}
+use Rattle.window.specs.declared.sums.Sums.{Sums}
+use Rattle.chain_nodes.specs.declared.FreeList.{FreeList}
 use Rattle.visit.specs.declared.Running.{Running}
 use Rattle.visit.specs.declared.Visit.{Visit}
-use Rattle.visit.specs.Visit.{stateOf}
+use Rattle.visit.specs.Visit.{stateOf, unread}
 
 -- it is the definition's where the pixel is the window's and cut point, shift count and answer are the definition's
 pub state-is : (way : Way) (p : Frame) (s t c n : ℕ) (cut : Level) (shifts : ℕ) (answer : Level) (running : Running)
@@ -26,6 +30,11 @@ state-is way p s t c n cut shifts answer running e f g =
       shifts = f i;
       answer = g i;
     }
+
+-- and that of a window with no reading
+pub unread-state : (way : Way) (p : Frame) (s t : ℕ) (cut : Level) (shifts : ℕ) (sums : Sums) (free : FreeList) → empty p s t ≡ true
+    → stateOf way (unread s t cut shifts sums free) ≡ arrive way p s t (cut .0) shifts
+unread-state way p s t cut shifts sums free e = sym (arrive-empty way p s t (cut .0) shifts e)
 
 -- and then the window is the visit's own
 pub at-visit : (way : Way) (p : Frame) (s t c n : ℕ) (P : ℕ → ℕ → Type 0) (v : Visit) → stateOf way v ≡ arrive way p s t c n → P s t →

@@ -6,7 +6,7 @@ use spec::Answer;
 use spec::Level;
 use window::sums::Sums;
 ghost use mathlib.Core.Path.{_≡_};
-ghost use Rattle.visit.specs.Visit.{answered};
+ghost use Rattle.visit.specs.Visit.{answered, unread};
 
 // What runs along from window to window by value, beside the store: the window's sums, the tally of its pixels up to the cut point, and the store's
 // free list. A way leaves 0 in what it does not use.
@@ -26,7 +26,7 @@ pub struct Visit {
     pub running: Running,
 }
 
-// The visit of a window that weighs something: its level is the answer and the new cut point.
+// The visit of a window with a reading: its level is the answer and the new cut point.
 pub fn answered(column: usize, row: usize, level: Level, shifts: u64, running: Running) -> Visit
     ensures { λ r. ⌜ r ≡ answered column row level shifts running ⌝ }
 {
@@ -38,5 +38,28 @@ pub fn answered(column: usize, row: usize, level: Level, shifts: u64, running: R
         shifts,
         answer,
         running,
+    }
+}
+
+// The visit of a window with no reading: the cut point and the shift count stay, and the tally of its pixels is 0.
+pub fn unread(
+    column: usize,
+    row: usize,
+    cut: Level,
+    shifts: u64,
+    sums: Sums,
+    free: FreeList,
+) -> Visit
+    ensures { λ r. ⌜ r ≡ unread column row cut shifts sums free ⌝ }
+{
+    let below = Tally { count: 0, sum: 0 };
+    let running = Running { sums, below, free };
+    Visit {
+        column: column,
+        row: row,
+        cut: cut,
+        shifts: shifts,
+        answer: Answer::NoReading,
+        running: running,
     }
 }

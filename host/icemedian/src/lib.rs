@@ -16,6 +16,20 @@
 //! # Ok::<(), icemedian::Refusal>(())
 //! ```
 //!
+//! A value of [`NO_READING`] is a dead pixel of the camera: it belongs to no window, and gets the level of the readings
+//! around it. [`Filtered::readings`], [`reading`] and [`Answer`] look at numbers so that a level is never confused with
+//! what is none:
+//!
+//! ```
+//! use icemedian::{filter, write, Settings, Way, Weights, NO_READING};
+//!
+//! let settings = Settings { width: 4, height: 1, levels: 8, guides: 2, weights: Weights::Table, radius: 1 };
+//! let file = write(&settings, &[NO_READING, NO_READING, NO_READING, 5], &[0; 4], &[])?;
+//! let filtered = filter(&file, Way::Joint)?;
+//! assert_eq!(filtered.readings().collect::<Vec<_>>(), [None, None, Some(5), Some(5)]);
+//! # Ok::<(), icemedian::Refusal>(())
+//! ```
+//!
 //! A refusal says its number and its reason:
 //!
 //! ```
@@ -28,11 +42,13 @@
 
 mod explanation;
 pub mod raw;
+mod reading;
 mod refusal;
 mod settings;
 mod stores;
 
 pub use explanation::{Cause, Explanation};
+pub use reading::{reading, Answer, NO_READING, OFF_PICTURE, UNKNOWN_MOVE};
 pub use refusal::{Part, Refusal};
 pub use settings::{Settings, Way, Weights};
 pub use stores::Stores;
@@ -42,29 +58,53 @@ pub const RIGHT: u8 = 0;
 pub const LEFT: u8 = 1;
 pub const DOWN: u8 = 2;
 pub const UP: u8 = 3;
-/// The answer to a move that would leave the picture.
-pub const OFF_PICTURE: u16 = 65_534;
-/// The answer to a byte that is no move.
-pub const UNKNOWN_MOVE: u16 = 65_533;
 
 /// A filtered frame.
 #[derive(Clone, Debug, PartialEq, Eq)]
 pub struct Filtered {
     pub settings: Settings,
-    /// A level for each pixel, row by row from the top left.
+    /// A level for each pixel, row by row from the top left, or [`NO_READING`] where its window has none.
     pub levels: Vec<u16>,
-    /// How far the cut point travelled, in levels; for [`Way::Coarse`] its own count.
+    /// How far the cut point travelled, in levels; for [`Way::Coarse`] its own count. A window without a reading adds
+    /// nothing.
     pub shifts: u64,
+}
+
+impl Filtered {
+    /// The levels in turn, none where the pixel's window has no reading.
+    pub fn readings(&self) -> impl ExactSizeIterator<Item = Option<u16>> + '_ {
+        self.levels.iter().map(|&level| reading(level))
+    }
 }
 
 /// A walk to its end.
 #[derive(Clone, Debug, PartialEq, Eq)]
 pub struct Walked {
-    /// One answer for the start and one for each move byte: a level, [`OFF_PICTURE`] or [`UNKNOWN_MOVE`].
+    /// One answer for the start and one for each move byte: a level, [`NO_READING`], [`OFF_PICTURE`] or
+    /// [`UNKNOWN_MOVE`].
     pub answers: Vec<u16>,
     pub end: WalkEnd,
-    /// The way's stores, which hold the last window; the others are empty.
+    /// The way's stores, which hold the readings of the last window; the others are empty.
     pub stores: Stores,
+}
+
+impl Walked {
+    /// What the answers say, in turn.
+    ///
+    /// ```
+    /// use icemedian::{walk, write, Answer, Settings, Way, Weights, NO_READING, RIGHT, UP};
+    ///
+    /// let settings = Settings { width: 2, height: 1, levels: 8, guides: 2, weights: Weights::Table, radius: 0 };
+    /// let file = write(&settings, &[5, NO_READING], &[0; 2], &[])?;
+    /// let walked = walk(&file, Way::Joint, (0, 0), &[RIGHT, UP])?;
+    /// assert!(walked.read().eq([Answer::Level(5), Answer::NoReading, Answer::OffPicture]));
+    /// // A window without a reading keeps the cut point.
+    /// assert_eq!((walked.end.shifts, walked.end.cut), (5, 5));
+    /// # Ok::<(), icemedian::Refusal>(())
+    /// ```
+    pub fn read(&self) -> impl ExactSizeIterator<Item = Answer> + '_ {
+        self.answers.iter().map(|&number| Answer::of(number))
+    }
 }
 
 /// What a walk says beside its answers and stores.
@@ -72,7 +112,7 @@ pub struct Walked {
 pub struct WalkEnd {
     /// How far the cut point travelled, in levels; for [`Way::Coarse`] its own count.
     pub shifts: u64,
-    /// The cut point after the last window.
+    /// The cut point after the last window that has a reading; 0 where none has.
     pub cut: u16,
     /// Way 1's balance at the cut, a cell for each guide; zeros for the other ways.
     pub balance_box: [i16; 256],
@@ -183,7 +223,7 @@ pub fn walk_into(
     Ok(end)
 }
 
-/// The balance 2U(level) - T of the window at a pixel.
+/// The balance 2U(level) - T of the window at a pixel; 0 at every level where it has no reading.
 ///
 /// ```
 /// use icemedian::{balance, write, Refusal, Settings, Weights};
@@ -210,11 +250,12 @@ pub fn balance(file: &[u8], pixel: (usize, usize), level: u16) -> Result<i64, Re
 /// let weights = Weights::Guided { smoothing: 1 };
 /// let settings = Settings { width: 5, height: 1, levels: 8, guides: 16, weights, radius: 2 };
 /// let file = write(&settings, &[1, 2, 5, 3, 4], &[7, 7, 15, 7, 0], &[])?;
-/// let ordinary = Explanation { pixels: 4, total: 832, level: 2, below: 272, reached: 544, cause: Cause::Ordinary };
+/// let (level, cause) = (Some(2), Cause::Ordinary);
+/// let ordinary = Explanation { pixels: 4, total: 832, level, below: 272, reached: 544, cause };
 /// assert_eq!(explain(&file, (1, 0)), Ok(ordinary));
 /// // The brightest pixel: one of guide 0 counts against its own level.
 /// let bright = explain(&file, (2, 0))?;
-/// assert_eq!((bright.level, bright.below, bright.reached, bright.total), (3, 1100, 1650, 2945));
+/// assert_eq!((bright.level, bright.below, bright.reached, bright.total), (Some(3), 1100, 1650, 2945));
 /// assert_eq!(bright.cause, Cause::NegativeAtZero);
 /// // The darkest: one of guide 15 does.
 /// assert_eq!(explain(&file, (4, 0))?.cause, Cause::NegativeAtLast);
@@ -228,8 +269,8 @@ pub fn explain(file: &[u8], pixel: (usize, usize)) -> Result<Explanation, Refusa
     Explanation::of(&explained)
 }
 
-/// The file of a frame. In kind 1 a table has a row of weights, 0 to 65,535 each, for each guide of the
-/// centre, and an empty one means the built-in weights.
+/// The file of a frame. A value is a level or [`NO_READING`]. In kind 1 a table has a row of weights, 0 to 65,535 each,
+/// for each guide of the centre, and an empty one means the built-in weights.
 ///
 /// ```
 /// use icemedian::{balance, filter, write, Refusal, Settings, Way, Weights};
@@ -256,6 +297,10 @@ pub fn write(settings: &Settings, values: &[u16], guide: &[u16], table: &[u16]) 
 /// assert_eq!(write_into(&settings, &[3], &[0], &[], &mut [0; 40]), Ok(32));
 /// assert_eq!(write_into(&settings, &[3], &[0], &[], &mut [0; 31]), Err(Refusal::Room));
 /// assert_eq!(write_into(&settings, &[3], &[4], &[], &mut [0; 40]), Err(Refusal::Contents { offset: 2 }));
+/// // A value may be no reading, a guide not.
+/// assert_eq!(write_into(&settings, &[65_535], &[0], &[], &mut [0; 40]), Ok(32));
+/// assert_eq!(write_into(&settings, &[65_535], &[65_535], &[], &mut [0; 40]), Err(Refusal::Contents { offset: 2 }));
+/// assert_eq!(write_into(&settings, &[65_534], &[0], &[], &mut [0; 40]), Err(Refusal::Contents { offset: 0 }));
 /// ```
 pub fn write_into(
     settings: &Settings,

@@ -41,7 +41,8 @@ pub enum Refusal {
     Distance { part: Part, distance: u32, least: usize, most: usize },
     /// 6, writing: a plane or table has the wrong length. A table may be empty beside the length wanted.
     Length { part: Part, length: usize, wanted: usize },
-    /// 7: a value or guide is too large; the first one's byte offset in the file. A weight may be any number.
+    /// 7: a value or guide is too large; the first one's byte offset in the file. A value of 65,535 is no reading and
+    /// passes, a weight may be any number.
     Contents { offset: u64 },
     /// 8: the way does not serve the kind.
     Way,

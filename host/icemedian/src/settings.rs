@@ -7,8 +7,8 @@ use crate::{write_into, Refusal};
 #[derive(Clone, Copy, Debug, PartialEq, Eq)]
 pub enum Weights {
     /// Kind 1: by a table of the two pixels' guides, whose weights may be any 16-bit numbers, or by the built-in
-    /// weights. A window in which no pixel weighs anything, which only a table of the file's own can leave, is
-    /// answered and balanced as if each pixel weighed 1.
+    /// weights. A window whose readings all weigh nothing, which only a table of the file's own can leave, is
+    /// answered and balanced as if each weighed 1.
     Table,
     /// Kind 2: by equation 22 of source 000, with smoothing 1 to 65,025 added to the guide's variance.
     Guided { smoothing: u16 },

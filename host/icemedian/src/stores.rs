@@ -3,7 +3,7 @@
 use crate::raw::Lent;
 use crate::{Refusal, Settings, Way};
 
-/// The stores that a call counts in. One record may serve many calls; it grows as needed.
+/// The stores that a call counts in. One record may serve many calls; it grows as needed. No dead pixel is counted.
 #[derive(Clone, Debug, Default, PartialEq, Eq)]
 pub struct Stores {
     /// Ways 1 and 4: pixels per level and guide.

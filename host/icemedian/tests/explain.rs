@@ -5,10 +5,10 @@ mod rows;
 use icemedian::{explain, write, Cause, Explanation, Refusal, Settings, Weights};
 use rows::{b_with, frame_b, frame_d, lamp, middle, row, tabled, GUIDED};
 
-/// Pixels, total, level, below, reached and cause of a pixel of the first row.
+/// Pixels, total, level, below, reached and cause of a pixel of the first row that has a level.
 fn explained(file: &[u8], column: usize) -> (usize, i64, u16, i64, i64, Cause) {
     let Explanation { pixels, total, level, below, reached, cause } = explain(file, (column, 0)).unwrap();
-    (pixels, total, level, below, reached, cause)
+    (pixels, total, level.unwrap(), below, reached, cause)
 }
 
 #[test]
@@ -58,7 +58,8 @@ fn the_heaviest_window() {
     let settings = Settings { width: 31, height: 31, levels: 1024, guides: 2, weights: Weights::Table, radius: 15 };
     let file = write(&settings, &[1023; 961], &[1; 961], &[0, 0, 0, 65_535]).unwrap();
     let total = 961 * 65_535;
-    let heaviest = Explanation { pixels: 961, total, level: 1023, below: 0, reached: total, cause: Cause::Ordinary };
+    let (level, cause) = (Some(1023), Cause::Ordinary);
+    let heaviest = Explanation { pixels: 961, total, level, below: 0, reached: total, cause };
     assert_eq!(explain(&file, (15, 15)), Ok(heaviest));
 }
 

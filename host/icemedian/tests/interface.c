@@ -1,7 +1,7 @@
 /* What the header promises a C program: NULL where a length is 0, numbers that are too wide refused and not
  * cut down, results left alone by refusals, what is read may overlap, a weight may be any number, way 4's
- * count and summary, a window in which nothing weighs, an explanation of each cause, and the macros. It prints each
- * promise that is not kept. */
+ * count and summary, a window in which nothing weighs, an explanation of each cause, dead pixels, and the macros. It
+ * prints each promise that is not kept. */
 #include "icemedian.h"
 #include <stdio.h>
 #include <string.h>
@@ -34,13 +34,22 @@ static void expect(const char *what, unsigned long got, unsigned long wanted) {
     failures++;
 }
 
-/* The status; no result changed by a refusal, and never the offset: none of these calls has number 7. */
+/* The status; no result changed by a refusal, and never the offset: expect_contents is for number 7. */
 static void expect_status(const char *what, uint32_t got, uint32_t wanted) {
     expect(what, got, wanted);
     if (result.offset != untouched.offset || (wanted != 0 && memcmp(&result, &untouched, sizeof result) != 0)) {
         printf("%s: a result changed\n", what);
         failures++;
     }
+    memcpy(&result, &untouched, sizeof result);
+}
+
+/* Number 7 and its offset; no other result changed. */
+static void expect_contents(const char *what, uint32_t status, uint64_t offset) {
+    expect("its offset", result.offset == offset, 1);
+    expect("its number", status, 7);
+    result.offset = untouched.offset;
+    if (memcmp(&result, &untouched, sizeof result) != 0) expect(what, 1, 0);
     memcpy(&result, &untouched, sizeof result);
 }
 
@@ -224,6 +233,110 @@ static void test_explain(void) {
     expect_status("explain, without the mark", explain(b, sizeof b - 1, 5, 0), 1);
 }
 
+/* A frame of one row with dead pixels, and buffers for every way. */
+enum { DEAD = ICEMEDIAN_NO_READING, ROW = 5 };
+static uint8_t dead_file[ICEMEDIAN_FILE_LENGTH(ROW, 1, 4)];
+static size_t dead_bytes;
+static uint16_t dead_counts[ICEMEDIAN_COUNTS_LENGTH(LEVELS, 16)], dead_answers[ROW];
+static uint64_t dead_words[ICEMEDIAN_WORDS_LENGTH(LEVELS, 16)];
+static uint32_t dead_numbers[ICEMEDIAN_CHAIN_LENGTH(2)];
+static int64_t dead_summary[ICEMEDIAN_SUMMARY_LENGTH(LEVELS)];
+
+static uint32_t filter_dead(uint32_t way, size_t width) {
+    return icemedian_filter(dead_file, dead_bytes, way, dead_counts, LEVELS * 16, dead_words, LEVELS, dead_numbers,
+                            ICEMEDIAN_CHAIN_LENGTH(2), dead_summary, 1, dead_answers, width, &result.shifts,
+                            &result.offset);
+}
+
+static uint32_t walk_dead(uint32_t way, size_t column, const uint8_t *list, size_t list_length) {
+    return icemedian_walk(dead_file, dead_bytes, way, column, 0, list, list_length, dead_counts, LEVELS * 16, dead_words,
+                          LEVELS, dead_numbers, ICEMEDIAN_CHAIN_LENGTH(2), dead_summary, 1, dead_answers, ROW,
+                          &result.shifts, &result.cut, result.box, &result.offset);
+}
+
+/* The filter by a way: its answers and its count. */
+static void expect_dead(uint32_t way, size_t width, const uint16_t *answers, uint64_t shifts) {
+    size_t pixel;
+    uint32_t status = filter_dead(way, width);
+    expect("its shifts", result.shifts == shifts, 1);
+    expect_status("filter of dead pixels", status, 0);
+    for (pixel = 0; pixel < width; pixel++) expect("its answer", dead_answers[pixel], answers[pixel]);
+}
+
+/* A node of the chain: its number's place, level, count, guide sum; the number of the next. */
+static uint32_t expect_node(uint32_t node, uint32_t level, uint32_t count, uint32_t guide_sum) {
+    expect("its level in the chain", dead_numbers[4 * node - 3], level);
+    expect("its count in the chain", dead_numbers[4 * node - 2], count);
+    expect("its guide sum in the chain", dead_numbers[4 * node - 1], guide_sum);
+    return dead_numbers[4 * node];
+}
+
+/* Bench window B with two dead pixels. */
+static void test_dead_b(void) {
+    static const uint16_t value[ROW] = {1, DEAD, 5, 3, DEAD}, picture[ROW] = {7, 7, 15, 7, 0};
+    static const uint16_t answers[ROW] = {1, 3, 5, 3, 3};
+    uint32_t status = icemedian_write(ROW, 1, LEVELS, 16, ICEMEDIAN_GUIDED, 2, 1, value, ROW, picture, ROW, NULL, 0,
+                                      dead_file, sizeof dead_file, &result.length, &result.offset);
+    dead_bytes = ICEMEDIAN_FILE_LENGTH(ROW, 1, 0);
+    expect_status("write, dead pixels", status, 0);
+    expect("a dead pixel's high byte", dead_file[2], 255);
+    expect("a dead pixel's low byte", dead_file[3], 255);
+    expect_status("check of dead pixels", icemedian_check(dead_file, dead_bytes, &result.offset), 0);
+    expect_dead(ICEMEDIAN_JOINT, ROW, answers, 13);
+    expect_dead(ICEMEDIAN_CHAIN, ROW, answers, 13);
+    expect_dead(ICEMEDIAN_COLUMNS, ROW, answers, 13);
+    expect_dead(ICEMEDIAN_COARSE, ROW, answers, 15);
+    expect_explained(dead_file, dead_bytes, 0, 2, 136, 1, 0, 132, ICEMEDIAN_ORDINARY);
+    expect_explained(dead_file, dead_bytes, 1, 3, 411, 3, 201, 402, ICEMEDIAN_ORDINARY);
+    expect_explained(dead_file, dead_bytes, 2, 3, 411, 5, 18, 411, ICEMEDIAN_NEGATIVE_AT_ZERO);
+    expect_explained(dead_file, dead_bytes, 3, 2, 136, 3, 0, 132, ICEMEDIAN_ORDINARY);
+    expect_explained(dead_file, dead_bytes, 4, 2, 136, 3, 0, 244, ICEMEDIAN_NEGATIVE_AT_LAST);
+    status = walk_dead(ICEMEDIAN_CHAIN, 4, NULL, 0);
+    expect_status("walk to a dead pixel by way 3", status, 0);
+    expect("the chain's end", expect_node(expect_node(dead_numbers[0], 3, 1, 7), 5, 1, 15), 0);
+}
+
+/* A reading at the end of a row of dead pixels: the first two windows have none. */
+static void test_empty(void) {
+    static const uint16_t value[4] = {DEAD, DEAD, DEAD, 5}, picture[4] = {0, 0, 0, 0}, ones[4] = {1, 1, 1, 1};
+    static const uint16_t answers[4] = {DEAD, DEAD, 5, 5};
+    static const uint8_t back[2] = {ICEMEDIAN_LEFT, ICEMEDIAN_LEFT};
+    static const int16_t no_box[ICEMEDIAN_BOX_LENGTH] = {0};
+    uint32_t status = icemedian_write(4, 1, LEVELS, 2, ICEMEDIAN_TABLE, 1, 0, value, 4, picture, 4, ones, 4, dead_file,
+                                      sizeof dead_file, &result.length, &result.offset);
+    size_t cell, counted = 0;
+    dead_bytes = ICEMEDIAN_FILE_LENGTH(4, 1, 4);
+    expect_status("write, mostly dead pixels", status, 0);
+    expect_dead(ICEMEDIAN_JOINT, 4, answers, 5);
+    expect_dead(ICEMEDIAN_COARSE, 4, answers, 10);
+    expect_explained(dead_file, dead_bytes, 0, 0, 0, DEAD, 0, 0, ICEMEDIAN_EMPTY);
+    expect_explained(dead_file, dead_bytes, 2, 1, 1, 5, 0, 1, ICEMEDIAN_ORDINARY);
+    status = icemedian_balance(dead_file, dead_bytes, 0, 0, 5, &result.balance, &result.offset);
+    expect("its balance is 0", result.balance == 0, 1);
+    expect_status("balance without a reading", status, 0);
+    status = walk_dead(ICEMEDIAN_JOINT, 2, back, 2);
+    expect("its shifts are 5", result.shifts == 5, 1);
+    expect("its cut is kept", result.cut, 5);
+    expect("its box is zeros", memcmp(result.box, no_box, sizeof no_box) == 0, 1);
+    expect_status("walk into dead pixels", status, 0);
+    expect("its last answer", dead_answers[2], DEAD);
+    for (cell = 0; cell < ICEMEDIAN_COUNTS_LENGTH(LEVELS, 2); cell++) counted += dead_counts[cell];
+    expect("what it counts", counted == 0, 1);
+}
+
+/* 65,535 is no reading in the value plane only, and no other number is. */
+static void test_no_reading(void) {
+    uint16_t plane[PIXELS] = {5, DEAD, DEAD - 1};
+    uint8_t output[FILE_BYTES];
+    uint32_t status = icemedian_write(W, H, LEVELS, GUIDES, ICEMEDIAN_GUIDED, RADIUS, SMOOTHING, plane, PIXELS, guide,
+                                      PIXELS, NULL, 0, output, sizeof output, &result.length, &result.offset);
+    expect_contents("write, value 65534", status, 4);
+    plane[0] = 0, plane[1] = 0, plane[2] = DEAD;
+    status = icemedian_write(W, H, LEVELS, GUIDES, ICEMEDIAN_GUIDED, RADIUS, SMOOTHING, plane, PIXELS, plane, PIXELS,
+                             NULL, 0, output, sizeof output, &result.length, &result.offset);
+    expect_contents("write, guide 65535", status, 10);
+}
+
 static void test_wide(void) {
     expect_status("filter, way 257", filter(FILE_BYTES, 257, COUNTS, WORDS, NUMBERS, BLOCKS, PIXELS), 8);
     expect_status("walk, way 257", walk(FILE_BYTES, 257, 2, COUNTS, WORDS, NUMBERS, BLOCKS, 3), 8);
@@ -242,7 +355,8 @@ static void test_wide(void) {
 
 static void test_macros(void) {
     expect("version, major", ICEMEDIAN_VERSION_MAJOR, 0);
-    expect("version, minor", ICEMEDIAN_VERSION_MINOR, 7);
+    expect("version, minor", ICEMEDIAN_VERSION_MINOR, 8);
+    expect("no reading", ICEMEDIAN_NO_READING, 65535);
     expect("width", ICEMEDIAN_WIDTH(file, FILE_BYTES), W);
     expect("height", ICEMEDIAN_HEIGHT(file, FILE_BYTES), H);
     expect("levels", ICEMEDIAN_LEVELS(file, FILE_BYTES), LEVELS);
@@ -275,6 +389,9 @@ int main(void) {
     test_coarse();
     test_lamp();
     test_explain();
+    test_dead_b();
+    test_empty();
+    test_no_reading();
     test_wide();
     test_macros();
     return failures != 0;

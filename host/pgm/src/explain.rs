@@ -29,16 +29,21 @@ fn meaning(cause: Cause) -> &'static str {
             "This pixel is darker than its window's average, by so much that a pixel near the bright end of the guide \
              picture counts against its own value there: going up the values, the weight can fall."
         }
+        Cause::Empty => "No pixel of its window has a reading.",
     }
 }
 
-/// The explanation of a pixel whose level is the picture's `value`.
-pub fn sentences((column, row): (usize, usize), value: u16, why: &Explanation) -> String {
+/// The explanation of a pixel, dead itself or not, whose level is the picture's `value`.
+pub fn sentences((column, row): (usize, usize), dead: bool, value: u16, why: &Explanation) -> String {
+    if why.level.is_none() {
+        return format!("Column {column}, row {row} has no reading and stays {value}. {}", meaning(why.cause));
+    }
+    let becomes = if dead { "has no reading and becomes" } else { "becomes" };
     let (pixels, total) = (grouped(why.pixels as i64), grouped(why.total));
     let plural = if why.pixels == 1 { "" } else { "s" };
     let (below, reached) = (grouped(why.below), grouped(why.reached));
     format!(
-        "Column {column}, row {row} becomes {value}. Its window has {pixels} pixel{plural} of total weight {total}. \
+        "Column {column}, row {row} {becomes} {value}. Its window has {pixels} pixel{plural} of total weight {total}. \
          The values below {value} weigh {below}, less than half; with {value} it is {reached}, at least half. {}",
         meaning(why.cause)
     )
@@ -52,6 +57,7 @@ fn colour(cause: Cause) -> [u8; 3] {
         Cause::Hollow => [150, 60, 160],
         Cause::NegativeAtZero => [230, 130, 30],
         Cause::NegativeAtLast => [40, 100, 200],
+        Cause::Empty => [0, 0, 0],
     }
 }
 
@@ -93,11 +99,11 @@ mod tests {
     // The program itself meets no hollow window: what it would say of one.
     #[test]
     fn a_hollow_window_in_words() {
-        let why = Explanation { pixels: 1, total: 1, level: 4, below: 0, reached: 1, cause: Cause::Hollow };
+        let why = Explanation { pixels: 1, total: 1, level: Some(4), below: 0, reached: 1, cause: Cause::Hollow };
         let text = "Column 1, row 0 becomes 104. Its window has 1 pixel of total weight 1. The values below 104 weigh 0, \
                     less than half; with 104 it is 1, at least half. No pixel of the window weighs anything for this one, \
                     so each counted as 1.";
-        assert_eq!(sentences((1, 0), 104, &why), text);
+        assert_eq!(sentences((1, 0), false, 104, &why), text);
     }
 
     #[test]

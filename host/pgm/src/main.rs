@@ -5,7 +5,7 @@ mod options;
 mod pgm;
 mod scale;
 
-use icemedian::{Refusal, Settings};
+use icemedian::{reading, Refusal, Settings, NO_READING};
 use options::{Options, Place};
 use pgm::Picture;
 use scale::Scale;
@@ -46,12 +46,30 @@ fn write(place: &Place, bytes: &[u8]) -> Result<(), String> {
     written.map_err(|error| format!("{place}: {error}"))
 }
 
-fn scaled(place: &Place, picture: &Picture, steps_most: u16) -> (Scale, Vec<u16>) {
-    let scale = Scale::of(&picture.values, steps_most);
+fn scaled(place: &Place, picture: &Picture, dead: Option<u16>, steps_most: u16) -> (Scale, Vec<u16>) {
+    let scale = Scale::of(&picture.values, dead, steps_most);
     if !scale.exact() {
         eprintln!("{place}: values are rounded to {} steps", scale.steps);
     }
     (scale, picture.values.iter().map(|&value| scale.step(value)).collect())
+}
+
+/// Refuses a value of dead pixels that the thermal picture cannot have, or that others would be rounded to.
+fn check_dead(thermal: &Picture, scale: &Scale, options: &Options) -> Result<(), String> {
+    let (Some(dead), place) = (options.dead, &options.thermal) else { return Ok(()) };
+    if dead > thermal.most {
+        return Err(format!("--dead {dead}: no pixel of {place} can have it, whose greatest value is {}", thermal.most));
+    }
+    if scale.confuses(&thermal.values) {
+        return Err(format!(
+            "--dead {dead}: other values of {place} would be rounded to it, to {} steps in all; give dead pixels a value \
+             outside the others' span",
+            scale.steps
+        ));
+    }
+    let pixels = thermal.values.iter().filter(|&&value| value == dead).count();
+    eprintln!("{place}: {pixels} of {} pixels are dead", thermal.values.len());
+    Ok(())
 }
 
 fn side(size: usize) -> u16 {
@@ -90,8 +108,9 @@ fn framed(thermal: &Picture, guide: &Picture, options: &Options) -> Result<Frame
             options.thermal, thermal.width, thermal.height, options.picture, guide.width, guide.height
         ));
     }
-    let (level_scale, levels) = scaled(&options.thermal, thermal, 1024);
-    let (guide_scale, guides) = scaled(&options.picture, guide, 256);
+    let (level_scale, levels) = scaled(&options.thermal, thermal, options.dead, 1024);
+    check_dead(thermal, &level_scale, options)?;
+    let (guide_scale, guides) = scaled(&options.picture, guide, None, 256);
     let settings = Settings {
         width: side(thermal.width),
         height: side(thermal.height),
@@ -110,6 +129,10 @@ fn filter(thermal: &Picture, frame: &Framed, options: &Options) -> Result<Pictur
     let start = Instant::now();
     let filtered = icemedian::filter(&frame.file, options.way)?;
     eprintln!("filtered in {:.0?}, {} shifts", start.elapsed(), filtered.shifts);
+    let without = filtered.readings().filter(Option::is_none).count();
+    if without > 0 {
+        eprintln!("{without} pixels have no reading in their windows");
+    }
     let values = filtered.levels.iter().map(|&level| frame.level_scale.value(level)).collect();
     Ok(Picture { values, ..*thermal })
 }
@@ -117,7 +140,9 @@ fn filter(thermal: &Picture, frame: &Framed, options: &Options) -> Result<Pictur
 /// Why the pixel asked for has its value, in words.
 fn explanation(frame: &Framed, pixel: (usize, usize)) -> Result<String, Refusal> {
     let why = icemedian::explain(&frame.file, pixel)?;
-    Ok(explain::sentences(pixel, frame.level_scale.value(why.level), &why))
+    let own = reading(frame.levels[pixel.1 * usize::from(frame.settings.width) + pixel.0]);
+    let value = frame.level_scale.value(why.level.unwrap_or(NO_READING));
+    Ok(explain::sentences(pixel, own.is_none(), value, &why))
 }
 
 fn print(text: &str) -> Result<(), String> {

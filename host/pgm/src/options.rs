@@ -24,7 +24,11 @@ For THERMAL or PICTURE - is standard input, for OUTPUT or FILE it is standard ou
   --causes FILE   writes a colour picture (PPM, P6) of what sort of window each pixel has: grey for an
                   ordinary one; orange where the pixel is brighter than its window's average, by so much
                   that pixels near PICTURE's dark end count against their own value; blue where it is
-                  darker, by so much that those near the bright end do
+                  darker, by so much that those near the bright end do; black where no pixel of the window
+                  has a reading
+  --dead VALUE    a pixel of THERMAL with this value is dead and has no reading: it counts in no window.
+                  OUTPUT has the median of the readings around it there, or VALUE again where there are
+                  none. Refused where another value would be rounded to VALUE
   -h, --help      this text
 ";
 
@@ -71,6 +75,8 @@ pub struct Options {
     pub explained: Option<(usize, usize)>,
     /// Where the picture of causes goes.
     pub causes: Option<Place>,
+    /// The value of dead pixels.
+    pub dead: Option<u16>,
 }
 
 /// The number behind an option.
@@ -112,7 +118,7 @@ fn check_standard_output(output: &Place, explains: bool, causes: Option<&Place>)
 pub fn read(mut words: impl Iterator<Item = OsString>) -> Result<Option<Options>, String> {
     let mut files = Vec::new();
     let (mut radius, mut smoothing, mut table, mut chosen) = (Settings::RADIUS, None, false, Way::Joint);
-    let (mut explained, mut causes_place) = (None, None);
+    let (mut explained, mut causes_place, mut dead) = (None, None, None);
     while let Some(word) = words.next() {
         match word.to_str() {
             Some("-h" | "--help") => return Ok(None),
@@ -125,6 +131,7 @@ pub fn read(mut words: impl Iterator<Item = OsString>) -> Result<Option<Options>
                 explained = Some((place()?, place()?));
             }
             Some("--causes") => causes_place = Some(causes(words.next())?),
+            Some("--dead") => dead = Some(number("--dead", words.next(), 0..=65_535)?),
             _ if word != "-" && word.as_encoded_bytes().starts_with(b"-") => {
                 return Err(format!("unknown option {}; see --help", word.to_string_lossy()));
             }
@@ -157,5 +164,6 @@ pub fn read(mut words: impl Iterator<Item = OsString>) -> Result<Option<Options>
         way: chosen,
         explained,
         causes: causes_place,
+        dead,
     }))
 }

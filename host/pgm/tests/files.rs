@@ -151,6 +151,106 @@ fn colours_and_words_agree() {
     assert!(met.iter().all(|&pixels| pixels > 0) && met.iter().sum::<u32>() == pixels as u32, "{met:?}");
 }
 
+/// B with two dead pixels, whose value is 200.
+const B_DEAD: [u8; 5] = [101, 200, 105, 103, 200];
+const EMPTY: [u8; 3] = [0, 0, 0];
+
+/// A picture of one row filtered with `--dead VALUE` and these options: what it becomes, and what is printed.
+fn filter_dead(name: &str, pixels: &[u8], guide: &[u8], value: &str, options: &[&str]) -> (Vec<u8>, Output) {
+    let files = ["", "_guide", "_out"].map(|part| format!("{name}{part}.pgm"));
+    std::fs::write(place(&files[0]), pgm(pixels.len(), 1, pixels)).unwrap();
+    std::fs::write(place(&files[1]), pgm(pixels.len(), 1, guide)).unwrap();
+    let words = [files.each_ref().map(String::as_str).as_slice(), &["--dead", value], options].concat();
+    let output = filter(&words);
+    notes(&output);
+    let filtered = std::fs::read(place(&files[2])).unwrap();
+    let header = pgm(pixels.len(), 1, &[]);
+    (filtered.strip_prefix(header.as_slice()).unwrap().to_vec(), output)
+}
+
+#[test]
+fn dead_pixels_get_the_readings_around_them() {
+    for way in ["joint", "columns", "chain", "coarse"] {
+        let options = [B_OPTIONS.as_slice(), &["--way", way]].concat();
+        let (filtered, output) = filter_dead("dead", &B_DEAD, &B_GUIDE, "200", &options);
+        assert_eq!(filtered, [101, 103, 105, 103, 103]);
+        // Levels run from 0 to 4: a value of dead pixels is none.
+        let notes = notes(&output);
+        assert!(notes.contains(", 10 shifts") && notes.contains("2 of 5 pixels are dead"), "{notes}");
+        assert!(!notes.contains("no reading in their windows"), "{notes}");
+    }
+    // Without the option the value is one like any other.
+    b_files("alive.pgm", "alive_guide.pgm");
+    std::fs::write(place("alive.pgm"), pgm(5, 1, &B_DEAD)).unwrap();
+    let words = [["alive.pgm", "alive_guide.pgm", "alive_out.pgm"].as_slice(), &B_OPTIONS].concat();
+    notes(&filter(&words));
+    assert_ne!(std::fs::read(place("alive_out.pgm")).unwrap(), pgm(5, 1, &[101, 103, 105, 103, 103]));
+}
+
+#[test]
+fn where_there_is_no_reading_the_value_of_dead_pixels_stays() {
+    let pixels = [0, 0, 0, 105];
+    for options in [["--table"].as_slice(), &["--way", "chain"]] {
+        let options = [&["--radius", "1", "--causes", "-"], options].concat();
+        let (filtered, output) = filter_dead("stays", &pixels, &[7; 4], "0", &options);
+        assert_eq!(filtered, [0, 0, 105, 105]);
+        assert!(notes(&output).contains("2 pixels have no reading in their windows"));
+        let ppm = [b"P6\n4 1\n255\n".as_slice(), &[EMPTY, EMPTY, ORDINARY.1, ORDINARY.1].concat()].concat();
+        assert_eq!(output.stdout, ppm);
+    }
+    assert_eq!(filter_dead("none", &[9; 3], &[1, 2, 3], "9", &[]).0, [9; 3]);
+    // 16 bits: the largest value, and one between the others, which are not rounded.
+    for dead in [65_535u16, 300] {
+        let values = [299, dead, dead, dead, 301];
+        let plane: Vec<u8> = values.iter().flat_map(|value| value.to_be_bytes()).collect();
+        std::fs::write(place("wide.pgm"), [b"P5\n5 1\n65535\n".as_slice(), &plane].concat()).unwrap();
+        let guide = flat("wide_guide.pgm", 5, 1);
+        notes(&filter(&["wide.pgm", guide, "wide_out.pgm", "--radius", "1", "--dead", &dead.to_string()]));
+        let expected: Vec<u8> = [299, 299, dead, 301, 301].iter().flat_map(|value: &u16| value.to_be_bytes()).collect();
+        assert_eq!(std::fs::read(place("wide_out.pgm")).unwrap(), [b"P5\n5 1\n65535\n".as_slice(), &expected].concat());
+    }
+}
+
+#[test]
+fn dead_pixels_are_explained_in_words() {
+    let said = |name: &str, pixels: &[u8], guide: &[u8], options: &[&str], column: &str| {
+        let options = [options, &["--explain", column, "0"]].concat();
+        let (_, output) = filter_dead(name, pixels, guide, "200", &options);
+        String::from_utf8(output.stdout).unwrap()
+    };
+    let centre = "Column 1, row 0 has no reading and becomes 103. Its window has 3 pixels of total weight 411. The values \
+                  below 103 weigh 201, less than half; with 103 it is 402, at least half. This is an ordinary window: no \
+                  pixel counts against its own value.\n";
+    assert_eq!(said("said", &B_DEAD, &B_GUIDE, &B_OPTIONS, "1"), centre);
+    let beside = said("said", &B_DEAD, &B_GUIDE, &B_OPTIONS, "2");
+    assert!(beside.starts_with("Column 2, row 0 becomes 105. Its window has 3 pixels of total weight 411."), "{beside}");
+    let empty = "Column 0, row 0 has no reading and stays 200. No pixel of its window has a reading.\n";
+    assert_eq!(said("said_empty", &[200, 200, 5], &[0; 3], &["--radius", "1"], "0"), empty);
+}
+
+#[test]
+fn a_value_of_dead_pixels_that_could_be_another_is_refused() {
+    let one = flat("dead_one.pgm", 1, 1);
+    let wrong = |words: &[&str], said: &str| {
+        let message = message(&filter(words));
+        assert!(message.contains(said), "{message}");
+    };
+    wrong(&[one, one, "out.pgm", "--dead"], "--dead needs a number from 0 to 65535");
+    for word in ["-1", "65536", "x"] {
+        wrong(&[one, one, "out.pgm", "--dead", word], &format!("--dead needs a number from 0 to 65535, not {word}"));
+    }
+    wrong(&[one, one, "out.pgm", "--dead", "256"], "no pixel of dead_one.pgm can have it, whose greatest value is 255");
+    // 0 to 65,535 in steps of 64: 64 to 127 become 96.
+    let rounded = |value: u16, dead: &str| {
+        let plane: Vec<u8> = [0, 65_535, value].iter().flat_map(|value| value.to_be_bytes()).collect();
+        std::fs::write(place("rounded.pgm"), [b"P5\n3 1\n65535\n".as_slice(), &plane].concat()).unwrap();
+        filter(&["rounded.pgm", flat("rounded_guide.pgm", 3, 1), "rounded_out.pgm", "--dead", dead])
+    };
+    assert!(message(&rounded(100, "96")).contains("--dead 96: other values of rounded.pgm would be rounded to it"));
+    notes(&rounded(200, "96"));
+    notes(&rounded(96, "96"));
+}
+
 #[test]
 fn a_dash_is_standard_input_and_output() {
     b_files("dash.pgm", "dash_guide.pgm");
@@ -261,6 +361,6 @@ fn help_goes_to_standard_output() {
         let output = filter(&[word]);
         assert!(notes(&output).is_empty());
         let help = String::from_utf8_lossy(&output.stdout);
-        assert!(["--smoothing", "--explain", "--causes"].iter().all(|option| help.contains(option)));
+        assert!(["--smoothing", "--explain", "--causes", "--dead"].iter().all(|option| help.contains(option)));
     }
 }

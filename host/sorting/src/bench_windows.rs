@@ -1,14 +1,14 @@
 //! Document 01's bench windows A to H, D as document 02's request 3 has it, its edges and its 40-byte frame, rows of
-//! hollow windows and of the coarse way, what explains them, and a few rows more.
+//! hollow windows, of dead pixels and of the coarse way, what explains them, and a few rows more.
 
 use crate::calls;
 use crate::cases::bytes_of_hex;
 use crate::explain::{Cause, Explanation};
-use crate::frame::{built_in_weight, open, Asked, Frame, Settings, KIND_GUIDED, KIND_TABLE};
+use crate::frame::{built_in_weight, open, Asked, Frame, Settings, KIND_GUIDED, KIND_TABLE, NO_READING};
 use crate::program::printed;
 use crate::random::{accepted_file, Random};
 use crate::refusal::Refusal;
-use crate::store::{stores, summary, ChainEntry, Lengths, Stores, Way, BLOCK_LEVELS};
+use crate::store::{balance_box, stores, summary, ChainEntry, Lengths, Stores, Way, BLOCK_LEVELS, BOX_CELLS};
 use crate::walk::{filter, walk, Walk};
 use crate::window::Window;
 use crate::writer::write;
@@ -36,7 +36,12 @@ fn row(kind: u8, levels: u16, guides: u16, radius: u8, values: &[u16], guide: &[
 }
 
 fn frame_b() -> Frame {
-    row(KIND_GUIDED, 8, 16, 2, &[1, 2, 5, 3, 4], &[7, 7, 15, 7, 0], &[])
+    b_with(&[1, 2, 5, 3, 4])
+}
+
+/// B with other values.
+fn b_with(values: &[u16]) -> Frame {
+    row(KIND_GUIDED, 8, 16, 2, values, &[7, 7, 15, 7, 0], &[])
 }
 
 fn frame_c(weight: u16) -> Frame {
@@ -182,6 +187,8 @@ fn the_program_prints_document_01s_text() {
     let plane = vec![0; tall.pixels()];
     let file = write(&tall.asked(), &plane, &plane, &[], usize::MAX).unwrap();
     assert!(printed(&file).starts_with("3 65\n0 0 0\n"));
+    let dead = write(&mostly_dead().settings.asked(), &mostly_dead().values, &[0; 4], &[1; 4], usize::MAX).unwrap();
+    assert_eq!(printed(&dead), "4 1\n65535 65535 5 5\njoint 5\ncoarse 10\n");
 }
 
 /// A's settings with every pixel 0, written and opened again.
@@ -338,7 +345,7 @@ fn the_first_block_that_reaches_half_holds_a_steady_answer() {
     for _ in 0..600 {
         let frame = open(&accepted_file(&mut random, 6)).unwrap();
         let window = Window::at(&frame, 0, 0);
-        if !window.steady() {
+        if !window.steady() || window.empty() {
             continue;
         }
         let sums = summary(&frame, &window);
@@ -404,7 +411,7 @@ fn heavy_windows_are_explained() {
 /// B's pixel 2 under other levels: its last pixel weighs less than nothing.
 #[test]
 fn a_sum_may_be_negative_or_more_than_the_whole() {
-    let explained = |values: &[u16]| explained(&row(KIND_GUIDED, 8, 16, 2, values, &[7, 7, 15, 7, 0], &[]), 2);
+    let explained = |values: &[u16]| explained(&b_with(values), 2);
     assert_eq!(explained(&[4, 5, 4, 5, 3]), (5, 2945, 4, -815, 1845, Cause::NegativeAtZero));
     assert_eq!(explained(&[4, 4, 4, 4, 5]), (5, 2945, 4, 0, 3760, Cause::NegativeAtZero));
 }
@@ -422,15 +429,110 @@ fn a_formula_of_0_at_an_end_is_steady() {
 #[test]
 fn half_is_between_the_two_sums_and_every_cause_occurs() {
     let mut random = Random::new(9);
-    let mut causes = [0; 4];
+    let mut causes = [0; 5];
     for _ in 0..2_000 {
         let frame = open(&accepted_file(&mut random, 6)).unwrap();
         let explanation = Explanation::of(&Window::at(&frame, 0, 0));
-        let Explanation { total, below, reached, .. } = explanation;
-        assert!(2 * below < total && total <= 2 * reached, "{explanation:?}");
+        let Explanation { pixels, total, level, below, reached, cause } = explanation;
+        if cause == Cause::Empty {
+            assert_eq!((pixels, total, level, below, reached), (0, 0, NO_READING, 0, 0));
+        } else {
+            assert!(2 * below < total && total <= 2 * reached, "{explanation:?}");
+        }
         causes[explanation.cause.number() as usize - 1] += 1;
     }
     assert!(causes.iter().all(|&windows| windows > 20), "{causes:?}");
+}
+
+/// B with two dead pixels.
+fn b_dead() -> Frame {
+    b_with(&[1, NO_READING, 5, 3, NO_READING])
+}
+
+/// Three dead pixels before a reading: the first two windows are empty.
+fn mostly_dead() -> Frame {
+    row(KIND_TABLE, 8, 2, 1, &[NO_READING, NO_READING, NO_READING, 5], &[0; 4], &[1; 4])
+}
+
+#[test]
+fn b_with_dead_pixels() {
+    assert_eq!(filtered(&b_dead()), (vec![1, 3, 5, 3, 3], 13));
+    assert_eq!(filter(&b_dead()).1.coarse_shifts, 15);
+    let all: Vec<_> = (0..5).map(|column| explained(&b_dead(), column)).collect();
+    let expected = [
+        (2, 136, 1, 0, 132, Cause::Ordinary),
+        (3, 411, 3, 201, 402, Cause::Ordinary),
+        (3, 411, 5, 18, 411, Cause::NegativeAtZero),
+        (2, 136, 3, 0, 132, Cause::Ordinary),
+        (2, 136, 3, 0, 244, Cause::NegativeAtLast),
+    ];
+    assert_eq!(all, expected);
+    let walk = walk(&b_dead(), 4, 0, &[]);
+    let Stores::Chain { entries } = stores(&b_dead(), Way::Chain, &walk) else { unreachable!() };
+    let entry = |level, guide_sum| ChainEntry { level, count: 1, guide_sum };
+    assert_eq!(entries, [entry(3, 7), entry(5, 15)]);
+    // The dead pixels 1 and 4 are in no column, whether it is the window's or not.
+    let Stores::Columns { numbers } = stores(&b_dead(), Way::Columns, &walk) else { unreachable!() };
+    let counted: Vec<usize> = (0..40).filter(|&cell| numbers[cell] > 0).collect();
+    assert_eq!(counted, [1, 2 * 8 + 5, 3 * 8 + 3]);
+    assert_eq!(numbers[80..88], [0, 0, 0, 1, 0, 1, 0, 0]);
+}
+
+#[test]
+fn a_window_without_a_reading_adds_nothing_and_keeps_the_cut() {
+    let frame = mostly_dead();
+    assert_eq!(filtered(&frame), (vec![NO_READING, NO_READING, 5, 5], 5));
+    assert_eq!(filter(&frame).1.coarse_shifts, 10);
+    assert_eq!(hollow(&frame), [false; 4]);
+    assert_eq!(explained(&frame, 0), (0, 0, NO_READING, 0, 0, Cause::Empty));
+    assert_eq!([0, 5, 7].map(|level| Window::at(&frame, 0, 0).balance(level)), [0; 3]);
+    // Back from the reading: the cut stays at 5, and the end's stores and box are those of no pixel.
+    let back = walk(&frame, 2, 0, &[0, 1, 1, 1, 1]);
+    assert_eq!(back.answers, [5, 5, 5, NO_READING, NO_READING, 65_534]);
+    assert_eq!((back.shifts, back.coarse_shifts, back.cut), (5, 15, 5));
+    let Stores::Coarse { counts, words, summary } = stores(&frame, Way::Coarse, &back) else { unreachable!() };
+    assert_eq!((counts, words, summary), (vec![0; 16], vec![0; 8], vec![0]));
+    assert_eq!(balance_box(&frame, &back), [0; BOX_CELLS]);
+}
+
+#[test]
+fn an_empty_window_of_kind_2() {
+    let frame = b_with(&[NO_READING; 5]);
+    assert_eq!(filtered(&frame), (vec![NO_READING; 5], 0));
+    assert_eq!(explained(&frame, 2), (0, 0, NO_READING, 0, 0, Cause::Empty));
+    let walk = walk(&frame, 0, 0, &[0]);
+    assert_eq!(stores(&frame, Way::Chain, &walk), Stores::Chain { entries: Vec::new() });
+    assert_eq!(stores(&frame, Way::Columns, &walk), Stores::Columns { numbers: vec![0; 96] });
+}
+
+#[test]
+fn a_dead_centre_has_its_own_guide() {
+    let frame = |guide: u16| row(KIND_TABLE, 8, 2, 1, &[2, NO_READING, 6], &[0, guide, 1], &[3, 1, 1, 3]);
+    assert_eq!(Window::at(&frame(0), 1, 0).answer(), 2);
+    assert_eq!(Window::at(&frame(1), 1, 0).answer(), 6);
+}
+
+#[test]
+fn what_a_dead_pixel_would_weigh_leaves_a_window_hollow() {
+    let frame = row(KIND_TABLE, 8, 2, 1, &[6, NO_READING, 4], &[1, 0, 1], &[1, 0, 1, 1]);
+    assert_eq!(explained(&frame, 1), (2, 2, 4, 0, 1, Cause::Hollow));
+}
+
+#[test]
+fn only_65535_is_no_reading_and_no_guide_is() {
+    let opened = |value: u16, guide: u16| {
+        let mut file = written_c(6, 0, 1).unwrap();
+        file[2..4].copy_from_slice(&value.to_be_bytes());
+        file[6..8].copy_from_slice(&guide.to_be_bytes());
+        assert_eq!(written_c(value, guide, 1).map(drop), open(&file).map(drop));
+        open(&file).map(|frame| frame.values)
+    };
+    assert_eq!(opened(65_535, 1), Ok(vec![2, 65_535]));
+    for value in [8, 1_024, 65_533, 65_534] {
+        assert_eq!(opened(value, 1), Err(Refusal::contents(2)));
+    }
+    assert_eq!(opened(65_535, 65_535), Err(Refusal::contents(6)));
+    assert_eq!(opened(65_535, 2), Err(Refusal::contents(6)));
 }
 
 #[test]
@@ -478,8 +580,8 @@ fn the_answer_is_the_lowest_level_of_least_weighted_absolute_difference() {
     for _ in 0..300 {
         let frame = open(&accepted_file(&mut random, 6)).unwrap();
         let window = Window::at(&frame, 0, 0);
-        // By the own weights every level of a hollow window has the difference 0.
-        if window.has_negative_weight() || window.hollow() {
+        // By the own weights every level of a hollow window has the difference 0, and so has an empty one.
+        if window.has_negative_weight() || window.hollow() || window.empty() {
             continue;
         }
         let lowest = (0..frame.settings.levels).min_by_key(|&level| window.absolute_differences(level));
@@ -492,7 +594,7 @@ fn the_answer_is_the_lowest_level_of_least_weighted_absolute_difference() {
 #[test]
 fn the_answer_is_the_first_level_at_half() {
     let mut random = Random::new(5);
-    let (mut hollow, mut negative, mut unsteady) = (0, 0, 0);
+    let (mut hollow, mut negative, mut unsteady, mut empty) = (0, 0, 0, 0);
     for _ in 0..600 {
         let frame = open(&accepted_file(&mut random, 6)).unwrap();
         let window = Window::at(&frame, 0, 0);
@@ -500,9 +602,14 @@ fn the_answer_is_the_first_level_at_half() {
         negative += u32::from(window.has_negative_weight());
         unsteady += u32::from(!window.steady());
         let first = (0..frame.settings.levels).find(|&level| window.balance(level) >= 0);
-        assert_eq!(Some(window.answer()), first);
+        if window.empty() {
+            assert_eq!((window.answer(), first), (NO_READING, Some(0)));
+            empty += 1;
+        } else {
+            assert_eq!(Some(window.answer()), first);
+        }
     }
-    assert!(hollow > 30 && negative > 10 && unsteady > 10, "{hollow} {negative} {unsteady}");
+    assert!(hollow > 30 && negative > 10 && unsteady > 10 && empty > 30, "{hollow} {negative} {unsteady} {empty}");
 }
 
 #[test]

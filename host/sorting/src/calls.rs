@@ -20,8 +20,11 @@ pub struct Walked {
     /// The balance box of way 1; zeros for the other ways.
     pub balance_box: [i16; BOX_CELLS],
     pub stores: Stores,
-    /// Whether each window on the way was hollow, in turn; no call gives this away.
+    /// Whether each window on the way was hollow, in turn, and whether it was empty; no call gives this away.
     pub hollow: Vec<bool>,
+    pub empty: Vec<bool>,
+    /// The pixels of these windows.
+    pub visited: Vec<(usize, usize)>,
 }
 
 impl Walked {
@@ -32,8 +35,8 @@ impl Walked {
             Way::Columns | Way::Chain | Way::Coarse => [0; BOX_CELLS],
         };
         let stores = stores(frame, way, walk);
-        let (shifts, hollow) = (walk.shifts_by(way), walk.hollow.clone());
-        Walked { answers, shifts, cut: walk.cut, balance_box, stores, hollow }
+        let Walk { cut, hollow, empty, visited, .. } = walk.clone();
+        Walked { answers, shifts: walk.shifts_by(way), cut, balance_box, stores, hollow, empty, visited }
     }
 }
 

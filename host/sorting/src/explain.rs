@@ -6,17 +6,20 @@ use crate::window::Window;
 #[derive(Clone, Copy, Debug, PartialEq, Eq)]
 pub enum Cause {
     Ordinary,
-    /// The own weights sum to 0.
+    /// There are readings, and their own weights sum to 0.
     Hollow,
     /// Not steady: the weight formula is negative at guide 0.
     NegativeAtZero,
     /// Not steady: the weight formula is negative at the last guide.
     NegativeAtLast,
+    /// No pixel has a reading.
+    Empty,
 }
 
 impl Cause {
     /// All causes, by rising number.
-    pub const ALL: [Cause; 4] = [Cause::Ordinary, Cause::Hollow, Cause::NegativeAtZero, Cause::NegativeAtLast];
+    pub const ALL: [Cause; 5] =
+        [Cause::Ordinary, Cause::Hollow, Cause::NegativeAtZero, Cause::NegativeAtLast, Cause::Empty];
 
     /// The C interface's number of the cause.
     pub fn number(self) -> u32 {
@@ -25,21 +28,23 @@ impl Cause {
             Cause::Hollow => 2,
             Cause::NegativeAtZero => 3,
             Cause::NegativeAtLast => 4,
+            Cause::Empty => 5,
         }
     }
 
     fn of(window: &Window) -> Cause {
-        match (window.negative_at, window.hollow()) {
-            ([false, false], false) => Cause::Ordinary,
-            ([false, false], true) => Cause::Hollow,
-            ([true, false], false) => Cause::NegativeAtZero,
-            ([false, true], false) => Cause::NegativeAtLast,
+        match (window.negative_at, window.hollow(), window.empty()) {
+            ([false, false], false, false) => Cause::Ordinary,
+            ([false, false], true, false) => Cause::Hollow,
+            ([true, false], false, false) => Cause::NegativeAtZero,
+            ([false, true], false, false) => Cause::NegativeAtLast,
+            ([false, false], false, true) => Cause::Empty,
             more => panic!("a window with more than one cause: {more:?}"),
         }
     }
 }
 
-/// The answer of a window and its grounds, by the counted weights.
+/// The answer of a window and its grounds, by the counted weights: no reading and zeros where it is empty.
 #[derive(Clone, Copy, Debug, PartialEq, Eq)]
 pub struct Explanation {
     /// n: the window's pixels.

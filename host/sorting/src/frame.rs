@@ -10,6 +10,8 @@ pub const MARK: [u8; 4] = [0x49, 0x43, 0x45, 0x31];
 pub const KIND_TABLE: u8 = 1;
 /// Kind 2: weights from the guide by equation 22 of source 000.
 pub const KIND_GUIDED: u8 = 2;
+/// In the value plane: a dead pixel, which belongs to no window. As an answer: the window has no reading.
+pub const NO_READING: u16 = 65_535;
 
 /// The trailer's numbers that say what to compute.
 #[derive(Clone, Copy, Debug, PartialEq, Eq)]
@@ -92,7 +94,7 @@ impl Asked {
 #[derive(Clone, Debug, PartialEq, Eq)]
 pub struct Frame {
     pub settings: Settings,
-    /// A level for each pixel, row by row from the top left.
+    /// A level or [`NO_READING`] for each pixel, row by row from the top left.
     pub values: Vec<u16>,
     /// A guide for each pixel.
     pub guides: Vec<u16>,
@@ -190,12 +192,18 @@ fn part_of(file: &[u8], place: usize, numbers: usize) -> Vec<u16> {
     (0..numbers).map(|index| number16(file, place + 2 * index)).collect()
 }
 
-/// Check 7 for a plane that begins at `place`: no number above `most`.
-pub fn check_contents(plane: &[u16], most: u16, place: usize) -> Result<(), Refusal> {
-    match plane.iter().position(|&number| number > most) {
+/// Check 7 for a plane that begins at `place`: the first number that is not `right`.
+pub fn check_contents(plane: &[u16], place: usize, right: impl Fn(u16) -> bool) -> Result<(), Refusal> {
+    match plane.iter().position(|&number| !right(number)) {
         Some(index) => Err(Refusal::contents(place + 2 * index)),
         None => Ok(()),
     }
+}
+
+/// Check 7 for both planes, which begin at these places.
+pub fn check_planes(settings: &Settings, values: (&[u16], usize), guides: (&[u16], usize)) -> Result<(), Refusal> {
+    check_contents(values.0, values.1, |value| value < settings.levels || value == NO_READING)?;
+    check_contents(guides.0, guides.1, |guide| guide < settings.guides)
 }
 
 /// Checks 1 to 6: the settings, and where the parts begin.
@@ -210,9 +218,8 @@ pub fn locate(file: &[u8]) -> Result<(Settings, Places), Refusal> {
 pub fn open(file: &[u8]) -> Result<Frame, Refusal> {
     let (settings, places) = locate(file)?;
     let values = part_of(file, places.values, settings.pixels());
-    check_contents(&values, settings.levels - 1, places.values)?;
     let guides = part_of(file, places.guides, settings.pixels());
-    check_contents(&guides, settings.guides - 1, places.guides)?;
+    check_planes(&settings, (&values, places.values), (&guides, places.guides))?;
     let table = places.table.map_or_else(Vec::new, |place| part_of(file, place, settings.table_weights()));
     Ok(Frame { settings, values, guides, table })
 }
@@ -227,9 +234,9 @@ impl Frame {
         row * usize::from(self.settings.width) + column
     }
 
-    /// The level at a pixel.
-    pub fn level(&self, column: usize, row: usize) -> u16 {
-        self.values[self.index(column, row)]
+    /// The level at a pixel; none where it is dead.
+    pub fn level(&self, column: usize, row: usize) -> Option<u16> {
+        Some(self.values[self.index(column, row)]).filter(|&value| value != NO_READING)
     }
 
     /// The guide at a pixel.

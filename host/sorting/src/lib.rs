@@ -1,7 +1,7 @@
 //! Document 01's weighted median filter, with the weights of document 02's request 1, the coarse way of its
-//! request 2, the hollow windows of its request 3 and the explanations of its request 4, written from these documents
-//! and sharing no code with the proved library: every window is gathered anew, its pixels are sorted by level, and
-//! weights are added until they reach half of the whole.
+//! request 2, the hollow windows of its request 3, the explanations of its request 4 and the dead pixels of its request
+//! 6, written from these documents and sharing no code with the proved library: every window is gathered anew, its
+//! pixels are sorted by level, and weights are added until they reach half of the whole.
 //!
 //! It is slow on purpose. Nothing is carried from one window to the next, so a mistake in carrying
 //! a histogram, an occupancy word, a balance box or a cut point cannot be made here.

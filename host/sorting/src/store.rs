@@ -1,4 +1,4 @@
-//! What the stores hold after a walk, for its last window, counted anew from the frame.
+//! What the stores hold after a walk, for its last window, counted anew from the frame. No store holds a dead pixel.
 
 use crate::frame::{Frame, Settings, KIND_GUIDED};
 use crate::walk::Walk;
@@ -201,7 +201,8 @@ fn column_numbers(frame: &Frame, walk: &Walk) -> Vec<u32> {
     let (mut window_counts, mut window_sums) = (vec![0; levels], vec![0; levels]);
     for t in reach(row, settings.radius, settings.height) {
         for s in 0..width {
-            let (level, guide) = (usize::from(frame.level(s, t)), u32::from(frame.guide(s, t)));
+            let Some(level) = frame.level(s, t).map(usize::from) else { continue };
+            let guide = u32::from(frame.guide(s, t));
             counts[s * levels + level] += 1;
             sums[s * levels + level] += guide;
             if window_columns.contains(&s) {

@@ -17,7 +17,7 @@ pub const UP: u8 = 3;
 /// A walk, reckoned from frame, start and list alone.
 #[derive(Clone, Debug, PartialEq, Eq)]
 pub struct Walk {
-    /// One answer for the start and one for each move byte.
+    /// One answer for the start and one for each move byte: a level, no reading, or a mark.
     pub answers: Vec<u16>,
     /// Sum of the level distances over all windows: the count of ways 1 to 3.
     pub shifts: u64,
@@ -29,13 +29,20 @@ pub struct Walk {
     pub visited: Vec<(usize, usize)>,
     /// Whether the window at each of them is hollow.
     pub hollow: Vec<bool>,
+    /// Whether it has no reading.
+    pub empty: Vec<bool>,
+}
+
+/// Whether an answer is the mark of a byte that moves nothing.
+pub fn is_mark(answer: u16) -> bool {
+    answer == OFF_PICTURE || answer == UNKNOWN_MOVE
 }
 
 impl Walk {
     /// Stands at the start: cut and shift count are 0, and the start window adds first.
     fn start(frame: &Frame, column: usize, row: usize) -> Walk {
-        let (answers, visited, hollow) = (Vec::new(), Vec::new(), Vec::new());
-        let mut walk = Walk { answers, shifts: 0, coarse_shifts: 0, cut: 0, visited, hollow };
+        let (answers, visited, hollow, empty) = (Vec::new(), Vec::new(), Vec::new(), Vec::new());
+        let mut walk = Walk { answers, shifts: 0, coarse_shifts: 0, cut: 0, visited, hollow, empty };
         walk.arrive(frame, column, row);
         walk
     }
@@ -53,13 +60,17 @@ impl Walk {
         }
     }
 
-    /// Answers for the window at a pixel and lets it add to both counts.
+    /// Answers for the window at a pixel and lets it add to both counts; an empty one adds nothing and keeps the cut.
     fn arrive(&mut self, frame: &Frame, column: usize, row: usize) {
         let window = Window::at(frame, column, row);
         let answer = window.answer();
         self.answers.push(answer);
         self.visited.push((column, row));
         self.hollow.push(window.hollow());
+        self.empty.push(window.empty());
+        if window.empty() {
+            return;
+        }
         let from = if window.steady() { self.cut } else { 0 };
         self.shifts += u64::from(answer.abs_diff(from));
         let by_blocks = answer / BLOCK_LEVELS + answer % BLOCK_LEVELS;

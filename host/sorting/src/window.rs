@@ -1,9 +1,9 @@
 //! One window: its pixels, their weights, the cumulative weight and the median.
 
-use crate::frame::{Frame, KIND_TABLE};
+use crate::frame::{Frame, KIND_TABLE, NO_READING};
 use std::ops::RangeInclusive;
 
-/// A pixel of the window.
+/// A pixel of the window, which is never a dead one.
 #[derive(Clone, Copy, Debug, PartialEq, Eq)]
 pub struct Weighted {
     pub level: u16,
@@ -17,7 +17,7 @@ pub struct Weighted {
 /// The window at a centre, gathered anew.
 #[derive(Clone, Debug)]
 pub struct Window {
-    /// The window's pixels, row by row, each with its own weight.
+    /// The window's pixels, row by row, each with its own weight; none where all are dead.
     pub pixels: Vec<Weighted>,
     /// Whether the weight formula is negative at guide 0, and whether at the last guide; in kind 1 it is at neither.
     pub negative_at: [bool; 2],
@@ -29,13 +29,13 @@ pub fn reach(centre: usize, radius: u8, size: u16) -> RangeInclusive<usize> {
     centre.saturating_sub(radius)..=(centre + radius).min(usize::from(size) - 1)
 }
 
-/// Level and guide of each pixel in the window.
+/// Level and guide of each pixel in the window: a dead one belongs to none.
 fn gather(frame: &Frame, column: usize, row: usize) -> Vec<(u16, u16)> {
     let settings = &frame.settings;
     let mut pixels = Vec::new();
     for t in reach(row, settings.radius, settings.height) {
         for s in reach(column, settings.radius, settings.width) {
-            pixels.push((frame.level(s, t), frame.guide(s, t)));
+            pixels.extend(frame.level(s, t).map(|level| (level, frame.guide(s, t))));
         }
     }
     pixels
@@ -85,7 +85,7 @@ impl Weights<'_> {
 }
 
 impl Window {
-    /// The window at a pixel of the picture.
+    /// The window at a pixel of the picture, which may be dead itself: its guide is the centre's all the same.
     pub fn at(frame: &Frame, column: usize, row: usize) -> Window {
         let pixels = gather(frame, column, row);
         let centre_guide = frame.guide(column, row);
@@ -102,15 +102,20 @@ impl Window {
         }
     }
 
+    /// Whether no pixel has a reading.
+    pub fn empty(&self) -> bool {
+        self.pixels.is_empty()
+    }
+
     /// Whether the weight formula is not negative at both guide ends; always so in kind 1, and so in every hollow
-    /// window: in kind 2 the own weights sum to nV, which is above 0.
+    /// window: in kind 2 the own weights sum to nV, which is above 0. In an empty window the formula is 0.
     pub fn steady(&self) -> bool {
         self.negative_at == [false; 2]
     }
 
-    /// Whether the own weights sum to 0, so that they have no half to reach.
+    /// Whether there are readings whose own weights sum to 0, so that they have no half to reach.
     pub fn hollow(&self) -> bool {
-        self.pixels.iter().map(|pixel| pixel.own_weight).sum::<i64>() == 0
+        !self.empty() && self.pixels.iter().map(|pixel| pixel.own_weight).sum::<i64>() == 0
     }
 
     /// The level and the counted weight of each pixel. The counted weight, which answers, balances and sums go by,
@@ -140,8 +145,11 @@ impl Window {
         self.pixels.iter().any(|pixel| pixel.own_weight < 0)
     }
 
-    /// The answer: the lowest level at which the cumulative weight reaches half.
+    /// The answer: the lowest level at which the cumulative weight reaches half, or [`NO_READING`].
     pub fn answer(&self) -> u16 {
+        if self.empty() {
+            return NO_READING;
+        }
         let mut sorted: Vec<(u16, i64)> = self.counted().collect();
         sorted.sort_by_key(|&(level, _)| level);
         let total = self.total();

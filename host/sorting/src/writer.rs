@@ -1,6 +1,6 @@
 //! The writer: value plane, guide plane, table, trailer, without gaps.
 
-use crate::frame::{bytes_of, check_contents, trailer_bytes, Asked, Settings, KIND_TABLE};
+use crate::frame::{bytes_of, check_planes, trailer_bytes, Asked, Settings, KIND_TABLE};
 use crate::refusal::{check, Refusal};
 
 /// Check 6: the lengths of the planes and the table.
@@ -14,8 +14,7 @@ fn check_parts(settings: &Settings, values: &[u16], guides: &[u16], table: &[u16
 pub fn write(asked: &Asked, values: &[u16], guides: &[u16], table: &[u16], lent: usize) -> Result<Vec<u8>, Refusal> {
     let settings = asked.settings()?;
     check_parts(&settings, values, guides, table)?;
-    check_contents(values, settings.levels - 1, 0)?;
-    check_contents(guides, settings.guides - 1, 2 * values.len())?;
+    check_planes(&settings, (values, 0), (guides, 2 * values.len()))?;
     let mut file = bytes_of(&[values, guides, table].concat());
     let (all, plane) = (file.len(), 2 * values.len());
     file.extend(trailer_bytes(&settings, [all, all - plane, all - 2 * plane]));

@@ -24,9 +24,9 @@ pub fn spoil(file: &[u8], walked: &mut Walked, walk: impl FnOnce(&Frame) -> Walk
     let frame = open(file).expect("an accepted frame");
     let walk = walk(&frame);
     let window = |&(column, row): &(usize, usize)| Window::at(&frame, column, row);
-    // Over the windows that are meant, what `add` says of their answers.
+    // Over the windows that are meant and have a reading, what `add` says of their answers.
     let total = |meant: fn(&Window) -> bool, add: fn(u16) -> u16| -> u64 {
-        let windows = walk.visited.iter().map(window).filter(meant);
+        let windows = walk.visited.iter().map(window).filter(|window| !window.empty() && meant(window));
         windows.map(|window| u64::from(add(window.answer()))).sum()
     };
     let steady = Window::steady;

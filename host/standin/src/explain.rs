@@ -1,12 +1,13 @@
 //! Mistakes of explanations: in the cause, the number of pixels, the sums, the level, and where the pixel is.
 
+use crate::dead;
 use crate::fault::{limits, CHOSEN};
 use crate::hollow::Place;
 use sorting_filter::calls;
 use sorting_filter::explain::{Cause, Explanation};
-use sorting_filter::frame::{locate, open};
+use sorting_filter::frame::{locate, open, Frame, NO_READING};
 use sorting_filter::refusal::{check, Refusal};
-use sorting_filter::window::Window;
+use sorting_filter::window::{reach, Window};
 
 /// How the names of these mistakes begin; for another no window need be looked at again.
 const NAMES: &str = "explain_";
@@ -22,6 +23,7 @@ pub fn explain(file: &[u8], pixel: (usize, usize)) -> Result<Explanation, Refusa
     let (_, places) = locate(file)?;
     limits(&frame.table, places.table.unwrap_or(0), "explain_limit_left")?;
     let place = Place::at(&frame, pixel);
+    spoil_dead(&frame, pixel, &mut why);
     spoil_cause(&place, &mut why);
     spoil_sums(&place, &mut why);
     spoil_level(&place, &mut why);
@@ -43,6 +45,37 @@ fn looked_at(file: &[u8], (column, row): (usize, usize)) -> Result<(usize, usize
         }
         _ => (column, row),
     })
+}
+
+/// Dead pixels in the sums, a dead centre taken for an empty window, and an empty window for another sort.
+fn spoil_dead(frame: &Frame, pixel: (usize, usize), why: &mut Explanation) {
+    let k = frame.settings;
+    let whole = reach(pixel.0, k.radius, k.width).count() * reach(pixel.1, k.radius, k.height).count();
+    let dead_centre = frame.level(pixel.0, pixel.1).is_none();
+    let total = |mistake: &str| dead::window(mistake, frame, pixel).total();
+    if why.cause == Cause::Empty {
+        match CHOSEN.as_str() {
+            "explain_empty_ordinary" => why.cause = Cause::Ordinary,
+            "explain_empty_hollow" => why.cause = Cause::Hollow,
+            "explain_empty_level_zero" => why.level = 0,
+            "explain_empty_pixels" => why.pixels = whole,
+            "explain_empty_total" => why.total = whole as i64,
+            "explain_empty_reached" => why.reached = whole as i64,
+            _ => {}
+        }
+        return;
+    }
+    match CHOSEN.as_str() {
+        "explain_dead_pixels" => why.pixels = whole,
+        "explain_dead_total" => why.total = total("dead_in_total"),
+        "explain_dead_sums" => why.total = total("dead_in_n"),
+        "explain_dead_centre" if dead_centre => why.total = total("dead_centre_guide_zero"),
+        "explain_dead_centre_empty" if dead_centre => {
+            let (level, cause) = (NO_READING, Cause::Empty);
+            *why = Explanation { pixels: 0, total: 0, level, below: 0, reached: 0, cause };
+        }
+        _ => {}
+    }
 }
 
 fn spoil_cause(place: &Place, why: &mut Explanation) {

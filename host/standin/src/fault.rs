@@ -120,7 +120,7 @@ pub fn refuses(file: &[u8]) -> bool {
 /// table that begins at `place`.
 pub fn limits(table: &[u16], place: usize, name: &str) -> Result<(), Refusal> {
     if makes(name) {
-        return check_contents(table, 256, place);
+        return check_contents(table, place, |weight| weight <= 256);
     }
     Ok(())
 }

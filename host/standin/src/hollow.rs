@@ -4,9 +4,9 @@
 use crate::coarse::by_blocks;
 use crate::fault::{table_frame, CHOSEN};
 use sorting_filter::calls::Walked;
-use sorting_filter::frame::{Frame, KIND_GUIDED};
+use sorting_filter::frame::{Frame, KIND_GUIDED, NO_READING};
 use sorting_filter::store::{self, Stores, Way};
-use sorting_filter::walk::{plane, Walk, UNKNOWN_MOVE};
+use sorting_filter::walk::{is_mark, plane, Walk};
 use sorting_filter::window::Window;
 
 /// How the names of these mistakes begin; for another no window need be looked at again.
@@ -36,7 +36,7 @@ impl Place<'_> {
     }
 
     pub fn centre_level(&self) -> u16 {
-        self.frame.level(self.pixel.0, self.pixel.1)
+        self.frame.level(self.pixel.0, self.pixel.1).unwrap_or(NO_READING)
     }
 
     /// Not hollow, though the centre itself weighs nothing by the table.
@@ -121,13 +121,16 @@ fn answer(chosen: &str, place: &Place, stage: &Stage) -> u16 {
 
 /// The walk again with the mistake; the cut before its last window.
 fn walk_wrongly(chosen: &str, frame: &Frame, way: Way, call: Call, walk: &mut Walk) -> u16 {
-    let Walk { answers, shifts, coarse_shifts, cut, visited, hollow } = walk;
+    let Walk { answers, shifts, coarse_shifts, cut, visited, hollow, empty } = walk;
     (*shifts, *coarse_shifts, *cut) = (0, 0, 0);
     let mut before = 0;
-    let levels = answers.iter_mut().filter(|answer| **answer < UNKNOWN_MOVE);
+    let levels = answers.iter_mut().filter(|answer| !is_mark(**answer));
     for (number, (level, &pixel)) in levels.zip(visited.iter()).enumerate() {
         let place = Place::at(frame, pixel);
         before = *cut;
+        if empty[number] {
+            continue;
+        }
         let after_hollow = number > 0 && hollow[number - 1];
         *level = answer(chosen, &place, &Stage { way, call, start: number == 0, after_hollow, cut: before });
         *cut = *level;

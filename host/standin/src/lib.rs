@@ -1,8 +1,9 @@
 //! The C interface of `include/icemedian.h` over the sorting filter. It tests the wrapper and the
-//! tests themselves: with `STANDIN_FAULT` set to one of the names in [`fault`], [`coarse`], [`hollow`] and
+//! tests themselves: with `STANDIN_FAULT` set to one of the names in [`fault`], [`coarse`], [`hollow`], [`dead`] and
 //! [`explain`], it makes that mistake, and the tests must notice.
 
 mod coarse;
+mod dead;
 mod explain;
 mod fault;
 mod hollow;
@@ -109,6 +110,11 @@ unsafe fn lend<'a, T>(pointer: *mut T, length: usize) -> &'a mut [T] {
     slice::from_raw_parts_mut(pointer, length)
 }
 
+/// The file as the mistakes read it.
+fn as_read(file: &[u8]) -> Vec<u8> {
+    fault::as_read(&dead::as_read(file))
+}
+
 /// Checks 1 to 7.
 fn check(file: &[u8]) -> Result<(), Refusal> {
     if fault::refuses(file) {
@@ -122,7 +128,7 @@ fn check(file: &[u8]) -> Result<(), Refusal> {
 /// As the header says.
 #[no_mangle]
 pub unsafe extern "C" fn icemedian_check(file: *const u8, file_length: usize, offset: &mut u64) -> u32 {
-    report(check(read(file, file_length)), offset).err().unwrap_or(0)
+    report(check(&dead::as_read(read(file, file_length))), offset).err().unwrap_or(0)
 }
 
 /// # Safety
@@ -152,13 +158,14 @@ pub unsafe extern "C" fn icemedian_filter(
         summary: lend(summary, summary_length),
         answers: lend(output, output_length),
     };
-    let file = fault::as_read(read(file, file_length));
+    let file = as_read(read(file, file_length));
     let way = fault::way(&file, narrowed(way, 8, "filter_way_cut"));
     let mut result = calls::filter(&file, way, &lent.lengths());
     if let Ok(walked) = &mut result {
         fault::in_plane(&file, &mut walked.answers);
         coarse::spoil(&file, walked, |frame| walk::filter(frame).1);
         hollow::spoil(&file, Call::Filter, walked, |frame| walk::filter(frame).1);
+        dead::spoil(&file, Call::Filter, walked, |frame| walk::filter(frame).1);
     }
     finish(result, &mut lent, shifts, offset).err().unwrap_or(0)
 }
@@ -196,12 +203,13 @@ pub unsafe extern "C" fn icemedian_walk(
         summary: lend(summary, summary_length),
         answers: lend(answers, answers_length),
     };
-    let (file, moves) = (fault::as_read(read(file, file_length)), read(moves, moves_length));
+    let (file, moves) = (as_read(read(file, file_length)), read(moves, moves_length));
     let way = fault::way(&file, narrowed(way, 8, "walk_way_cut"));
     let mut result = calls::walk(&file, way, (column, row), moves, &lent.lengths());
     if let Ok(walked) = &mut result {
         coarse::spoil(&file, walked, |frame| walk::walk(frame, column, row, moves));
         hollow::spoil(&file, Call::Walk, walked, |frame| walk::walk(frame, column, row, moves));
+        dead::spoil(&file, Call::Walk, walked, |frame| walk::walk(frame, column, row, moves));
     }
     match finish(result, &mut lent, shifts, offset) {
         Ok(mut walked) => {
@@ -248,11 +256,12 @@ pub unsafe extern "C" fn icemedian_balance(
     offset: &mut u64,
 ) -> u32 {
     let level = narrowed(level, 16, "level_cut");
-    let file = fault::as_read(read(file, file_length));
+    let file = as_read(read(file, file_length));
     match report(calls::balance(&file, (column, row), level), offset) {
         Ok(mut value) => {
             fault::in_balance(&file, (column, row), level, &mut value);
             hollow::in_balance(&file, (column, row), level, &mut value);
+            dead::in_balance(&file, (column, row), level, &mut value);
             give(balance, if makes("balance") { -value } else { value }, "balance_left");
             0
         }
@@ -279,7 +288,7 @@ pub unsafe extern "C" fn icemedian_explain(
     cause: &mut u32,
     offset: &mut u64,
 ) -> u32 {
-    let file = fault::as_read(read(file, file_length));
+    let file = as_read(read(file, file_length));
     match report(explain::explain(&file, (column, row)), offset) {
         Ok(why) => {
             give(pixels, why.pixels, "pixels_left");
@@ -288,7 +297,7 @@ pub unsafe extern "C" fn icemedian_explain(
             give(below, why.below, "below_left");
             give(reached, why.reached, "reached_left");
             // A number that no cause has.
-            let past = if makes("cause_past") { 4 } else { 0 };
+            let past = if makes("cause_past") { 5 } else { 0 };
             give(cause, why.cause.number() + past, "cause_left");
             0
         }
@@ -339,8 +348,9 @@ pub unsafe extern "C" fn icemedian_write(
     let (table, output) = (read(table, table_length), lend(output, output_length));
     let cut = |&weight: &u16| narrowed(weight.into(), 15, "written_weight_cut") as u16;
     let table: Vec<u16> = table.iter().map(cut).collect();
+    let (values, guide) = dead::as_written(values, guide);
     let limits = |file| fault::limits(&table, 4 * values.len(), "written_limit_left").map(|()| file);
-    match report(writer::write(&asked, values, guide, &table, output.len()).and_then(limits), offset) {
+    match report(writer::write(&asked, &values, &guide, &table, output.len()).and_then(limits), offset) {
         Ok(file) => {
             front(output, &file);
             fault::in_file(output, file.len());

@@ -6,8 +6,8 @@ use crate::library;
 use crate::tally::Tally;
 use crate::{same, Check};
 use icemedian::raw::Explained;
-use sorting_filter::explain::Explanation;
-use sorting_filter::frame::Frame;
+use sorting_filter::explain::{Cause, Explanation};
+use sorting_filter::frame::{Frame, NO_READING};
 use sorting_filter::random::Random;
 use sorting_filter::window::Window;
 
@@ -44,9 +44,15 @@ pub fn test_at(file: &[u8], frame: &Frame, place: (usize, usize), tally: &mut Ta
         let what = format!("balance at {place:?} and level {level}, by its explanation");
         library::compare_balance(&what, library::balance(file, place, level.into()), &Ok(2 * sum - why.total))
     };
-    balance(why.level, why.reached)?;
-    if why.level > 0 {
-        balance(why.level - 1, why.below)?;
+    if why.cause == Cause::Empty {
+        // No level is the answer: the balance is 0 at all.
+        balance(0, why.below)?;
+        balance(frame.settings.levels - 1, why.reached)?;
+    } else {
+        balance(why.level, why.reached)?;
+        if why.level > 0 {
+            balance(why.level - 1, why.below)?;
+        }
     }
     tally.explained.count(&why);
     Ok(why.level)
@@ -56,8 +62,10 @@ pub fn test_at(file: &[u8], frame: &Frame, place: (usize, usize), tally: &mut Ta
 fn test_wrapper(file: &[u8], frame: &Frame, place: (usize, usize)) -> Check {
     let why = icemedian::explain(file, place).map_err(|refusal| refusal.to_string())?;
     let icemedian::Explanation { pixels, total, level, below, reached, cause } = why;
-    let given = Explained { pixels, total, level, below, reached, cause: cause as u32 };
     let expected = Explanation::of(&Window::at(frame, place.0, place.1));
+    same("whether the wrapper's explanation has a level", &level.is_none(), &(expected.cause == Cause::Empty))?;
+    let level = level.unwrap_or(NO_READING);
+    let given = Explained { pixels, total, level, below, reached, cause: cause as u32 };
     same("wrapper's explanation", &given, &library::explained(&expected))?;
     same("wrapper's cause", &format!("{cause:?}"), &format!("{:?}", expected.cause))
 }

@@ -8,12 +8,12 @@ use crate::tally::Tally;
 use crate::{same, Check};
 use sorting_filter::calls;
 use sorting_filter::cases;
-use sorting_filter::frame::{locate, open, Frame, Settings, KIND_GUIDED, KIND_TABLE};
+use sorting_filter::frame::{locate, open, Frame, Settings, KIND_GUIDED, KIND_TABLE, NO_READING};
 use sorting_filter::random::{accepted_file, accepted_file_of, damage_table, moves, settings, start, Random};
 use sorting_filter::random::{random_guides, random_values};
 use sorting_filter::store::{Lengths, Stores, Way, BLOCK_LEVELS};
-use sorting_filter::walk::UNKNOWN_MOVE;
-use sorting_filter::window::Window;
+use sorting_filter::walk::is_mark;
+use sorting_filter::window::{reach, Window};
 use sorting_filter::writer;
 
 /// Sides of most pictures; sides of those that hold a whole window of the largest radius; the longest list.
@@ -130,6 +130,7 @@ pub fn test_accepted(random: &mut Random, file: &[u8], tally: &mut Tally) -> Che
     let frame = open(file).map_err(|refusal| format!("the generator made a bad file: {refusal}"))?;
     tally.frames[usize::from(frame.settings.kind == KIND_GUIDED)] += 1;
     tally.heavy_tables += u64::from(frame.table.iter().any(|&weight| weight >= 32_768));
+    tally.dead.count_frame(&frame);
     count_overlap(file, tally);
     let untouched = file.to_vec();
     same("check", &library::check(file), &Status::ACCEPTED)?;
@@ -197,10 +198,12 @@ pub fn test_walk_from(
     let walked = expected.map_err(|refusal| refusal.to_string())?;
     tally.walks += 1;
     tally.answers += walked.answers.len() as u64;
-    tally.marks += walked.answers.iter().filter(|&&answer| answer >= UNKNOWN_MOVE).count() as u64;
+    tally.marks += walked.answers.iter().filter(|&&answer| is_mark(answer)).count() as u64;
     compare(&before, after, &walked, &needed)?;
     tally.hollow.starts[usize::from(way == Way::Coarse)] += u64::from(walked.hollow[0]);
     count_hollow(way, &walked, tally);
+    tally.dead.starts[place_of(way)] += u64::from(walked.empty[0]);
+    count_dead(&frame, way, &walked, tally);
     count_summary(&frame, &walked, tally);
     if random.once_in(4) {
         test_wrapper_walk(file, way, start, moves, &walked, &needed)?;
@@ -217,6 +220,38 @@ fn count_window(frame: &Frame, (column, row): (usize, usize), tally: &mut Tally)
     }
     tally.negative += u64::from(window.has_negative_weight());
     tally.unsteady += u64::from(!window.steady());
+    let k = &frame.settings;
+    let whole = reach(column, k.radius, k.width).count() * reach(row, k.radius, k.height).count();
+    if window.pixels.len() < whole {
+        tally.dead.hollow += u64::from(window.hollow());
+        tally.dead.unsteady += u64::from(!window.steady());
+    }
+}
+
+/// A way's place among four counts.
+fn place_of(way: Way) -> usize {
+    way.number() as usize - 1
+}
+
+fn count_dead(frame: &Frame, way: Way, walked: &calls::Walked, tally: &mut Tally) {
+    let (tally, place) = (&mut tally.dead, place_of(way));
+    let empty = &walked.empty;
+    let moves = |from: bool, to: bool| empty.windows(2).filter(|pair| *pair == [from, to]).count() as u64;
+    let dead = walked.visited.iter().filter(|&&(column, row)| frame.level(column, row).is_none()).count() as u64;
+    let without = empty.iter().filter(|&&empty| empty).count() as u64;
+    tally.empty[place] += without;
+    // The centre of an empty window is dead too.
+    tally.centres[place] += dead - without;
+    tally.ends[place] += u64::from(empty[empty.len() - 1]);
+    tally.entered[place] += moves(false, true);
+    tally.left[place] += moves(true, false);
+    if way == Way::Columns {
+        let (column, row) = walked.visited[walked.visited.len() - 1];
+        let k = &frame.settings;
+        let columns = reach(column, k.radius, k.width);
+        let beside = |t: usize| (0..usize::from(k.width)).any(|s| !columns.contains(&s) && frame.level(s, t).is_none());
+        tally.beside += u64::from(reach(row, k.radius, k.height).any(beside));
+    }
 }
 
 fn count_hollow(way: Way, walked: &calls::Walked, tally: &mut Tally) {
@@ -256,6 +291,7 @@ fn test_filter(
     tally.filters += 1;
     tally.answers += walked.answers.len() as u64;
     count_hollow(way, &walked, tally);
+    count_dead(frame, way, &walked, tally);
     if random.once_in(4) {
         test_wrapper_filter(file, way, &walked)?;
     }
@@ -294,6 +330,8 @@ fn test_wrapper_walk(
 fn test_wrapper_filter(file: &[u8], way: Way, expected: &calls::Walked) -> Check {
     let filtered = icemedian::filter(file, wrapper_way(way)).map_err(|refusal| refusal.to_string())?;
     same("wrapper's levels", &filtered.levels, &expected.answers)?;
+    let readings: Vec<u16> = filtered.readings().map(|level| level.unwrap_or(NO_READING)).collect();
+    same("wrapper's readings", &readings, &expected.answers)?;
     same("wrapper's shifts", &filtered.shifts, &expected.shifts)
 }
 
@@ -326,6 +364,8 @@ pub fn try_balance(file: &[u8], place: (usize, usize), level: u32, tally: &mut T
     let expected = calls::balance(file, place, level);
     tally.balances += 1;
     let frame = open(file).map_err(|refusal| refusal.to_string())?;
-    tally.hollow.balances += u64::from(Window::at(&frame, place.0, place.1).hollow());
+    let window = Window::at(&frame, place.0, place.1);
+    tally.hollow.balances += u64::from(window.hollow());
+    tally.dead.balances += u64::from(window.empty());
     library::compare_balance("balance", library::balance(file, place, level), &expected)
 }

@@ -1,6 +1,7 @@
 //! Small frames in which hollow windows lie beside others: every window as a walk's only one, walks from every window
 //! and through all of them, and balances at every level that tells two answers apart.
 
+use crate::dead::levels_about;
 use crate::frames::{place, test_accepted, test_walk_from, try_balance};
 use crate::tally::Tally;
 use crate::Check;
@@ -49,10 +50,7 @@ pub fn file(random: &mut Random, settings: &Settings) -> Result<(Vec<u8>, Vec<u1
 fn test_frame(random: &mut Random, settings: &Settings, tally: &mut Tally) -> Check {
     let (file, values) = file(random, settings)?;
     test_accepted(random, &file, tally)?;
-    // Balances change at the levels that occur and nowhere else.
-    let mut levels: Vec<u16> = values.iter().flat_map(|&value| [value.saturating_sub(1), value]).collect();
-    levels.sort_unstable();
-    levels.dedup();
+    let levels = levels_about(&values, settings);
     for pixel in 0..settings.pixels() {
         let place = place(settings, pixel);
         for way in [Way::Joint, Way::Coarse] {

@@ -7,6 +7,7 @@
 
 mod buffers;
 mod damaged;
+mod dead;
 mod explain;
 mod frames;
 mod hollow;
@@ -94,6 +95,10 @@ fn run(options: &Options) -> Result<Tally, String> {
     failures.extend(heavy.err().map(|message| format!("heavy tables written: {message}")));
     let hollow = hollow::test(&mut Random::new(options.seed), &mut tally);
     failures.extend(hollow.err().map(|message| format!("hollow windows: {message}")));
+    let dead = dead::test(&mut Random::new(options.seed), &mut tally);
+    failures.extend(dead.err().map(|message| format!("dead pixels: {message}")));
+    let dead = writing::test_dead(&mut Random::new(options.seed), &mut tally);
+    failures.extend(dead.err().map(|message| format!("dead pixels written: {message}")));
     let lonely = explain::test_lonely(&mut Random::new(options.seed), &mut tally);
     failures.extend(lonely.err().map(|message| format!("lonely guides: {message}")));
     let blocks = frames::test_blocks(&mut Random::new(options.seed), &mut tally);

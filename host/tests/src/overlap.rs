@@ -1,7 +1,7 @@
 //! Frames whose planes overlap. They are the largest that the program takes: one plane that serves as
 //! values and guides has up to 8,178 pixels in a file of 16,384 bytes.
 
-use sorting_filter::frame::{bytes_of, trailer_bytes, Settings, KIND_GUIDED, KIND_TABLE};
+use sorting_filter::frame::{bytes_of, trailer_bytes, Settings, KIND_GUIDED, KIND_TABLE, NO_READING, TRAILER};
 use sorting_filter::program::{INPUT_MOST, SIDE_MOST};
 use sorting_filter::random::{overlapping_file, Random};
 
@@ -51,7 +51,7 @@ pub fn accepted(random: &mut Random) -> Vec<Vec<u8>> {
 
 /// Inputs for the program: the accepted files, the longest texts, and files that it refuses.
 pub fn inputs(random: &mut Random) -> Vec<Vec<u8>> {
-    [accepted(random), longest_texts(random), refused(random)].concat()
+    [accepted(random), longest_texts(random), dead_texts(random), refused(random)].concat()
 }
 
 fn longest_texts(random: &mut Random) -> Vec<Vec<u8>> {
@@ -59,6 +59,20 @@ fn longest_texts(random: &mut Random) -> Vec<Vec<u8>> {
     let mut file = |(size, kind, radius)| {
         let settings = settings(size, kind, radius);
         one_plane(&settings, &two_digits(random, &settings))
+    };
+    frames.into_iter().map(&mut file).collect()
+}
+
+/// Dead pixels whose windows are themselves alone: six bytes of text for each, but their own bytes are no guide's, so
+/// that a text with them is no longer. All pixels are dead, or those whose bytes are their own.
+fn dead_texts(random: &mut Random) -> Vec<Vec<u8>> {
+    let frames = [((29, 141), KIND_GUIDED), ((47, 87), KIND_TABLE), ((29, 200), KIND_GUIDED), ((50, 100), KIND_TABLE)];
+    let mut file = |(size, kind)| {
+        let settings = settings(size, kind, 0);
+        let dead = (INPUT_MOST - TRAILER) / 2 - settings.pixels();
+        let numbers = [vec![NO_READING; dead], two_digits(random, &settings)].concat();
+        let trailer = trailer_bytes(&settings, [2 * numbers.len(), 2 * settings.pixels(), 0]);
+        [bytes_of(&numbers), trailer].concat()
     };
     frames.into_iter().map(&mut file).collect()
 }

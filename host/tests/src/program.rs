@@ -1,8 +1,8 @@
 //! The program: what it prints for frames, damaged frames, planes that overlap and endless input.
 
 use crate::tally::Tally;
-use crate::{hollow, overlap, same, Check};
-use sorting_filter::frame::{open, Settings, KIND_TABLE};
+use crate::{dead, hollow, overlap, same, Check};
+use sorting_filter::frame::{open, Settings, KIND_GUIDED, KIND_TABLE};
 use sorting_filter::program::{printed, INPUT_MOST};
 use sorting_filter::random::{accepted_file_of, damage, settings, Random};
 use sorting_filter::walk::filter;
@@ -79,16 +79,25 @@ fn has_hollow(input: &[u8], text: &str) -> bool {
     frame.is_some_and(|frame| filter(&frame).1.hollow.contains(&true))
 }
 
-/// The input of a run: chosen with hollow windows at every fourth, else at random.
+/// Whether the program prints no reading for a pixel.
+fn has_no_reading(text: &str) -> bool {
+    !text.starts_with("refused") && text.split_whitespace().any(|word| word == "65535")
+}
+
+/// The input of a run: chosen with hollow windows at every fourth, with dead pixels at every fourth, else at random.
 fn input_of(random: &mut Random, run: u64) -> Result<Vec<u8>, String> {
-    if run % 4 > 0 {
+    if run % 4 > 1 {
         return Ok(random_input(random));
     }
     let (width, height) = (random.within(1, 12), random.within(1, 12));
     let (levels, guides) = (random.within(2, 64), random.within(2, 64));
     let radius = random.within(0, 3) as u8;
     let settings = Settings { width, height, levels, guides, kind: KIND_TABLE, radius, smoothing: 0 };
-    Ok(hollow::file(random, &settings)?.0)
+    if run % 4 == 0 {
+        return Ok(hollow::file(random, &settings)?.0);
+    }
+    let settings = random.pick(&[settings, Settings { kind: KIND_GUIDED, smoothing: 1, ..settings }]);
+    Ok(dead::file(random, &settings)?.0)
 }
 
 /// Runs the program on random inputs, on planes that overlap, on no input, and on one that has no end.
@@ -101,6 +110,7 @@ pub fn test(path: &str, runs: u64, seed: u64, tally: &mut Tally) -> Check {
         same(&what, &output_of(path, once(&input))?, &expected)?;
         tally.programs += 1;
         tally.hollow.programs += u64::from(has_hollow(&input, &expected));
+        tally.dead.programs += u64::from(has_no_reading(&expected));
     }
     for (number, input) in overlap::inputs(&mut random).iter().enumerate() {
         let what = format!("the program, planes that overlap, input {number}");

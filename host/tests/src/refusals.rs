@@ -5,7 +5,7 @@ use crate::library::{self, Status};
 use crate::tally::Tally;
 use crate::{same, Check};
 use sorting_filter::calls::{self, MOVES_MOST};
-use sorting_filter::frame::{open, Frame};
+use sorting_filter::frame::{number16, open, Frame};
 use sorting_filter::random::{damage, moves, start, Random};
 use sorting_filter::refusal::Refusal;
 use sorting_filter::store::{Lengths, Way};
@@ -106,7 +106,11 @@ pub fn test_damaged(random: &mut Random, file: &[u8], tally: &mut Tally) -> Chec
         attempt.spoil(random, &frame, own_check);
     }
     damage(random, &mut damaged, number);
-    same("check of a damaged file", &library::check(&damaged), &Status::of(&open(&damaged)))?;
+    let opened = open(&damaged);
+    if let Err(Refusal { number: 7, offset }) = opened {
+        tally.dead.count_refused(number16(&damaged, offset));
+    }
+    same("check of a damaged file", &library::check(&damaged), &Status::of(&opened))?;
     test_wrapper(&damaged, number)?;
     try_walk(random, &damaged, &attempt, number, tally)?;
     try_filter(random, &damaged, &attempt, tally)?;

@@ -1,6 +1,7 @@
 //! Counts of what a run covered, so that a run which tests nothing is seen.
 
 use sorting_filter::explain::{Cause, Explanation};
+use sorting_filter::frame::{Frame, KIND_GUIDED, NO_READING};
 use std::fmt;
 
 /// The greatest sum of weights of a window by a table: 961 pixels of the largest weight.
@@ -51,11 +52,62 @@ impl Hollow {
     }
 }
 
+/// Dead pixels, and windows in which all are; by way where there are four counts.
+#[derive(Default)]
+pub struct Dead {
+    /// Accepted frames of each kind with dead pixels and readings, and with dead pixels only.
+    pub some: [u64; 2],
+    pub all: [u64; 2],
+    /// Windows of walks and filters whose centre is dead though they have a reading.
+    pub centres: [u64; 4],
+    /// Windows without a reading.
+    pub empty: [u64; 4],
+    /// Walks that start in one.
+    pub starts: [u64; 4],
+    /// Walks and filters that end in one.
+    pub ends: [u64; 4],
+    /// Moves into one from a window with a reading, and out of one into such a window.
+    pub entered: [u64; 4],
+    pub left: [u64; 4],
+    /// Start windows with a dead pixel that are hollow, and that are not steady.
+    pub hollow: u64,
+    pub unsteady: u64,
+    /// Walks and filters by way 2 that end with a dead pixel in a column beside the window.
+    pub beside: u64,
+    /// Balances of windows without a reading.
+    pub balances: u64,
+    pub written: u64,
+    /// Files refused with 7 for 65,534, and for 65,535, which is wrong as a guide.
+    pub refused: [u64; 2],
+    /// Inputs of the program for which it prints no reading.
+    pub programs: u64,
+}
+
+impl Dead {
+    pub fn count_frame(&mut self, frame: &Frame) {
+        let kind = usize::from(frame.settings.kind == KIND_GUIDED);
+        let dead = frame.values.iter().filter(|&&value| value == NO_READING).count();
+        self.some[kind] += u64::from((1..frame.values.len()).contains(&dead));
+        self.all[kind] += u64::from(dead == frame.values.len());
+    }
+
+    pub fn count_refused(&mut self, number: u16) {
+        self.refused[0] += u64::from(number == NO_READING - 1);
+        self.refused[1] += u64::from(number == NO_READING);
+    }
+
+    fn counts(&self) -> Vec<u64> {
+        let by_way = [self.centres, self.empty, self.starts, self.ends, self.entered, self.left].concat();
+        let by_kind = [self.some, self.all, self.refused].concat();
+        [by_way, by_kind, vec![self.hollow, self.unsteady, self.beside, self.balances, self.written]].concat()
+    }
+}
+
 /// Explanations.
 #[derive(Default)]
 pub struct Explained {
     /// By cause, in the order of [`Cause::ALL`].
-    pub causes: [u64; 4],
+    pub causes: [u64; 5],
     /// Of level 0, below which there is none.
     pub lowest: u64,
     /// Where the levels below weigh less than 0.
@@ -99,6 +151,7 @@ pub struct Tally {
     pub answers: u64,
     pub marks: u64,
     pub hollow: Hollow,
+    pub dead: Dead,
     pub negative: u64,
     pub unsteady: u64,
     pub balances: u64,
@@ -125,18 +178,50 @@ impl Tally {
         }
         let Overlapping { same_start, even_apart, odd_apart } = self.overlapping;
         let windows = [self.listed, self.damaged, self.marks, self.negative, self.unsteady];
-        let (hollow, explained) = (self.hollow.counts(), self.explained.counts());
+        let (hollow, dead, explained) = (self.hollow.counts(), self.dead.counts(), self.explained.counts());
         // Without a program none is counted.
-        let programs = [u64::from(self.programs == 0 || self.hollow.programs > 0)];
+        let programs = [self.hollow.programs, self.dead.programs].map(|met| u64::from(self.programs == 0 || met > 0));
         let frames = [self.frames[0], self.frames[1], same_start, even_apart, odd_apart];
         let Coarse { walks, one_block, short_block, negative } = self.coarse;
         let coarse = [walks - one_block, walks - short_block, one_block, short_block, negative];
         let tables = [self.heavy_tables, self.damaged_tables, u64::from(self.heaviest == HEAVIEST)];
-        let all = [&self.refusals[1..], &windows, &hollow, &explained, &programs, &coarse, &frames, &tables];
+        let all = [&self.refusals[1..], &windows, &hollow, &dead, &explained, &programs, &coarse, &frames, &tables];
         if all.iter().any(|counts| counts.contains(&0)) {
             return Some(format!("the run left something untried:\n{self}"));
         }
         None
+    }
+}
+
+impl Tally {
+    fn write_dead(&self, f: &mut fmt::Formatter<'_>) -> fmt::Result {
+        let Dead { some, all, centres, empty, starts, ends, entered, left, .. } = &self.dead;
+        let Dead { hollow, unsteady, beside, refused, .. } = &self.dead;
+        writeln!(
+            f,
+            "frames with dead pixels: {} of kind 1, {} of kind 2; with none else: {} and {}",
+            some[0], some[1], all[0], all[1]
+        )?;
+        for place in 0..4 {
+            writeln!(
+                f,
+                "windows without a reading by way {}: {} ({} starts, {} ends, {} entered from another window, {} left for \
+                 one); dead centres of others: {}",
+                place + 1,
+                empty[place],
+                starts[place],
+                ends[place],
+                entered[place],
+                left[place],
+                centres[place]
+            )?;
+        }
+        writeln!(
+            f,
+            "start windows with a dead pixel: {hollow} hollow, {unsteady} not steady; dead pixels beside the window by way 2: \
+             {beside}; files refused for 65534: {}, for a guide of 65535: {}",
+            refused[0], refused[1]
+        )
     }
 }
 
@@ -175,6 +260,7 @@ impl fmt::Display for Tally {
                 windows[place], starts[place], ends[place], entered[place], left[place]
             )?;
         }
+        self.write_dead(f)?;
         writeln!(
             f,
             "walks: {} ({} of the list), filters: {}, answers: {} ({} marks)",
@@ -187,13 +273,14 @@ impl fmt::Display for Tally {
         )?;
         writeln!(
             f,
-            "balances: {} ({} of hollow windows), frames written: {}",
-            self.balances, self.hollow.balances, self.written
+            "balances: {} ({} of hollow windows, {} of windows without a reading), frames written: {} ({} with dead pixels)",
+            self.balances, self.hollow.balances, self.dead.balances, self.written, self.dead.written
         )?;
-        let Explained { causes: [ordinary, hollow, at_zero, at_last], lowest, negative, above } = self.explained;
+        let Explained { causes: [ordinary, hollow, at_zero, at_last, empty], lowest, negative, above } = self.explained;
         writeln!(
             f,
-            "explanations: {ordinary} ordinary, {hollow} hollow, {at_zero} negative at guide 0, {at_last} at the last"
+            "explanations: {ordinary} ordinary, {hollow} hollow, {at_zero} negative at guide 0, {at_last} at the last, \
+             {empty} empty"
         )?;
         writeln!(
             f,
@@ -207,8 +294,9 @@ impl fmt::Display for Tally {
         write!(f, "\nrefused calls with chosen numbers wider than a frame's: {}", self.wide)?;
         write!(
             f,
-            "\nprogram runs: {} ({} with hollow windows, {} chosen with planes that overlap, the longest text {} bytes)",
-            self.programs, self.hollow.programs, self.overlapping_inputs, self.longest_text
+            "\nprogram runs: {} ({} with hollow windows, {} that print no reading, {} chosen with planes that overlap, the \
+             longest text {} bytes)",
+            self.programs, self.hollow.programs, self.dead.programs, self.overlapping_inputs, self.longest_text
         )?;
         write!(f, "\nno difference")
     }

@@ -4,7 +4,7 @@ use crate::library::{self, Status};
 use crate::refusals::count;
 use crate::tally::Tally;
 use crate::{same, Check};
-use sorting_filter::frame::{open, Asked, Frame, Settings, KIND_TABLE};
+use sorting_filter::frame::{open, Asked, Frame, Settings, KIND_TABLE, NO_READING};
 use sorting_filter::random::Random;
 use sorting_filter::writer;
 
@@ -37,6 +37,33 @@ pub fn test_heavy(random: &mut Random, tally: &mut Tally) -> Check {
     Ok(())
 }
 
+/// Dead pixels at each place, alone and all: each is accepted and read back. Other numbers that are no level are
+/// refused, as is 65,535 for a guide.
+pub fn test_dead(random: &mut Random, tally: &mut Tally) -> Check {
+    let settings = Settings { width: 5, height: 1, levels: 8, guides: 2, kind: KIND_TABLE, radius: 1, smoothing: 0 };
+    let asked = settings.asked();
+    let right = Frame { settings, values: vec![2, 6, 0, 7, 3], guides: vec![0, 1, 1, 0, 1], table: vec![] };
+    for pixel in 0..settings.pixels() {
+        let mut frame = right.clone();
+        frame.values[pixel] = NO_READING;
+        test_round_trip(random, &frame, tally)?;
+        for value in [settings.levels, 1_024, 32_767, 65_279, 65_533, 65_534] {
+            frame.values[pixel] = value;
+            same(&format!("value {value} written"), &try_write(random, &asked, &frame, 0, tally)?, &None)?;
+        }
+        frame.values.fill(NO_READING);
+        frame.guides[pixel] = NO_READING;
+        same("guide 65535 written", &try_write(random, &asked, &frame, 0, tally)?, &None)?;
+    }
+    test_round_trip(random, &Frame { values: vec![NO_READING; settings.pixels()], ..right }, tally)
+}
+
+fn test_round_trip(random: &mut Random, frame: &Frame, tally: &mut Tally) -> Check {
+    let written = try_write(random, &frame.settings.asked(), frame, 0, tally)?.ok_or("a dead pixel refused")?;
+    same("dead pixels read back", &open(&written), &Ok(frame.clone()))?;
+    same("check of dead pixels", &library::check(&written), &Status::ACCEPTED)
+}
+
 /// Writes with an output longer than needed, or `missing` bytes too short; the file if there is one.
 fn try_write(
     random: &mut Random,
@@ -57,6 +84,7 @@ fn try_write(
     if let Ok(file) = &expected {
         whole[..file.len()].copy_from_slice(file);
         tally.written += 1;
+        tally.dead.written += u64::from(values.contains(&NO_READING));
     }
     if after != whole {
         return Err("written bytes differ".to_string());
@@ -93,13 +121,13 @@ fn lengthen_or_cut(random: &mut Random, part: &mut Vec<u16>) {
     }
 }
 
-/// A number too large in a plane or in both, and any numbers in the table.
+/// A number too large in a plane or in both, or a dead pixel, and any numbers in the table.
 fn spoil_contents(random: &mut Random, frame: &mut Frame) {
     let bounds = [frame.settings.levels, frame.settings.guides];
     for (plane, bound) in [&mut frame.values, &mut frame.guides].into_iter().zip(bounds) {
         if !plane.is_empty() && random.once_in(2) {
             let place = random.below(plane.len());
-            plane[place] = random.pick(&[bound, 65_535]);
+            plane[place] = random.pick(&[bound, 65_533, 65_534, 65_535]);
         }
     }
     frame.table.fill_with(|| random.bits() as u16);

@@ -2,7 +2,7 @@
 //! which no check refuses for what it holds.
 
 use super::Random;
-use crate::frame::{locate, Places, Settings, KIND_GUIDED, TRAILER};
+use crate::frame::{locate, Places, Settings, KIND_GUIDED, NO_READING, TRAILER};
 
 /// Makes check `number` fire on a file that no check from 1 to `number` refuses. To damage a file
 /// twice, damage it for the later check first.
@@ -89,9 +89,11 @@ fn damage_distances(random: &mut Random, file: &mut [u8]) {
 
 fn damage_contents(random: &mut Random, file: &mut [u8]) {
     let (settings, places) = located(file);
-    let (place, most) = random.pick(&[(places.values, settings.levels - 1), (places.guides, settings.guides - 1)]);
+    // A value of 65,535 is no reading, a guide of it is wrong.
+    let planes = [(places.values, settings.levels, NO_READING - 1), (places.guides, settings.guides, u16::MAX)];
+    let (place, least, most) = random.pick(&planes);
     let offset = place + 2 * random.below(settings.pixels());
-    let number = random.ranged(&[(most + 1, most + 1), (most + 1, 65_535), (65_535, 65_535)]);
+    let number = random.ranged(&[(least, least), (least, most), (most, most)]);
     file[offset..offset + 2].copy_from_slice(&number.to_be_bytes());
 }
 
@@ -119,7 +121,7 @@ pub fn damage_table(random: &mut Random, file: &mut [u8]) -> bool {
 mod tests {
     use super::super::{accepted_file, Random};
     use super::{damage, damage_table};
-    use crate::frame::{locate, open};
+    use crate::frame::{locate, open, NO_READING};
 
     #[test]
     fn random_files_are_accepted() {
@@ -127,6 +129,20 @@ mod tests {
         for _ in 0..2_000 {
             open(&accepted_file(&mut random, 12)).expect("an accepted frame");
         }
+    }
+
+    #[test]
+    fn random_files_have_dead_pixels_from_none_to_all() {
+        let mut random = Random::new(5);
+        let (mut none, mut some, mut all) = (0, 0, 0);
+        for _ in 0..2_000 {
+            let frame = open(&accepted_file(&mut random, 12)).unwrap();
+            let dead = frame.values.iter().filter(|&&value| value == NO_READING).count();
+            none += u32::from(dead == 0);
+            some += u32::from((1..frame.values.len()).contains(&dead));
+            all += u32::from(dead == frame.values.len());
+        }
+        assert!(none > 500 && some > 500 && all > 50, "{none} {some} {all}");
     }
 
     #[test]

@@ -1,7 +1,7 @@
 //! Files of accepted frames, their parts laid out in every way that document 01 allows.
 
-use super::{random_classes, random_guides, random_table, random_values, Random};
-use crate::frame::{bytes_of, number16, trailer_bytes, Settings, KIND_GUIDED, KIND_TABLE};
+use super::{random_classes, random_dead, random_guides, random_table, random_values, Random};
+use crate::frame::{bytes_of, number16, trailer_bytes, Settings, KIND_GUIDED, KIND_TABLE, NO_READING};
 
 /// Width and height: a rectangle, a single row or column, or smaller than the window.
 fn size(random: &mut Random, side: u16, radius: u8) -> (u16, u16) {
@@ -99,7 +99,8 @@ fn scattered(random: &mut Random, settings: &Settings, parts: [Vec<u8>; 3]) -> V
     closed(body, settings, starts)
 }
 
-/// All parts within one stretch of numbers that are small enough for each, so that they overlap.
+/// All parts within one stretch of numbers that are small enough for each, so that they overlap; now and then with dead
+/// pixels where the value plane has bytes that are no guide's.
 fn shared(random: &mut Random, settings: &Settings, table: usize) -> Vec<u8> {
     let plane = 2 * settings.pixels();
     let length = plane.max(table) + 2 * random.below(settings.pixels() + 1);
@@ -109,33 +110,43 @@ fn shared(random: &mut Random, settings: &Settings, table: usize) -> Vec<u8> {
     let first = body.len();
     body.extend(bytes_of(&numbers));
     let mut place = |part: usize| first + 2 * random.below((length - part) / 2 + 1);
-    let starts = [Some(place(plane)), Some(place(plane)), (table > 0).then(|| place(table))];
+    let (values, guides) = (place(plane), place(plane));
+    let starts = [Some(values), Some(guides), (table > 0).then(|| place(table))];
+    if random.once_in(2) {
+        for (pixel, dead) in random_dead(random, settings).into_iter().enumerate() {
+            let start = values + 2 * pixel;
+            if dead && !(guides..guides + plane).contains(&start) {
+                body[start..start + 2].copy_from_slice(&NO_READING.to_be_bytes());
+            }
+        }
+    }
     closed(body, settings, starts)
 }
 
 /// The file of a random frame whose guide plane begins `shift` bytes after its value plane, or before it.
 ///
 /// Where they overlap a byte serves both planes, and an odd shift makes one's high byte the other's low
-/// byte: numbers that are then too large for their plane are lowered, often to 0.
+/// byte: numbers that are then too large for their plane are lowered, often to 0. The guides come first, since a value
+/// may keep all its bits.
 pub fn overlapping_file(random: &mut Random, settings: &Settings, shift: isize, table: &[u8]) -> Vec<u8> {
     let (values, guides) = (bytes_of(&random_values(random, settings)), bytes_of(&random_guides(random, settings)));
     let (plane, apart) = (values.len(), shift.unsigned_abs());
     let (first, second) = if shift < 0 { (guides, values) } else { (values, guides) };
     let mut body = [&first, &second[plane - apart..]].concat();
     let (value_start, guide_start) = if shift < 0 { (apart, 0) } else { (0, apart) };
-    lower(&mut body[value_start..value_start + plane], settings.levels - 1);
-    lower(&mut body[guide_start..guide_start + plane], settings.guides - 1);
+    lower(&mut body[guide_start..guide_start + plane], |guide| guide < settings.guides);
+    lower(&mut body[value_start..value_start + plane], |value| value < settings.levels || value == NO_READING);
     let table_start = (!table.is_empty()).then_some(body.len());
     body.extend(table);
     closed(body, settings, [Some(value_start), Some(guide_start), table_start])
 }
 
-/// Makes bytes 0 until no number is above `most`. No number grows by that, so that planes which overlap
-/// may be lowered one after the other.
-fn lower(plane: &mut [u8], most: u16) {
+/// Makes bytes 0 until every number is `right`. No number grows by that, so that guides below their count stay below it
+/// when the values are lowered after them.
+fn lower(plane: &mut [u8], right: impl Fn(u16) -> bool) {
     for number in plane.chunks_exact_mut(2) {
         for place in 0..2 {
-            if number16(number, 0) > most {
+            if !right(number16(number, 0)) {
                 number[place] = 0;
             }
         }

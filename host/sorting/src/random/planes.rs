@@ -2,14 +2,45 @@
 //! contents show.
 
 use super::Random;
-use crate::frame::Settings;
+use crate::frame::{Settings, NO_READING};
 
 fn fill(length: usize, mut number: impl FnMut(usize) -> u16) -> Vec<u16> {
     (0..length).map(&mut number).collect()
 }
 
-/// Levels: noise, a few levels only, a slope with outliers, or both ends.
+/// Levels, and in every second plane dead pixels among them.
 pub fn random_values(random: &mut Random, settings: &Settings) -> Vec<u16> {
+    let mut values = random_levels(random, settings);
+    if random.once_in(2) {
+        let dead = random_dead(random, settings);
+        values.iter_mut().zip(dead).filter(|(_, dead)| *dead).for_each(|(value, _)| *value = NO_READING);
+    }
+    values
+}
+
+/// Which pixels are dead: one, a few, half, most, all, all but one, stripes of columns or of rows that are wider or
+/// narrower than a window, or the rows from one on. Stripes leave windows without a reading beside others.
+pub fn random_dead(random: &mut Random, settings: &Settings) -> Vec<bool> {
+    let (pixels, width) = (settings.pixels(), usize::from(settings.width));
+    let one = random.below(pixels);
+    let stripe = 1 + random.below(2 * usize::from(settings.radius) + 4);
+    let (sort, first) = (random.below(9), random.below(2));
+    let mut dead = |pixel: usize| match sort {
+        0 => pixel == one,
+        1 => random.once_in(20),
+        2 => random.once_in(2),
+        3 => !random.once_in(20),
+        4 => true,
+        5 => pixel != one,
+        6 => (pixel % width / stripe + first) % 2 == 0,
+        7 => (pixel / width / stripe + first) % 2 == 0,
+        _ => pixel / width >= one / width,
+    };
+    (0..pixels).map(&mut dead).collect()
+}
+
+/// Levels: noise, a few levels only, a slope with outliers, or both ends.
+fn random_levels(random: &mut Random, settings: &Settings) -> Vec<u16> {
     let (pixels, most) = (settings.pixels(), settings.levels - 1);
     match random.below(4) {
         0 => fill(pixels, |_| random.within(0, most)),
