@@ -153,6 +153,15 @@ class Library {
     void compare(const Walk &yardstick, const char *name) const {
         if (shifts != yardstick.shifts) std::printf("shift counts differ: %s\n", name), std::exit(1);
     }
+    // The same of a filter's plane, which a shift count says nothing of where no window has a reading.
+    void compare_plane(const Walk &yardstick, const char *name) const {
+        const size_t width = size_t(k.width);
+        for (size_t p = 0; p < yardstick.answers.size(); p++) {
+            size_t row = p / width, column = p % width, turn = row % 2 ? width - 1 - column : column;
+            if (output[p] != yardstick.answers[row * width + turn])
+                std::printf("answers differ: %s, pixel %zu\n", name, p), std::exit(1);
+        }
+    }
     // The bytes of the stores that the way needs.
     size_t store_bytes() const {
         return counts.size() * sizeof counts[0] + words.size() * sizeof words[0] + numbers.size() * sizeof numbers[0] +

@@ -1,5 +1,5 @@
-// Frames for the benchmark: an ice sheet, plain noise and resurfaced strips, and their files as document 01 has
-// them.
+// Frames for the benchmark: an ice sheet, plain noise and resurfaced strips, with dead pixels or without, and their files
+// as document 01 has them.
 #pragma once
 #include <algorithm>
 #include <cmath>
@@ -23,6 +23,9 @@ struct Plane {
 };
 
 enum Kind { TABLE = 1, GUIDED = 2 };
+
+// A value that is no reading, and the answer of a window without any.
+inline constexpr uint32_t NO_READING = 65535;
 
 struct Settings {
     int width, height, levels, guides;
@@ -53,6 +56,12 @@ struct Frame : Settings {
     }
 
     size_t pixels() const { return size_t(width) * height; }
+    bool live(size_t pixel) const { return values[pixel] != NO_READING; }
+    size_t dead_pixels() const {
+        size_t dead = 0;
+        for (size_t p = 0; p < pixels(); p++) dead += !live(p);
+        return dead;
+    }
     size_t at(int column, int row) const { return size_t(row) * width + column; }
     // A pixel from parts of the level range and of the guide range; what is outside is at their ends.
     void set(int column, int row, double warmth, double brightness) {
@@ -152,6 +161,13 @@ inline Frame strips(const Settings &settings, int columns, uint64_t seed = 1) {
             frame.set(x, y, warmth, brightness);
         }
     return frame;
+}
+
+// Makes so many pixels of a hundred dead, by chance.
+inline void kill(Frame &frame, uint32_t percent, uint64_t seed = 1) {
+    Random random{seed * 15485863 + 99};
+    for (size_t p = 0; p < frame.pixels(); p++)
+        if (random.below(100) < percent) frame.values.set(p, NO_READING);
 }
 
 // What the frames show.

@@ -1,5 +1,6 @@
 // The goals, each held against the times of the run.
 #pragma once
+#include "dead.hpp"
 #include "explaining.hpp"
 #include "rows.hpp"
 #include "text.hpp"
@@ -57,7 +58,19 @@ inline Goal longest(const Explained &all) {
     return goal;
 }
 
-inline std::vector<Goal> goals_of(const Rows &rows, const Explained &explained, const Written &written) {
+// Frames of dead pixels only beside ordinary ones, and the C++ beside the library where some are dead.
+inline void add_dead_goals(const AllDead &all, std::vector<Goal> &goals) {
+    for (int c = 0; c < CONTESTS; c++)
+        goals.push_back({std::string("library's time, dead pixels only / none, ") + NAMES[c], Goal::AT_MOST, 1.0,
+                         mean_dead(all, c, [](const Dead &one) { return one.over_ordinary(LAST_PART); })});
+    for (int c = 0; c < CONTESTS; c++)
+        for (size_t part = 1; part < LAST_PART; part++)
+            goals.push_back({std::string("library's time / C++'s, ") + NAMES[c] + ", " + std::to_string(DEAD_PARTS[part]) +
+                                 " % dead pixels",
+                             Goal::AT_MOST, 1.15, mean_dead(all, c, [&](const Dead &one) { return one.over_yardstick(part); })});
+}
+
+inline std::vector<Goal> goals_of(const Rows &rows, const AllDead &dead, const Explained &explained, const Written &written) {
     std::vector<Goal> goals;
     for (Picture picture : {ICE, NOISE})
         goals.push_back({"OpenCV's time / library's, joint, kind 1," + place(picture), Goal::AT_LEAST,
@@ -79,15 +92,16 @@ inline std::vector<Goal> goals_of(const Rows &rows, const Explained &explained, 
     for (int c = 0; c < CONTESTS; c++)
         goals.push_back({std::string("library's time at r 15 / at r 3, ") + NAMES[c] + "," + place(ICE), Goal::AT_MOST,
                          growth[c], growth_in_radius(on(ICE, rows), library(c))});
+    add_dead_goals(dead, goals);
     goals.push_back(longest(explained));
     for (const Writing &one : written)
         goals.push_back({std::string("writing's time / plain loops', ") + one.weights, Goal::AT_MOST, 1.5, one.times()});
     return goals;
 }
 
-inline void print_goals(const Rows &rows, const Explained &explained, const Written &written) {
+inline void print_goals(const Rows &rows, const AllDead &dead, const Explained &explained, const Written &written) {
     std::printf("\n## Goals\n\nGeometric means over the frames of this run.\n\n| goal | seen | |\n|---|---|---|\n");
-    for (const Goal &goal : goals_of(rows, explained, written)) goal.print();
+    for (const Goal &goal : goals_of(rows, dead, explained, written)) goal.print();
 }
 
 }  // namespace bench

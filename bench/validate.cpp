@@ -1,5 +1,6 @@
-// Holds the yardstick's four ways against its sorting filter on random frames and walks of both kinds:
-// answers, shift counts and stores. Prints how many windows were hollow, negative, not steady and heavy.
+// Holds the yardstick's four ways against its sorting filter on random frames and walks of both kinds, with dead pixels
+// from none to all: answers, shift counts and stores. Prints how many windows were hollow, negative, not steady, heavy,
+// without a reading, and around a dead centre.
 #include "yardstick.hpp"
 #include <cstdio>
 
@@ -7,7 +8,7 @@ using namespace bench;
 
 static long differences = 0;
 static struct {
-    long windows, hollow, negative, unsteady, heavy;
+    long windows, hollow, negative, unsteady, heavy, empty, dead_centre;
 } met;
 
 static void expect(bool fact, const char *what, int frame) {
@@ -24,7 +25,7 @@ template <bool BY_BLOCKS> static bool holds(const JointStore<BY_BLOCKS> &joint, 
     std::vector<uint16_t> counts(joint.counts.size());
     std::vector<uint64_t> words(joint.words.size());
     std::vector<int16_t> box(256);
-    each_pixel(frame, window_at(frame, column, row), [&](size_t p) {
+    each_live(frame, window_at(frame, column, row), [&](size_t p) {
         uint32_t level = frame.values[p], g = frame.guide[p];
         counts[size_t(level) * frame.guides + g]++;
         words[level * joint.words_per_level + g / 64] |= uint64_t(1) << (g % 64);
@@ -50,6 +51,7 @@ static bool holds(const Columns &columns, const Frame &frame, int column, int ro
     for (int t = w.top; t <= w.bottom; t++)
         for (int s = 0; s < frame.width; s++) {
             uint32_t level = frame.values[frame.at(s, t)], g = frame.guide[frame.at(s, t)];
+            if (level == NO_READING) continue;
             store[size_t(s) * frame.levels + level]++;
             store[all + size_t(s) * frame.levels + level] += g;
             if (s < w.left || s > w.right) continue;
@@ -61,7 +63,7 @@ static bool holds(const Columns &columns, const Frame &frame, int column, int ro
 
 static bool holds(const Chain &chain, const Frame &frame, int column, int row) {
     std::vector<uint32_t> counts(frame.levels), sums(frame.levels);
-    each_pixel(frame, window_at(frame, column, row), [&](size_t p) {
+    each_live(frame, window_at(frame, column, row), [&](size_t p) {
         counts[frame.values[p]]++;
         sums[frame.values[p]] += frame.guide[p];
     });
@@ -81,7 +83,8 @@ static void count_windows(const Frame &frame) {
     for (int row = 0; row < frame.height; row++)
         for (int column = 0; column < frame.width; column++) {
             Answer answer = sorting.answer(column, row);
-            met.windows++, met.hollow += sorting.hollow, met.unsteady += !answer.steady;
+            met.windows++, met.hollow += sorting.hollow, met.unsteady += !answer.steady, met.empty += answer.empty();
+            met.dead_centre += !answer.empty() && !frame.live(frame.at(column, row));
             met.negative += std::any_of(sorting.pixels.begin(), sorting.pixels.end(), [](auto &p) { return p.weight < 0; });
             met.heavy += frame.kind == TABLE &&
                          std::any_of(sorting.pixels.begin(), sorting.pixels.end(), [](auto &p) { return p.weight > 32767; });
@@ -102,6 +105,20 @@ static void random_table(Random &random, Frame &frame, int number) {
     }
 }
 
+// Dead pixels in every second frame: a few, many, all, or stripes of columns or rows, which leave windows without a
+// reading beside others.
+static void kill_some(Random &random, Frame &frame, int number) {
+    static const uint32_t PARTS[] = {2, 50, 95, 100};
+    uint32_t sort = random.below(4);
+    if (sort == 1) kill(frame, PARTS[random.below(4)], uint64_t(number));
+    if (sort != 2) return;
+    int stripe = 1 + int(random.below(uint32_t(2 * frame.radius + 3)));
+    bool columns = random.below(2);
+    for (int row = 0; row < frame.height; row++)
+        for (int column = 0; column < frame.width; column++)
+            if ((columns ? column : row) / stripe % 2) frame.values.set(frame.at(column, row), NO_READING);
+}
+
 static Frame random_frame(Random &random, int number) {
     Settings k;
     k.width = 1 + int(random.below(24)), k.height = 1 + int(random.below(24));
@@ -114,6 +131,7 @@ static Frame random_frame(Random &random, int number) {
     if (number % 49 == 0) k.width = k.height = 33, k.radius = 15;
     Frame frame = noise(k, uint64_t(number) + 1);
     if (k.kind == TABLE && number % 3) random_table(random, frame, number);
+    kill_some(random, frame, number);
     // Lonely guides have windows with negative weights.
     if (number % 11 == 0)
         for (size_t p = 0; p < frame.pixels(); p++) frame.guide.set(p, random.below(6) ? 0 : uint32_t(k.guides - 1));
@@ -152,7 +170,11 @@ int main(int count, char **words) {
         validate<Chain>("chain", number, frame, column, row, moves);
     }
     std::printf("The C++ against a filter that sorts: %d frames, %ld windows (%ld hollow, %ld with a negative weight, "
-                "%ld not steady, %ld with a table's weight above 32,767), %ld differences.\n",
-                frames, met.windows, met.hollow, met.negative, met.unsteady, met.heavy, differences);
-    return differences != 0;
+                "%ld not steady, %ld with a table's weight above 32,767, %ld without a reading, %ld with one around a dead "
+                "centre), %ld differences.\n",
+                frames, met.windows, met.hollow, met.negative, met.unsteady, met.heavy, met.empty, met.dead_centre,
+                differences);
+    bool all_met = met.hollow && met.negative && met.unsteady && met.heavy && met.empty && met.dead_centre;
+    if (!all_met) std::printf("Some sort of window was never met.\n");
+    return differences != 0 || !all_met;
 }

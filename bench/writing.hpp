@@ -5,17 +5,19 @@
 
 namespace bench {
 
-// Whether all numbers of a plane are below a limit: one by one with a way out, as check 7 needs the first that is not;
-// and by their largest, which the compiler makes faster.
-inline bool one_by_one(const std::vector<uint16_t> &plane, int limit) {
+// Whether all numbers of a plane are below a limit, but for 65,535, no reading, among the values: one by one with a way
+// out, as check 7 needs the first that is not; and by their largest, which the compiler makes faster. One more than no
+// reading is 0 in 16 bits.
+template <bool VALUES> bool one_by_one(const std::vector<uint16_t> &plane, int limit) {
     for (uint16_t number : plane)
-        if (number >= limit) return false;
+        if (number >= limit && !(VALUES && number == NO_READING)) return false;
     return true;
 }
-inline bool by_the_largest(const std::vector<uint16_t> &plane, int limit) {
+template <bool VALUES> bool by_the_largest(const std::vector<uint16_t> &plane, int limit) {
+    constexpr int MORE = VALUES ? 1 : 0;
     uint16_t largest = 0;
-    for (uint16_t number : plane) largest = std::max(largest, number);
-    return largest < limit;
+    for (uint16_t number : plane) largest = std::max(largest, uint16_t(number + MORE));
+    return largest < limit + MORE;
 }
 
 inline uint8_t *stored(const std::vector<uint16_t> &from, uint8_t *__restrict__ output) {
@@ -29,8 +31,9 @@ inline uint8_t *stored(const std::vector<uint16_t> &from, uint8_t *__restrict__ 
 
 // A call of its own, as the library's is. Both planes are checked before a byte is stored, because a refusal leaves the
 // output as it was.
-template <auto BELOW> [[gnu::noinline]] bool write_plainly(const Settings &k, const Planes &planes, uint8_t *output) {
-    if (!BELOW(planes.values, k.levels) || !BELOW(planes.guide, k.guides)) return false;
+template <auto VALUES, auto GUIDES>
+[[gnu::noinline]] bool write_plainly(const Settings &k, const Planes &planes, uint8_t *output) {
+    if (!VALUES(planes.values, k.levels) || !GUIDES(planes.guide, k.guides)) return false;
     stored(planes.table, stored(planes.guide, stored(planes.values, output)));
     return true;
 }
@@ -45,9 +48,10 @@ struct Writing {
 using Written = std::vector<Writing>;
 
 // Times all on one frame, in turns of many calls each.
-inline Writing measure_writing(const char *weights, Contest contest, Settings k) {
+inline Writing measure_writing(const char *weights, Contest contest, Settings k, uint32_t dead_percent = 0) {
     k.kind = kind_of(contest);
     Frame frame = ice(k);
+    kill(frame, dead_percent);
     if (contest == JOINT_OWN) frame.own_table();
     Writing times{weights};
     Library library(contest, frame);
@@ -61,8 +65,8 @@ inline Writing measure_writing(const char *weights, Contest contest, Settings k)
         same &= std::equal(plain.begin(), plain.end(), file.begin());
     };
     for (int round = 0; round < ROUNDS; round++) {
-        plain_turn(times.one_by_one, write_plainly<one_by_one>);
-        plain_turn(times.by_the_largest, write_plainly<by_the_largest>);
+        plain_turn(times.one_by_one, write_plainly<one_by_one<true>, one_by_one<false>>);
+        plain_turn(times.by_the_largest, write_plainly<by_the_largest<true>, by_the_largest<false>>);
         if (Library::LINKED) turn(times.library, [&] { library.write(); });
     }
     if (!same || (Library::LINKED && library.last_written() != file))
@@ -72,14 +76,15 @@ inline Writing measure_writing(const char *weights, Contest contest, Settings k)
 
 inline Written measure_all_writing() {
     Settings k{1024, 256, 1024, 256, GUIDED, 7, 64};
-    return {measure_writing("kind 2", JOINT_GUIDED, k), measure_writing("own table", JOINT_OWN, k)};
+    return {measure_writing("kind 2", JOINT_GUIDED, k), measure_writing("own table", JOINT_OWN, k),
+            measure_writing("kind 2, 10 % dead pixels", JOINT_GUIDED, k, 10)};
 }
 
 inline void print_writing(const Written &all) {
     std::printf("\n## Writing a frame beside plain loops\n\n"
                 "Nanoseconds a pixel, 1024x256 ice, 1,024 levels, 256 guides. The plain loops, in C++, check that the numbers of "
-                "both planes are below their limits, one by one or by the largest, and then store planes and table, high byte "
-                "first. The ratio is to the faster of the two.\n\n"
+                "both planes are below their limits, but for values of 65,535, one by one or by the largest, and then store "
+                "planes and table, high byte first. The ratio is to the faster of the two.\n\n"
                 "| weights | library | plain, one by one | plain, by the largest | library / plain |\n|---|---|---|---|---|\n");
     for (const Writing &one : all)
         std::printf("| %s | %s | %s | %s | %s |\n", one.weights, number("%.2f", one.library).c_str(),

@@ -86,7 +86,7 @@ enum { ICEMEDIAN_JOINT = 1, ICEMEDIAN_COLUMNS = 2, ICEMEDIAN_CHAIN = 3, ICEMEDIA
  * count pixels. */
 enum { ICEMEDIAN_TABLE = 1, ICEMEDIAN_GUIDED = 2 };
 
-/* What sort of window icemedian_explain finds; exactly one applies. Hollow: no pixel weighs anything, so that each
+/* What sort of window icemedian_explain finds; exactly one applies. Hollow: no reading weighs anything, so that each
  * counts 1; only a table of the file's own leaves such windows. Negative: kind 2's weight formula is below 0 for
  * guide 0, or for the last guide, never for both; a pixel of such a guide counts against its own level, so that the
  * levels up to one may weigh less than those up to a lower one. Empty: no pixel has a reading; such a window is not

@@ -7,7 +7,7 @@ use mathlib.Core.List.{List}
 use Prim.Native.Nat.{ℕ, _+_, _-_, _*_, _^_, _≤_, _<_}
 use native.Mathlib.Nat.{le-trans}
 use native.Mathlib.Omega.{arith}
-use lib.Dec.{leb}
+use lib.Dec.{leb, eqb}
 use lib.ListN.{getD}
 use lib.IntN.{ℤ, pos, negsuc, natAbs, _+ℤ_, _-ℤ_, _*ℤ_, +ℤ-idr, *ℤ-zero}
 use lib.Signed.{mag}
@@ -23,7 +23,7 @@ use Rattle.spec.specs.declared.Plan.{Plan}
 use Rattle.spec.specs.Base.{if_then_else_}
 use Rattle.spec.specs.Frame.{Frame, level, guide, heaviest, frameOf}
 use Rattle.spec.specs.Checks.{Planned}
-use Rattle.spec.specs.Window.{span, pixelCount, InWindow}
+use Rattle.spec.specs.Window.{span, pixelCount, empty, InWindow}
 use Rattle.spec.specs.Weight.{ownWeight, ownTotal, weightless, weight}
 use Rattle.spec.specs.Median.{balance}
 use Rattle.spec.proofs.Plans.{facts, pixel-of}
@@ -35,6 +35,8 @@ use Rattle.spec.proofs.Levels.{balance-signed}
 use Rattle.spec.proofs.Bounds.{guided-abs}
 use Rattle.window.specs.declared.line.Line.{Line}
 use Rattle.window.specs.Line.{columnLine}
+use Rattle.window.specs.declared.sums.Sums.{Sums}
+use Rattle.window.specs.Sums.{SumsAt}
 use Rattle.window_weights.specs.declared.coefficients.Coefficients.{Coefficients}
 use Rattle.window_weights.specs.Coefficients.{WeighsAt, CoefficientsSmall}
 use Rattle.pixels.specs.Pixels.{countOf, levelIn, guideIn, pixelFoldTo, pixelFold, columnsFold, LinePixels}
@@ -45,6 +47,11 @@ use Rattle.balance.specs.declared.formula.Formula.{Formula}
 use Rattle.balance.specs.Formula.{weightBy, Gives, WeighsOwn, Weighs, Ramp}
 use Rattle.joint_search.specs.Window.{RowGives}
 use Rattle.balance.specs.Balance.{signedBy, balanceBy, PixelsWeighed, Weighed}
+
+-- a window's sums say whether it has a reading
+pub empty-is : {p : Frame} {s t : ℕ} {a : Sums} → SumsAt p s t a → {r : Bool} → r ≡ eqb (a .count) 0 → r ≡ empty p s t
+unfolding empty
+empty-is v e = e ∙ ap (λ (n : ℕ). eqb n 0) (v .count)
 
 side-abs : (c i : ℕ) → natAbs (side c i) ≤ 1
 side-abs c i = ⊎-elim (λ h. rw (side-high c i h) (omega arith)) (λ h. rw (side-low c i h) (omega arith)) (lt-or-le c i)
@@ -170,7 +177,7 @@ module _ {p : Frame} {s t : ℕ} (k : Pixel p s t) {row : List ℕ} {w : Formula
     by-total c e =
         over-inWindow _+ℤ_ (pos 0) intSums p s t _ _
         (λ x y h. ap₂ (λ (u v : ℤ). u *ℤ v)
-        (side-low c (level p x y) (omega (arith, k .good .level-low x y (h .wide) (h .high))))
+        (side-low c (level p x y) (omega (arith, k .good .level-low x y (h .wide) (h .high) (h .read))))
         (sym (g .is (guide p x y) (guide-in k h))) ∙ one-mul (ownWeight p s t (guide p x y)))
 
     pub by-none : p .set .kind ≡ 1 → weightless p s t ≡ true → (c : ℕ) → balanceBy p s t row w c ≡ pos 0

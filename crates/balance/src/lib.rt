@@ -11,21 +11,33 @@ use window::line::column_line;
 use window::line::low;
 use window::line::span_of;
 use window::pixel;
+use window::sums::Sums;
 use window_weights::coefficients;
 ghost use mathlib.Core.Path.{_≡_};
+ghost use mathlib.Core.Bool.{false};
 ghost use Prim.Native.Nat.{_<_, _≤_};
+ghost use lib.Dec.{eqb};
 ghost use lib.IntN.{pos, natAbs, _+ℤ_, _*ℤ_};
 ghost use lib.ListN.{length};
 ghost use Rattle.spec.specs.Frame.{frameOf};
 ghost use Rattle.spec.specs.Checks.{Planned};
+ghost use Rattle.spec.specs.Window.{empty};
 ghost use Rattle.spec.specs.Weight.{weightless};
 ghost use Rattle.spec.specs.Median.{balance};
+ghost use Rattle.window.specs.Sums.{SumsAt};
 ghost use Rattle.pixels.specs.Pixels.{pixelFold};
 ghost use Rattle.joint_pixel.specs.Side.{side};
 ghost use Rattle.joint_search.specs.Window.{RowOwn, RowWeighs};
 ghost use Rattle.joint_rows.specs.Rows.{TableRow};
 ghost use Rattle.balance.specs.Formula.{Weighs};
 ghost use Rattle.balance.specs.Balance.{signedBy, balanceBy, PixelsWeighed, Weighed};
+
+// Whether a window with these sums has no reading (document 02).
+pub fn is_empty(a: Sums) -> bool
+    ensures { λ r. ⌜ r ≡ eqb (a .count) 0 ⌝ }
+{
+    a.count == 0
+}
 
 // A sum with a pixel's weight more, or less where the pixel's level is above the given one.
 pub fn add_signed(sum: i64, weight: i64, level: Level, top: Level) -> i64
@@ -112,10 +124,10 @@ pub fn table_row(file: &[u8], plan: Plan, f: Guide, row: &mut [u16; 256])
 }
 
 // A row of the window's own weights turned into ones where their sum over the window is 0 (document 01: hollow), because each pixel is counted as 1
-// there (document 02); and whether it is. The built-in weights are above 0.
+// there (document 02); and whether it is. There is a reading: without one that sum is 0 too. The built-in weights are above 0.
 pub fn ones_if_hollow(file: &[u8], plan: Plan, s: usize, t: usize, row: &mut [u16; 256]) -> bool
     requires { ⌜ (Planned (now file) plan) × (plan .kind ≡ 1) × (s < plan .width) × (t < plan .height) ⌝ }
-    requires { ⌜ (RowOwn (frameOf (now file)) s t (now row)) × (length (now row) ≡ 256) ⌝ }
+    requires { ⌜ (RowOwn (frameOf (now file)) s t (now row)) × (length (now row) ≡ 256) × (empty (frameOf (now file)) s t ≡ false) ⌝ }
     ensures { λ r. ⌜ (r ≡ weightless (frameOf (now (file .entry))) s t)
         × (RowWeighs (frameOf (now (file .entry))) s t (now (row .exit))) × (length (now (row .exit)) ≡ 256) ⌝ }
 {
@@ -138,6 +150,7 @@ pub fn ones_if_hollow(file: &[u8], plan: Plan, s: usize, t: usize, row: &mut [u1
 // Kind 1. The own weights of a hollow window balance at every level, so that only there the window is looked at once more.
 pub fn table_balance(file: &[u8], plan: Plan, s: usize, t: usize, top: Level) -> i64
     requires { ⌜ (Planned (now file) plan) × (plan .kind ≡ 1) × (s < plan .width) × (t < plan .height) ⌝ }
+    requires { ⌜ empty (frameOf (now file)) s t ≡ false ⌝ }
     ensures { λ r. ⌜ r ≡ balance (frameOf (now (file .entry))) s t (top .0) ⌝ }
 {
     let centre = pixel::guide_at(file, plan, t * plan.width + s);
@@ -157,12 +170,19 @@ pub fn table_balance(file: &[u8], plan: Plan, s: usize, t: usize, top: Level) ->
     own
 }
 
-// Kind 2: the numbers 0 1 2 .. in the row, and the window's two coefficients.
-pub fn guided_formula(file: &[u8], plan: Plan, s: usize, t: usize, row: &mut [u16; 256]) -> Formula
-    requires { ⌜ (Planned (now file) plan) × (plan .kind ≡ 2) × (s < plan .width) × (t < plan .height) × (length (now row) ≡ 256) ⌝ }
+// Kind 2, of the window whose sums are a: the numbers 0 1 2 .. in the row, and the window's two coefficients.
+pub fn guided_formula(
+    file: &[u8],
+    plan: Plan,
+    a: Sums,
+    s: usize,
+    t: usize,
+    row: &mut [u16; 256],
+) -> Formula
+    requires { ⌜ (Planned (now file) plan) × (plan .kind ≡ 2) × (s < plan .width) × (t < plan .height) ⌝ }
+    requires { ⌜ (SumsAt (frameOf (now file)) s t a) × (length (now row) ≡ 256) ⌝ }
     ensures { λ r. ⌜ (Weighs (frameOf (now (file .entry))) s t (now (row .exit)) r) × (length (now (row .exit)) ≡ 256) ⌝ }
 {
-    let a = sums::start(file, plan, s, t);
     let coefficients = coefficients::of_window(file, plan, a, s, t);
     let m = plan.guides;
     formula::ramp(row, m);
@@ -172,22 +192,27 @@ pub fn guided_formula(file: &[u8], plan: Plan, s: usize, t: usize, row: &mut [u1
     }
 }
 
-pub fn guided_balance(file: &[u8], plan: Plan, s: usize, t: usize, top: Level) -> i64
+pub fn guided_balance(file: &[u8], plan: Plan, a: Sums, s: usize, t: usize, top: Level) -> i64
     requires { ⌜ (Planned (now file) plan) × (plan .kind ≡ 2) × (s < plan .width) × (t < plan .height) ⌝ }
+    requires { ⌜ SumsAt (frameOf (now file)) s t a ⌝ }
     ensures { λ r. ⌜ r ≡ balance (frameOf (now (file .entry))) s t (top .0) ⌝ }
 {
     let mut row = [0u16; 256];
-    let w = guided_formula(file, plan, s, t, &mut row);
+    let w = guided_formula(file, plan, a, s, t, &mut row);
     window_balance(file, plan, &row, w, s, t, top)
 }
 
-// The balance of the window at (s, t), at a level.
+// The balance of the window at (s, t), at a level: 0 where it has no reading.
 pub fn balance_at(file: &[u8], plan: Plan, s: usize, t: usize, top: Level) -> i64
     requires { ⌜ (Planned (now file) plan) × (s < plan .width) × (t < plan .height) ⌝ }
     ensures { λ r. ⌜ r ≡ balance (frameOf (now (file .entry))) s t (top .0) ⌝ }
 {
+    let a = sums::start(file, plan, s, t);
+    if is_empty(a) {
+        return 0;
+    }
     if plan.kind == 2 {
-        return guided_balance(file, plan, s, t, top);
+        return guided_balance(file, plan, a, s, t, top);
     }
     table_balance(file, plan, s, t, top)
 }

@@ -1,6 +1,5 @@
 // Numbers of a file, high byte first; an inner layer: the caller has made sure that the bytes are there.
 use spec::Guide;
-use spec::Level;
 ghost use mathlib.Core.Path.{_≡_};
 ghost use Prim.Native.Nat.{_+_, _<_};
 ghost use lib.ListN.{length};
@@ -22,14 +21,7 @@ pub fn be32(b: &[u8], at: usize) -> usize
     (be16(b, at) as usize) * 65536 + (be16(b, at + 2) as usize)
 }
 
-// The level, the guide that begins at a byte.
-pub fn level(b: &[u8], at: usize) -> Level
-    requires { ⌜ at + 1 < length (now b) ⌝ }
-    ensures { λ r. ⌜ r .0 ≡ be16 (now (b .entry)) at ⌝ }
-{
-    Level(be16(b, at))
-}
-
+// The guide that begins at a byte.
 pub fn guide(b: &[u8], at: usize) -> Guide
     requires { ⌜ at + 1 < length (now b) ⌝ }
     ensures { λ r. ⌜ r .0 ≡ be16 (now (b .entry)) at ⌝ }

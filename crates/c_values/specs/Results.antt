@@ -7,9 +7,10 @@ use lib.Dec.{eqb}
 use lib.IntN.{ℤ}
 use Rattle.spec.specs.declared.Grounds.{Grounds}
 use Rattle.spec.specs.declared.Cause.{Cause}
-use Rattle.spec.specs.declared.Cause.the-variants.{Ordinary, Hollow, NegativeAtZero, NegativeAtLast}
+use Rattle.spec.specs.declared.Cause.the-variants.{Ordinary, Hollow, NegativeAtZero, NegativeAtLast, Empty}
 use Rattle.spec.specs.Base.{if_then_else_}
 use Rattle.spec.specs.Refusal.{Outcome, accepted, refused}
+use Rattle.spec.specs.Walk.{answerNumber}
 
 -- 0, or document 01's number
 abbrev pub statusOf : Outcome → ℕ
@@ -43,8 +44,9 @@ causeNumber Ordinary = 1
 causeNumber Hollow = 2
 causeNumber NegativeAtZero = 3
 causeNumber NegativeAtLast = 4
+causeNumber Empty = 5
 
--- its lent results
+-- its lent results; the level is the answer as a number, that of no reading too
 pub record LentGrounds : Type 0 where
   pub pixels : ℕ
   pub total : ℤ
@@ -61,7 +63,7 @@ lentGrounds pixels total level below reached cause =
 pub record GroundsGiven (o : Outcome) (g : Grounds) (before after : LentGrounds) : Type 0 where
   pub pixels : after .pixels ≡ given o (g .pixels) (before .pixels)
   pub total : after .total ≡ given o (g .total) (before .total)
-  pub level : after .level ≡ given o (g .level .0) (before .level)
+  pub level : after .level ≡ given o (answerNumber (g .answer)) (before .level)
   pub below : after .below ≡ given o (g .below) (before .below)
   pub reached : after .reached ≡ given o (g .reached) (before .reached)
   pub cause : after .cause ≡ given o (causeNumber (g .cause)) (before .cause)

@@ -57,6 +57,7 @@ pub fn cause_number(cause: Cause) -> u32
         Cause::Hollow => 2,
         Cause::NegativeAtZero => 3,
         Cause::NegativeAtLast => 4,
+        Cause::Empty => 5,
     }
 }
 
@@ -80,9 +81,10 @@ pub fn give_grounds(
         let less = grounds.below;
         let enough = grounds.reached;
         let why = grounds.cause;
+        let answer = grounds.answer;
         *pixels = grounds.pixels;
         *total = all;
-        *level = grounds.level.0;
+        *level = spec::answer_number(answer);
         *below = less;
         *reached = enough;
         *cause = cause_number(why);

@@ -13,9 +13,10 @@ use lib.ListN.{length, getD, set, length-set}
 use lib.Seq.{getD-set-same, getD-set-other}
 use borrow.Author.Tests.{eq-eqb, ne-eqb}
 use Rattle.spec.specs.Base.{if_then_else_, sum, when}
-use Rattle.spec.specs.Frame.{Frame, level, guide}
+use Rattle.spec.specs.Frame.{Frame, level, dead, guide}
 use Rattle.spec.specs.Window.{span}
 use Rattle.spec.proofs.Ranges.{natSums, fold-parts}
+use Rattle.spec.proofs.Sums.{live-read, live-dead}
 use Rattle.columns.specs.Blocks.{Put, Able, block, atLevel, pixelD, stripD, rowD, Cleared}
 use Rattle.window.proofs.LineLaws.{fold-none, fold-more}
 use Rattle.pixels.specs.Additive.{changed, Fits}
@@ -154,22 +155,40 @@ module _ (p : Frame) (x y : ℕ) where
   unfolding pixelD
   put-pixel add a b q r = put-both add (block a (atLevel p (λ u v. 1) x y)) (block b (atLevel p (guide p) x y)) q r
 
-  full : (f : ℕ → ℕ → ℕ) (a i : ℕ) → i ≡ level p x y → block a (atLevel p f x y) a i ≡ f x y
-  full f a i e = rw (eq-eqb a a refl, eq-eqb (level p x y) i (sym e)) refl
+  -- a dead one is passed over
+  nothing : (f : ℕ → ℕ → ℕ) (a m i : ℕ) → dead p x y ≡ true → block a (atLevel p f x y) m i ≡ 0
+  nothing f a m i r = rw (live-dead 0 p (λ u v. if eqb (level p u v) i then f u v else 0) x y r) (none (eqb m a))
+    where
+      none : (q : Bool) → _≡_ {A = ℕ} (if q then 0 else 0) 0
+      none true = refl
+      none false = refl
 
-  pub asks : (f : ℕ → ℕ → ℕ) (add : Bool) (a i v : ℕ) {l : ℕ} {xs : List ℕ} → i ≡ level p x y → v ≡ f x y → i < l →
-      Able add l (block a (atLevel p f x y)) xs
-      → Fits 4294967296 add (getD xs (a * l + i) 0) v
-  asks f true a i v e d h k = let q = full f a i e in let r = k .room refl a i h in omega arith
-  asks f false a i v e d h k = let q = full f a i e in let r = k .enough refl a i h in omega arith
+  pub put-dead : (add : Bool) (a b l : ℕ) (xs : List ℕ) → dead p x y ≡ true → Put add l (pixelD p a b x y) xs xs
+  unfolding pixelD
+  put-dead add a b l xs r = put-same add (λ m i _. sym (ap₂ _+_ (nothing (λ u v. 1) a m i r) (nothing (guide p) b m i r))) (put-none add l xs)
 
-  pub count-put : (f : ℕ → ℕ → ℕ) (add : Bool) (a i v : ℕ) {l : ℕ} {xs ys : List ℕ} → i ≡ level p x y → v ≡ f x y → i < l → a * l + i < length xs
-      → Able add l (block a (atLevel p f x y)) xs → ys ≡ set xs (a * l + i) (changed add (getD xs (a * l + i) 0) v)
-      → Put add l (block a (atLevel p f x y)) xs ys
-  count-put f add a i v {l} {xs} {ys} e d h s k q =
-      put-same add (λ m j _. ap₂ (λ (c n : ℕ). if eqb m a then (if eqb c j then n else 0) else 0) e d)
-      (subst (λ (ys : List ℕ). Put add l (block a (λ j. if eqb i j then v else 0)) xs ys) (sym q)
-      (put-one add l a i v xs h s (λ t. fits-down 4294967296 add _ v t (asks f add a i v e d h k))))
+  -- one with a reading
+  module _ (r : dead p x y ≡ false) where
+    here : (f : ℕ → ℕ → ℕ) (i : ℕ) → atLevel p f x y i ≡ (if eqb (level p x y) i then f x y else 0)
+    here f i = live-read 0 p (λ u v. if eqb (level p u v) i then f u v else 0) x y r
+
+    full : (f : ℕ → ℕ → ℕ) (a i : ℕ) → i ≡ level p x y → block a (atLevel p f x y) a i ≡ f x y
+    full f a i e = rw (eq-eqb a a refl) (here f i ∙ rw (eq-eqb (level p x y) i (sym e)) refl)
+
+    pub asks : (f : ℕ → ℕ → ℕ) (add : Bool) (a i v : ℕ) {l : ℕ} {xs : List ℕ} → i ≡ level p x y → v ≡ f x y → i < l →
+        Able add l (block a (atLevel p f x y)) xs
+        → Fits 4294967296 add (getD xs (a * l + i) 0) v
+    asks f true a i v e d h k = let q = full f a i e in let r = k .room refl a i h in omega arith
+    asks f false a i v e d h k = let q = full f a i e in let r = k .enough refl a i h in omega arith
+
+    pub count-put : (f : ℕ → ℕ → ℕ) (add : Bool) (a i v : ℕ) {l : ℕ} {xs ys : List ℕ} → i ≡ level p x y → v ≡ f x y → i < l → a * l + i < length xs
+        → Able add l (block a (atLevel p f x y)) xs → ys ≡ set xs (a * l + i) (changed add (getD xs (a * l + i) 0) v)
+        → Put add l (block a (atLevel p f x y)) xs ys
+    count-put f add a i v {l} {xs} {ys} e d h s k q =
+        put-same add
+        (λ m j _. ap (λ (n : ℕ). if eqb m a then n else 0) (ap₂ (λ (c n : ℕ). if eqb c j then n else 0) e d ∙ sym (here f j)))
+        (subst (λ (ys : List ℕ). Put add l (block a (λ j. if eqb i j then v else 0)) xs ys) (sym q)
+        (put-one add l a i v xs h s (λ t. fits-down 4294967296 add _ v t (asks f add a i v e d h k))))
 
 -- ---- a strip, and a row of two strips
 module _ (p : Frame) (add : Bool) (y a b apart first n : ℕ) {l : ℕ} {xs : List ℕ} where

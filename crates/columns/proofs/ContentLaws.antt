@@ -13,8 +13,8 @@ use lib.ListN.{length, getD, set, drop, length-append, length-drop, List·getD-a
 use lib.Seq.{ext-getD, getD-append-add, getD-drop, drop-at}
 use borrow.Author.Tests.{eq-eqb, ne-eqb}
 use Rattle.spec.specs.Base.{if_then_else_, foldRect, sum, tabulate}
-use Rattle.spec.specs.Frame.{Frame, guide}
-use Rattle.spec.specs.Window.{span, over, inRow}
+use Rattle.spec.specs.Frame.{Frame, level, guide}
+use Rattle.spec.specs.Window.{span, over, inColumn, inRow}
 use Rattle.spec.specs.Columns.{columnSum, columnStore}
 use Rattle.spec.specs.Window.{levelSum}
 use Rattle.spec.proofs.Ranges.{natSums, fold-same, fold-none, foldRect-turn}
@@ -115,11 +115,11 @@ module _ (p : Frame) (y i : ℕ) where
       ap₂ _+_ (columns-guide (p .set .width) x h) (window-none (p .set .width) _ _ (p .set .width + x) (λ d. omega arith) (λ d. omega arith)) ∙
       add-zero _
 
-  pub row-window : (s : ℕ) → rowD p s y (2 * p .set .width) i ≡ inRow _+_ 0 p s (λ u v. atLevel p (λ a b. 1) u v i) y
+  pub row-window : (s : ℕ) → rowD p s y (2 * p .set .width) i ≡ inRow _+_ 0 p s (λ u v. if eqb (level p u v) i then 1 else 0) y
   unfolding rowD inRow
   row-window s = ap₂ _+_ (columns-none (p .set .width) (2 * p .set .width) (le-refl _)) (window-count (p .set .width) _ _) ∙ zero-add _
 
-  pub row-window-guide : (s : ℕ) → rowD p s y (2 * p .set .width + 1) i ≡ inRow _+_ 0 p s (λ u v. atLevel p (guide p) u v i) y
+  pub row-window-guide : (s : ℕ) → rowD p s y (2 * p .set .width + 1) i ≡ inRow _+_ 0 p s (λ u v. if eqb (level p u v) i then guide p u v else 0) y
   unfolding rowD inRow
   row-window-guide s = ap₂ _+_ (columns-none (p .set .width) (2 * p .set .width + 1) (omega arith)) (window-guide (p .set .width) _ _) ∙ zero-add _
 
@@ -130,11 +130,11 @@ module _ (p : Frame) (y i : ℕ) where
 -- ---- the store, block by block
 module _ (p : Frame) (s t i : ℕ) where
   pub content-count : (x : ℕ) → x < p .set .width → contentD p s t x i ≡ columnSum p t (λ u v. 1) x i
-  unfolding contentD columnSum
+  unfolding contentD columnSum inColumn
   content-count x h = fold-same _+_ 0 natSums _ _ _ _ (λ y a b. row-count p y i s x h)
 
   pub content-guide : (x : ℕ) → x < p .set .width → contentD p s t (p .set .width + x) i ≡ columnSum p t (guide p) x i
-  unfolding contentD columnSum
+  unfolding contentD columnSum inColumn
   content-guide x h = fold-same _+_ 0 natSums _ _ _ _ (λ y a b. row-guide p y i s x h)
 
   pub content-window : contentD p s t (2 * p .set .width) i ≡ levelSum p s t (λ u v. 1) i

@@ -18,7 +18,7 @@ use Rattle.spec.specs.Checks.{Planned}
 use Rattle.spec.specs.Window.{span, inRow}
 use Rattle.spec.specs.Columns.{columnStore}
 use Rattle.spec.proofs.Ranges.{natSums, window-right, lost, gained}
-use Rattle.spec.proofs.Sums.{sum-le, sum-const}
+use Rattle.spec.proofs.Sums.{live-one, sum-le, sum-const}
 use Rattle.spec.proofs.Limits.{FrameLimits}
 use Rattle.spec.proofs.Bounds.{if-high}
 use Rattle.spec.proofs.Plans.{facts}
@@ -111,16 +111,22 @@ in-span : (r c n k : ℕ) → k < c - r + span r c n → c - r ≤ k → k < n
 unfolding span
 in-span r c n k h l = omega arith
 
+at-high : (p : Frame) (f : ℕ → ℕ → ℕ) (x y i n : ℕ) → f x y ≤ n → atLevel p f x y i ≤ n
+at-high p f x y i n h =
+    live-one 0 p (λ (v : ℕ). v ≤ n) (λ u v. if eqb (level p u v) i then f u v else 0) x y (omega arith)
+    (λ _. if-high (eqb (level p x y) i) (f x y) n h)
+
 module _ {p : Frame} (g : FrameLimits p) where
   guide-high : (x y : ℕ) → x < p .set .width → y < p .set .height → guide p x y ≤ 255
   guide-high x y hx hy = omega (arith, g .guide-low x y hx hy, g .sound .guides-high)
 
-  in-row-high : (s y : ℕ) (f : ℕ → ℕ → ℕ) → ((x : ℕ) → x < p .set .width → f x y ≤ 255) → inRow _+_ 0 p s f y ≤ 7905
+  in-row-high : (s y i : ℕ) (f : ℕ → ℕ → ℕ) → ((x : ℕ) → x < p .set .width → f x y ≤ 255)
+      → inRow _+_ 0 p s (λ u v. if eqb (level p u v) i then f u v else 0) y ≤ 7905
   unfolding inRow
-  in-row-high s y f h =
+  in-row-high s y i f h =
       le-trans
-      (sum-le (λ x. f x y) (λ x. 255) (s - p .set .radius) (span (p .set .radius) s (p .set .width))
-      (λ x a b. h x (in-span (p .set .radius) s (p .set .width) x b a)))
+      (sum-le (λ x. atLevel p f x y i) (λ x. 255) (s - p .set .radius) (span (p .set .radius) s (p .set .width))
+      (λ x a b. at-high p f x y i 255 (h x (in-span (p .set .radius) s (p .set .width) x b a))))
       (le-trans (le-of-eq (sum-const 255 (s - p .set .radius) (span (p .set .radius) s (p .set .width))))
       (omega (arith, span-high (p .set .radius) s (p .set .width) (g .sound .radius-high))))
 
@@ -128,16 +134,16 @@ module _ {p : Frame} (g : FrameLimits p) where
   row-high s y m i hy = go (which (p .set .width) m)
     where
       go : Which (p .set .width) m → rowD p s y m i ≤ 7905
-      go (counts h) = le-trans (le-of-eq (row-count p y i s m h)) (if-high (eqb (level p m y) i) 1 7905 (omega arith))
+      go (counts h) = le-trans (le-of-eq (row-count p y i s m h)) (at-high p (λ u v. 1) m y i 7905 (omega arith))
       go (guides x h e) =
           le-trans (le-of-eq (ap (λ (n : ℕ). rowD p s y n i) e ∙ row-guide p y i s x h))
-          (if-high (eqb (level p x y) i) (guide p x y) 7905 (le-trans (guide-high x y h hy) (omega arith)))
+          (at-high p (guide p) x y i 7905 (le-trans (guide-high x y h hy) (omega arith)))
       go (window e) =
           le-trans (le-of-eq (ap (λ (n : ℕ). rowD p s y n i) e ∙ row-window p y i s))
-          (in-row-high s y (λ u v. atLevel p (λ a b. 1) u v i) (λ x h. if-high (eqb (level p x y) i) 1 255 (omega arith)))
+          (in-row-high s y i (λ u v. 1) (λ x h. omega arith))
       go (windowGuides e) =
           le-trans (le-of-eq (ap (λ (n : ℕ). rowD p s y n i) e ∙ row-window-guide p y i s))
-          (in-row-high s y (λ u v. atLevel p (guide p) u v i) (λ x h. if-high (eqb (level p x y) i) (guide p x y) 255 (guide-high x y h hy)))
+          (in-row-high s y i (guide p) (λ x h. guide-high x y h hy))
       go (beyond h) = le-trans (le-of-eq (row-beyond p y i s m h)) (omega arith)
 
   pub content-high : (s t m i : ℕ) → contentD p s t m i ≤ 245055

@@ -10,7 +10,7 @@ use lib.Dec.{leb, ltb, eqb}
 use lib.ListN.{length, getD}
 use Rattle.spec.specs.Base.{if_then_else_, sum, when}
 use Rattle.spec.specs.Frame.{Frame, level, guide}
-use Rattle.spec.specs.Window.{span}
+use Rattle.spec.specs.Window.{span, live}
 use Rattle.columns.specs.declared.store.Exchange.{Exchange}
 
 -- the store's length
@@ -34,9 +34,9 @@ pub record Cleared (n : ℕ) (xs ys : List ℕ) : Type 0 where
   pub rest : (j : ℕ) → n ≤ j → getD ys j 0 ≡ getD xs j 0
 
 -- ---- pixels and rows
--- f at the pixel, where its level is i
+-- f at the pixel, where its level is i; nothing at a dead pixel
 abbrev pub atLevel : Frame → (ℕ → ℕ → ℕ) → ℕ → ℕ → ℕ → ℕ
-atLevel p f x y i = if eqb (level p x y) i then f x y else 0
+atLevel p f x y i = live 0 p (λ u v. if eqb (level p u v) i then f u v else 0) x y
 
 -- F in block a
 abbrev pub block : ℕ → (ℕ → ℕ) → ℕ → ℕ → ℕ

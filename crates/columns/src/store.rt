@@ -1,5 +1,6 @@
 // The column store: its start, and its moves. Its length is storeSize; what lies beyond stays as it was.
 use pixels::store::change;
+use spec::NO_READING;
 use spec::Plan;
 use window::line;
 use window::pixel;
@@ -24,7 +25,7 @@ pub struct Exchange {
     pub leaves: bool,
 }
 
-// One pixel, into or out of the counts of block a and the guide sums of block b.
+// One pixel, into or out of the counts of block a and the guide sums of block b; a dead one is passed over.
 pub fn count_pixel(
     file: &[u8],
     plan: Plan,
@@ -44,9 +45,12 @@ pub fn count_pixel(
 {
     let l = plan.levels;
     let q = y * plan.width + x;
-    let i = pixel::level_at(file, plan, q);
+    let value = pixel::value_at(file, plan, q);
+    if value == NO_READING {
+        return;
+    }
     let g = pixel::guide_at(file, plan, q);
-    let at = i.0 as usize;
+    let at = value as usize;
     change(blocks, a * l + at, 1, add);
     change(blocks, b * l + at, g.0 as u32, add);
 }

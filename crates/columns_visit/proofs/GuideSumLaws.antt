@@ -1,34 +1,31 @@
 -- n, S and Q along a line, and over a step.
 -- Assumes nothing.
-use mathlib.Core.Path.{_≡_, sym, ap, ap₂, _∙_}
+use mathlib.Core.Path.{_≡_, refl, sym, ap, ap₂, _∙_}
+use mathlib.Core.Bool.{Bool, true, false}
 use mathlib.Core.List.{List}
 use Prim.Native.Nat.{ℕ, _+_, _-_, _*_, _≤_, _<_}
-use native.Mathlib.Nat.{zero-add, mul-le-mul}
+use native.Mathlib.Nat.{mul-le-mul}
 use native.Mathlib.Omega.{arith}
+use lib.Dec.{eqb}
 use Rattle.spec.specs.declared.Plan.{Plan}
-use Rattle.spec.specs.Frame.{level, guide, pixelLevel, pixelGuide, frameOf}
+use Rattle.spec.specs.Base.{if_then_else_}
+use Rattle.spec.specs.Frame.{noReading, level, guide, pixelLevel, pixelGuide, frameOf}
 use Rattle.spec.specs.Checks.{Planned}
 use Rattle.spec.specs.Window.{over, pixelCount, guideSum, squareSum}
 use Rattle.spec.proofs.Ranges.{natSums}
 use Rattle.window.specs.declared.line.Line.{Line}
 use Rattle.window.specs.declared.line.Step.{Step}
 use Rattle.window.specs.declared.sums.Sums.{Sums}
-use Rattle.window.specs.Line.{InPlanes, Adjacent, stepOf, pixelOf, lineFoldTo, lineFold}
+use Rattle.window.specs.Line.{InPlanes, Adjacent, stepOf, pixelOf, reading, lineFoldTo, lineFold}
 use Rattle.window.specs.Sums.{one, itself, squared, SumsAt}
 use Rattle.window.proofs.PixelLaws.{guide-low, guides-high}
 use Rattle.window.proofs.FormLaws.{both-in}
-use Rattle.window.proofs.LineLaws.{fold-more, line-none, step-law}
+use Rattle.window.proofs.LineLaws.{line-none, line-more, step-law}
 use Rattle.window_weights.proofs.SumLaws.{sums-small}
 use Rattle.columns_visit.specs.GuideSums.{LineSums, MovableByLines, MovedByLines}
 
 abbrev sums : ℕ → ℕ → ℕ → Sums
 sums n s q = record { count = n; sum = s; squares = q }
-
-line-more : (b : List ℕ) (d : Line) (h : ℕ → ℕ → ℕ) (k : ℕ)
-    → lineFoldTo _+_ 0 b d h (k + 1) ≡ lineFoldTo _+_ 0 b d h k + h (pixelLevel b (pixelOf d k)) (pixelGuide b (pixelOf d k))
-unfolding lineFoldTo
-line-more b d h k =
-    fold-more _+_ 0 _ 0 k ∙ ap (λ (q : ℕ). lineFoldTo _+_ 0 b d h k + h (pixelLevel b (pixelOf d q)) (pixelGuide b (pixelOf d q))) (zero-add k)
 
 -- ---- along a line
 pub line-start : (b : List ℕ) (d : Line) → LineSums b d 0 (sums 0 0 0)
@@ -42,23 +39,42 @@ line-start b d =
       squares-high = omega arith;
     }
 
-module _ {b : List ℕ} {z : Plan} (pl : Planned b z) (d : Line) (ins : InPlanes z d) (k f : ℕ) (h : k < d .count) (e : f ≡ pixelGuide b (pixelOf d k))
-  where
-    pub guide-small : (f ≤ 255) × (f * f ≤ 65025)
-    guide-small =
-        let l : f ≤ 255 = omega (arith, e, guide-low pl (ins .inside k h), guides-high pl) in
-        (l, mul-le-mul {n₂ = 255} l l)
+-- what a pixel adds, 0 where it is dead
+reading-high : (dead : Bool) (n m : ℕ) → n ≤ m → (if dead then 0 else n) ≤ m
+reading-high true n m h = omega arith
+reading-high false n m h = h
 
-    pub line-next : (s q : ℕ) → LineSums b d k (sums k s q) → LineSums b d (k + 1) (sums (k + 1) (s + f) (q + f * f))
-    line-next s q a =
-        record {
-          count = ap (λ (n : ℕ). n + 1) (a .count) ∙ sym (line-more b d one k);
-          sum = ap₂ _+_ (a .sum) e ∙ sym (line-more b d itself k);
-          squares = ap₂ (λ (n g : ℕ). n + g * g) (a .squares) e ∙ sym (line-more b d squared k);
-          count-high = omega arith;
-          sum-high = omega (arith, a .sum-high, guide-small .0);
-          squares-high = omega (arith, a .squares-high, guide-small .1);
-        }
+reading-square : (dead : Bool) (f : ℕ) → (if dead then 0 else f) * (if dead then 0 else f) ≡ (if dead then 0 else f * f)
+reading-square true f = refl
+reading-square false f = refl
+
+-- one pixel more, that adds u to the count and f to the sum
+module _ {b : List ℕ} {z : Plan} (pl : Planned b z) (d : Line) (ins : InPlanes z d) (k u f : ℕ) (h : k < d .count)
+    (eu : u ≡ reading 0 one (pixelLevel b (pixelOf d k)) (pixelGuide b (pixelOf d k)))
+    (ef : f ≡ reading 0 itself (pixelLevel b (pixelOf d k)) (pixelGuide b (pixelOf d k))) where
+  abbrev is-dead : Bool
+  is-dead = eqb (pixelLevel b (pixelOf d k)) noReading
+
+  pub share-small : (u ≤ 1) × (f ≤ 255) × (f * f ≤ 65025)
+  share-small =
+      let g : pixelGuide b (pixelOf d k) ≤ 255 = omega (arith, guide-low pl (ins .inside k h), guides-high pl) in
+      let m : u ≤ 1 = rw eu (reading-high is-dead 1 1 (omega arith)) in
+      let l : f ≤ 255 = rw ef (reading-high is-dead (pixelGuide b (pixelOf d k)) 255 g) in
+      (m, l, mul-le-mul {n₂ = 255} l l)
+
+  pub line-next : (n s q : ℕ) → LineSums b d k (sums n s q) → LineSums b d (k + 1) (sums (n + u) (s + f) (q + f * f))
+  line-next n s q a =
+      record {
+        count = ap₂ _+_ (a .count) eu ∙ sym (line-more _+_ 0 b d one k);
+        sum = ap₂ _+_ (a .sum) ef ∙ sym (line-more _+_ 0 b d itself k);
+        squares =
+            ap₂ (λ (n g : ℕ). n + g * g) (a .squares) ef
+            ∙ ap (λ (v : ℕ). lineFoldTo _+_ 0 b d squared k + v) (reading-square is-dead (pixelGuide b (pixelOf d k)))
+            ∙ sym (line-more _+_ 0 b d squared k);
+        count-high = omega (arith, a .count-high, share-small .0);
+        sum-high = omega (arith, a .sum-high, share-small .1);
+        squares-high = omega (arith, a .squares-high, share-small .2);
+      }
 
 -- ---- a step
 step-sum : {b : List ℕ} {z : Plan} → Planned b z → {s t s′ t′ : ℕ} → Adjacent z s t s′ t′ → {d : Step} → d ≡ stepOf z s t s′ t′ → (h : ℕ → ℕ → ℕ)

@@ -1,11 +1,13 @@
 -- The window's two blocks of the store as lists by level, and what a visit leaves.
 -- Assumes nothing.
 use mathlib.Core.Path.{_≡_, refl, sym, ap, ap₂, subst, _∙_}
+use mathlib.Core.Bool.{false}
 use mathlib.Core.List.{List, _++_}
 use Prim.Native.Nat.{ℕ, _+_, _-_, _*_, _≤_, _<_}
 use native.Mathlib.Nat.{add-mul, mul-assoc, mul-le-mul}
 use native.Mathlib.Omega.{arith}
 use lib.ListN.{length, getD, take, drop}
+use Rattle.spec.specs.declared.Level.{Level}
 use Rattle.spec.specs.declared.Plan.{Plan}
 use Rattle.spec.specs.declared.Way.the-variants.{Columns}
 use Rattle.spec.specs.Frame.{Frame, frameOf}
@@ -13,21 +15,25 @@ use Rattle.spec.specs.Checks.{Planned}
 use Rattle.spec.specs.Calls.{roomOf}
 use Rattle.spec.specs.Columns.{columnStore}
 use Rattle.spec.specs.declared.Way.the-variants.{Columns}
+use Rattle.spec.specs.Window.{empty}
 use Rattle.spec.specs.Walk.{arrive}
 use Rattle.spec.proofs.Lists.{part-long, part-cell}
+use Rattle.spec.proofs.Own.{count-empty, count-read}
 use Rattle.spec.proofs.Plans.{facts}
 use Rattle.window.specs.declared.sums.Sums.{Sums}
 use Rattle.window.specs.Sums.{SumsAt}
 use Rattle.window.proofs.PixelLaws.{plan-limits, levels-high}
 use Rattle.level_search.specs.declared.search.Found.{Found}
 use Rattle.levels.specs.Answer.{Profiled, Answered}
+use Rattle.levels.proofs.TallyLaws.{below-empty}
+use Rattle.chain_nodes.specs.declared.FreeList.{FreeList}
 use Rattle.columns.specs.Blocks.{blocksSize}
 use Rattle.columns.proofs.ContentLaws.{holds-cell, holds-self, content-window, content-window-guide}
 use Rattle.columns.proofs.MoveLaws.{held-long}
 use Rattle.visit.specs.declared.Running.{Running}
 use Rattle.visit.specs.declared.Visit.{Visit}
-use Rattle.visit.specs.Visit.{answered}
-use Rattle.visit.proofs.Laws.{state-is}
+use Rattle.visit.specs.Visit.{answered, unread}
+use Rattle.visit.proofs.Laws.{state-is, unread-state}
 use Rattle.columns_visit.specs.Visit.{windowCounts, windowGuides, storeAt, ColumnsVisited}
 
 -- ---- the window's blocks are inside the store, and inside a machine's numbers
@@ -125,3 +131,20 @@ visited p s t c n a f v xs ys e q h m =
       below = h .below;
       store = made p s t xs ys m;
     })
+
+-- ---- a window with no reading, and one with some
+pub unread-visited : (p : Frame) (s t : ℕ) (cut : Level) (n : ℕ) (a : Sums) (free : FreeList) (v : Visit) (xs ys : List ℕ)
+    → v ≡ unread s t cut n a free → SumsAt p s t a → a .count ≡ 0 → ys ≡ columnStore p s t ++ drop (blocksSize p) xs
+    → ColumnsVisited p (arrive Columns p s t (cut .0) n) xs v ys
+unread-visited p s t cut n a free v xs ys e q z m =
+    let none = count-empty p s t (sym (q .count) ∙ z) in
+    subst (λ (v : Visit). ColumnsVisited p (arrive Columns p s t (cut .0) n) xs v ys) (sym e)
+    (record {
+      state = unread-state Columns p s t cut n a free none;
+      sums = q;
+      below = below-empty p s t (cut .0 + 1) none;
+      store = made p s t xs ys m;
+    })
+
+pub some-read : (p : Frame) (s t : ℕ) (a : Sums) → SumsAt p s t a → (a .count ≡ 0 → ⊥) → empty p s t ≡ false
+some-read p s t a q z = count-read p s t (omega (arith, q .count, z))

@@ -1,15 +1,30 @@
-// Document 01's n, S and Q of a window over a move, by the guides of its two lines alone: this way needs the pixels' levels only where it carries the
-// tally, and reading both for every window takes longer.
+// Document 01's n, S and Q of a window over a move, by the live pixels of its two lines as they are read: this way needs their levels only where it
+// carries the tally, and a list of both for every window takes longer.
+use spec::NO_READING;
 use spec::Plan;
 use window::line::Line;
 use window::line::Step;
 use window::pixel;
 use window::sums::Sums;
+ghost use mathlib.Core.Path.{_≡_};
+ghost use lib.Dec.{eqb};
+ghost use Rattle.spec.specs.Base.{if_then_else_};
 ghost use Rattle.spec.specs.Checks.{Planned};
+ghost use Rattle.spec.specs.Frame.{noReading};
 ghost use Rattle.window.specs.Line.{InPlanes, StepInPlanes};
 ghost use Rattle.columns_visit.specs.GuideSums.{LineSums, MovableByLines, MovedByLines};
 
-// Of the pixels of a line.
+// What a pixel of this value adds: n, or nothing where it is dead.
+pub fn share(value: u16, n: usize) -> usize
+    ensures { λ r. ⌜ r ≡ (if eqb value noReading then 0 else n) ⌝ }
+{
+    if value == NO_READING {
+        return 0;
+    }
+    n
+}
+
+// Of the live pixels of a line. A dead one adds 0, so that no branch goes by the reading.
 pub fn line_sums(file: &[u8], plan: Plan, line: Line) -> Sums
     requires { ⌜ Planned (now file) plan ⌝ }
     requires { ⌜ InPlanes plan line ⌝ }
@@ -18,18 +33,22 @@ pub fn line_sums(file: &[u8], plan: Plan, line: Line) -> Sums
     let first = line.first;
     let stride = line.stride;
     let count = line.count;
+    let mut n: usize = 0;
     let mut sum: usize = 0;
     let mut squares: usize = 0;
     let mut k: usize = 0;
     while k < count {
-        let g = pixel::guide_at(file, plan, first + k * stride);
-        let f = g.0 as usize;
+        let q = first + k * stride;
+        let value = pixel::value_at(file, plan, q);
+        let g = pixel::guide_at(file, plan, q);
+        let f = share(value, g.0 as usize);
+        n += share(value, 1);
         sum += f;
         squares += f * f;
         k += 1;
     }
     Sums {
-        count: k,
+        count: n,
         sum: sum,
         squares: squares,
     }

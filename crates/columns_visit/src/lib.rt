@@ -94,7 +94,8 @@ pub fn carried(
     earlier
 }
 
-// A walk comes to its first window, whatever the store held. From cut point 0 a monotone window is searched like any other.
+// A walk comes to its first window, whatever the store held. From cut point 0 a monotone window is searched like any other. One with no reading is not
+// searched at all.
 pub fn enter(file: &[u8], plan: Plan, column: usize, row: usize, blocks: &mut [u32]) -> Visit
     requires { ⌜ (Planned (now file) plan) × (plan .kind ≡ 2) ⌝ }
     requires { ⌜ (column < plan .width) × (row < plan .height) ⌝ }
@@ -104,17 +105,20 @@ pub fn enter(file: &[u8], plan: Plan, column: usize, row: usize, blocks: &mut [u
 {
     store::start(file, plan, blocks, column, row);
     let sums = sums::start(file, plan, column, row);
+    let free = FreeList { head: 0, count: 0 };
+    if sums.count == 0 {
+        return visit::unread(column, row, Level(0), 0, sums, free);
+    }
     let coefficients = coefficients::of_window(file, plan, sums, column, row);
     let none = Tally { count: 0, sum: 0 };
     let found = answer_from(plan, blocks, coefficients, false, none, Level(0), 0);
     let level = found.level;
     let below = found.tally;
-    let free = FreeList { head: 0, count: 0 };
     let running = Running { sums, below, free };
     visit::answered(column, row, level, found.shifts, running)
 }
 
-// It goes on to the neighbouring window at (column, row).
+// It goes on to the neighbouring window at (column, row). The store and the sums move also where there is no reading.
 pub fn slide(
     file: &[u8],
     plan: Plan,
@@ -132,12 +136,16 @@ pub fn slide(
     let step = line::step_to(plan, from.column, from.row, column, row);
     let known = from.running;
     let former = known.sums;
-    let sums = guide_sums::moved(file, plan, former, step);
+    let present = guide_sums::moved(file, plan, former, step);
     store::slide(file, plan, blocks, from.column, from.row, column, row);
-    let coefficients = coefficients::of_window(file, plan, sums, column, row);
+    let cut = from.cut;
+    let free = FreeList { head: 0, count: 0 };
+    if present.count == 0 {
+        return visit::unread(column, row, cut, from.shifts, present, free);
+    }
+    let coefficients = coefficients::of_window(file, plan, present, column, row);
     let monotone = coefficients::monotone(plan, coefficients);
     let tally = carried(file, plan, monotone, from, column, row);
-    let cut = from.cut;
     let found = answer_from(
         plan,
         blocks,
@@ -149,7 +157,10 @@ pub fn slide(
     );
     let level = found.level;
     let below = found.tally;
-    let free = FreeList { head: 0, count: 0 };
-    let running = Running { sums, below, free };
+    let running = Running {
+        sums: present,
+        below,
+        free,
+    };
     visit::answered(column, row, level, found.shifts, running)
 }

@@ -1,4 +1,4 @@
--- The answer of the window at (s, t): its weight, the level, and what the levels below it and up to it weigh.
+-- The answer of the window at (s, t), with a reading: its weight, the level, and what the levels below it and up to it weigh.
 -- Assumes nothing.
 use mathlib.Core.Path.{_≡_}
 use Prim.Native.Nat.{ℕ}

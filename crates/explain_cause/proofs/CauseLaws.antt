@@ -16,6 +16,7 @@ use Rattle.spec.specs.declared.Cause.{Cause}
 use Rattle.spec.specs.declared.Cause.the-variants.{Ordinary, Hollow, NegativeAtZero, NegativeAtLast}
 use Rattle.spec.specs.Base.{if_then_else_}
 use Rattle.spec.specs.Frame.{Frame}
+use Rattle.spec.specs.Window.{empty}
 use Rattle.spec.specs.Weight.{weightless, weight, monotone}
 use Rattle.spec.specs.Explain.{causeOf}
 use Rattle.spec.specs.Checks.{SettingsLimits}
@@ -46,19 +47,22 @@ tests false true true = refl
 tests false true false = refl
 tests false false y = refl
 
-cause-is : {p : Frame} {s t : ℕ} → Pixel p s t → causeBy (weightless p s t) (weight p s t 0) (weight p s t (p .set .guides - 1)) ≡ causeOf p s t
+-- of a window with a reading
+cause-is : {p : Frame} {s t : ℕ} → Pixel p s t → empty p s t ≡ false
+    → causeBy (weightless p s t) (weight p s t 0) (weight p s t (p .set .guides - 1)) ≡ causeOf p s t
 unfolding causeBy causeOf
-cause-is {p} {s} {t} k =
-    tests (weightless p s t) (nonNeg (weight p s t 0)) (nonNeg (weight p s t (p .set .guides - 1)))
+cause-is {p} {s} {t} k r =
+    rw r
+    (tests (weightless p s t) (nonNeg (weight p s t 0)) (nonNeg (weight p s t (p .set .guides - 1)))
     ∙ ap
     (λ (b : Bool). if weightless p s t then Hollow else if b then Ordinary else if nonNeg (weight p s t 0) then NegativeAtLast else NegativeAtZero)
-    (sym (both-ends k))
+    (sym (both-ends k)))
 
 -- by what the window is counted with
-pub cause-counted : {p : Frame} {s t : ℕ} → Pixel p s t → {row : List ℕ} {c : Counting} → CountedBy p s t row c → {m : ℕ} → m ≡ p .set .guides
-    → causeBy (c .hollow) (weightBy row (c .formula) 0) (weightBy row (c .formula) (m - 1)) ≡ causeOf p s t
-cause-counted {p} {s} {t} k {row} {c} by e =
-    rw (e, by .hollow, sym (by .weighs .is 0 (omega (arith, low))), sym (by .weighs .is (p .set .guides - 1) (omega (arith, low)))) (cause-is k)
+pub cause-counted : {p : Frame} {s t : ℕ} → Pixel p s t → empty p s t ≡ false → {row : List ℕ} {c : Counting} → CountedBy p s t row c → {m : ℕ}
+    → m ≡ p .set .guides → causeBy (c .hollow) (weightBy row (c .formula) 0) (weightBy row (c .formula) (m - 1)) ≡ causeOf p s t
+cause-counted {p} {s} {t} k r {row} {c} by e =
+    rw (e, by .hollow, sym (by .weighs .is 0 (omega (arith, low))), sym (by .weighs .is (p .set .guides - 1) (omega (arith, low)))) (cause-is k r)
   where
     low : 2 ≤ p .set .guides
     low = k .good .sound .guides-low

@@ -1,4 +1,4 @@
--- The cause by what the two ends of the guides weigh.
+-- The cause of a window with a reading, by what the two ends of the guides weigh.
 -- Assumes nothing.
 use mathlib.Core.Bool.{Bool}
 use lib.IntN.{ℤ}

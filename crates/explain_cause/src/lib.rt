@@ -1,4 +1,4 @@
-// The cause of a window's level (document 02): from how the window is counted, and the signs of what the two ends of the guides weigh.
+// The cause of a window with a reading (document 02): from how it is counted, and the signs of what the two ends of the guides weigh.
 use balance::formula;
 use balance::formula::Formula;
 use spec::Cause;

@@ -1,24 +1,27 @@
-// Check 7 sped up: how many numbers of a plane, from its first on, are surely below a limit. They are looked at 64 at a time, by the largest of each
-// 64, which the compiler takes many at a time; where it is too large the check goes on one by one, so nothing more is promised.
+// Check 7 sped up: how many numbers of a plane, values or not, are from its first on surely below a limit, as the check judges them. They are looked
+// at 64 at a time, by the largest of each 64, which the compiler takes many at a time; where it is too large the check goes on one by one, so nothing
+// more is promised.
 use big_endian_part::copy_low_first;
 use big_endian_part::exchanged;
+use spec::judged;
 ghost use Prim.Native.Nat.{_+_, _*_, _≤_};
 ghost use lib.ListN.{length, getD};
+ghost use Rattle.spec.specs.Checks.{judged};
 ghost use Rattle.spec.specs.Frame.{plane};
 ghost use Rattle.frame_below.specs.Below.{Below};
 
 // The numbers that are looked at together.
 const RUN: usize = 64;
 
-// No number of the 64 from a place on is larger.
-fn most_of_list(list: &[u16], from: usize) -> u16
+// No number of the 64 from a place on is judged larger.
+fn most_of_list(list: &[u16], values: bool, from: usize) -> u16
     requires { ⌜ from + 64 ≤ length (now list) ⌝ }
-    ensures { λ r. ⌜ Below (λ j. getD (now (list .entry)) (from + j) 0) 64 (r + 1) ⌝ }
+    ensures { λ r. ⌜ Below (λ j. judged values (getD (now (list .entry)) (from + j) 0)) 64 (r + 1) ⌝ }
 {
     let mut most = 0;
     let mut j = 0;
     while j < RUN {
-        let number = list[from + j];
+        let number = judged(values, list[from + j]);
         if most < number {
             most = number;
         }
@@ -27,13 +30,13 @@ fn most_of_list(list: &[u16], from: usize) -> u16
     most
 }
 
-// So many numbers of a list, from its first on, are below the limit.
-pub fn list_below(list: &[u16], limit: u16) -> usize
-    ensures { λ r. ⌜ (r ≤ length (now (list .entry))) × Below (λ j. getD (now (list .entry)) j 0) r limit ⌝ }
+// So many numbers of a list, from its first on, are judged below the limit.
+pub fn list_below(list: &[u16], values: bool, limit: u16) -> usize
+    ensures { λ r. ⌜ (r ≤ length (now (list .entry))) × Below (λ j. judged values (getD (now (list .entry)) j 0)) r limit ⌝ }
 {
     let mut k = 0;
     while RUN <= list.len() - k {
-        if limit <= most_of_list(list, k) {
+        if limit <= most_of_list(list, values, k) {
             return k;
         }
         k += RUN;
@@ -42,16 +45,16 @@ pub fn list_below(list: &[u16], limit: u16) -> usize
 }
 
 // The same of 64 numbers of a file, the first of which begins at an offset.
-fn most_of_file(file: &[u8], offset: usize) -> u16
+fn most_of_file(file: &[u8], values: bool, offset: usize) -> u16
     requires { ⌜ offset + 2 * 64 ≤ length (now file) ⌝ }
-    ensures { λ r. ⌜ Below (plane (now (file .entry)) offset) 64 (r + 1) ⌝ }
+    ensures { λ r. ⌜ Below (λ j. judged values (plane (now (file .entry)) offset j)) 64 (r + 1) ⌝ }
 {
     let mut part = [0u16; 64];
     copy_low_first(file, offset, RUN, &mut part);
     let mut most = 0;
     let mut j = 0;
     while j < RUN {
-        let number = exchanged(part[j]);
+        let number = judged(values, exchanged(part[j]));
         if most < number {
             most = number;
         }
@@ -61,13 +64,13 @@ fn most_of_file(file: &[u8], offset: usize) -> u16
 }
 
 // So many of the n numbers from an offset on.
-pub fn file_below(file: &[u8], offset: usize, n: usize, limit: usize) -> usize
+pub fn file_below(file: &[u8], values: bool, offset: usize, n: usize, limit: usize) -> usize
     requires { ⌜ offset + 2 * n ≤ length (now file) ⌝ }
-    ensures { λ r. ⌜ (r ≤ n) × Below (plane (now (file .entry)) offset) r limit ⌝ }
+    ensures { λ r. ⌜ (r ≤ n) × Below (λ j. judged values (plane (now (file .entry)) offset j)) r limit ⌝ }
 {
     let mut k = 0;
     while RUN <= n - k {
-        if limit <= most_of_file(file, offset + 2 * k) as usize {
+        if limit <= most_of_file(file, values, offset + 2 * k) as usize {
             return k;
         }
         k += RUN;

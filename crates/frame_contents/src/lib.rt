@@ -1,9 +1,10 @@
-// Check 7: every value and guide of a file below its limit. A weight may be any number.
+// Check 7: every value and guide of a file below its limit, but for the value that says there is no reading. A weight may be any number.
 use big_endian::be16;
 use frame_below::file_below;
 use spec::Plan;
 use spec::Refusal;
 use spec::Verdict;
+use spec::judged;
 use spec::stops;
 ghost use mathlib.Core.Path.{_≡_};
 ghost use Prim.Native.Nat.{_+_, _*_, _≤_};
@@ -20,15 +21,15 @@ pub fn too_large(at: usize) -> Verdict
     Verdict::Refused(Refusal::Contents(at))
 }
 
-// Check 7 of n numbers from an offset on: those that are surely below the limit are passed over.
-fn scan(file: &[u8], offset: usize, n: usize, limit: usize) -> Verdict
+// Check 7 of n numbers, values or not, from an offset on: those that are surely below the limit are passed over.
+fn scan(file: &[u8], values: bool, offset: usize, n: usize, limit: usize) -> Verdict
     requires { ⌜ offset + 2 * n ≤ length (now file) ⌝ }
-    ensures { λ r. ⌜ numbered r ≡ scanFile (now (file .entry)) offset n limit ⌝ }
+    ensures { λ r. ⌜ numbered r ≡ scanFile (now (file .entry)) values offset n limit ⌝ }
 {
-    let mut k = file_below(file, offset, n, limit);
+    let mut k = file_below(file, values, offset, n, limit);
     while k < n {
         let at = offset + 2 * k;
-        if limit <= be16(file, at) as usize {
+        if limit <= judged(values, be16(file, at)) as usize {
             return too_large(at);
         }
         k += 1;
@@ -42,9 +43,9 @@ pub fn contents(file: &[u8], plan: Plan) -> Verdict
     ensures { λ r. ⌜ numbered r ≡ contents (now (file .entry)) plan ⌝ }
 {
     let n = plan.width * plan.height;
-    let v = scan(file, plan.value, n, plan.levels);
+    let v = scan(file, true, plan.value, n, plan.levels);
     if stops(v) {
         return v;
     }
-    scan(file, plan.guide, n, plan.guides)
+    scan(file, false, plan.guide, n, plan.guides)
 }

@@ -1,13 +1,15 @@
-// The calls of docs/RATTLE.md, executed: document 01's frame written, opened and shown, the same frame refused, and built-in weights.
+// The calls of docs/RATTLE.md, executed: document 01's frame written, opened and shown, the same frame refused, with a dead pixel and with a value
+// that is no level, and built-in weights.
 use big_endian::be16;
-use big_endian::level;
 use frame::open;
 use frame::open::Plane;
 use frame_weights::built_in;
 use frame_write::Written;
 use spec::Guide;
-use spec::Level;
+use spec::NO_READING;
 use spec::Settings;
+use spec::number_of;
+use spec::offset_of;
 
 fn text(s: &[u8]) {
     let _done = io::write_all(1, s);
@@ -29,8 +31,8 @@ fn numbers(name: &[u8], part: &[u8]) {
     text(b"\n");
 }
 
-// Document 01's frame: 3 by 1, kind 2.
-fn sample(out: &mut [u8]) -> Written {
+// Document 01's frame: 3 by 1, kind 2. There the first value is 5.
+fn sample(first: u16, out: &mut [u8]) -> Written {
     let mut k = Settings::new();
     k.width = 3;
     k.height = 1;
@@ -38,19 +40,19 @@ fn sample(out: &mut [u8]) -> Written {
     k.guides = 4;
     k.radius = 1;
     k.smoothing = 1;
-    let values: [u16; 3] = [5, 1, 3];
+    let values: [u16; 3] = [first, 1, 3];
     let guides: [u16; 3] = [0, 0, 2];
     let table: [u16; 0] = [];
     frame_write::write(k, &values, &guides, &table, out)
 }
 
-// The level of the first pixel; level 0 where the file is refused, and so shows nothing.
-fn first_level(file: &[u8]) -> Level {
+// The value of the first pixel; 0 where the file is refused, and so shows nothing.
+fn first_value(file: &[u8]) -> u16 {
     let plane = open::plane_of(Plane::Values, file);
     if plane.len() < 2 {
-        return Level(0);
+        return 0;
     }
-    level(plane, 0)
+    be16(plane, 0)
 }
 
 // The parts that the opened frame shows.
@@ -58,8 +60,8 @@ fn parts(file: &[u8]) {
     numbers(b"values", open::plane_of(Plane::Values, file));
     numbers(b"guides", open::plane_of(Plane::Guides, file));
     numbers(b"table", open::plane_of(Plane::Table, file));
-    text(b"first level");
-    number(first_level(file).0 as usize);
+    text(b"first value");
+    number(first_value(file) as usize);
     text(b"\n");
 }
 
@@ -73,17 +75,33 @@ fn weights() {
     text(b"\n");
 }
 
+// What the writer answers.
+fn told(answer: Written) {
+    match answer {
+        Written::Length(n) => {
+            text(b"length");
+            number(n);
+        }
+        Written::Refused(e) => {
+            text(b"refused");
+            number(number_of(e) as usize);
+            number(offset_of(e));
+        }
+    }
+    text(b"\n");
+}
+
 fn main() {
     let mut output = [170u8; 44];
-    let answer = sample(&mut output);
-    if let Written::Length(n) = answer {
-        text(b"length");
-        number(n);
-        text(b"\n");
-    }
+    told(sample(5, &mut output));
     numbers(b"bytes", &output);
     parts(&output[0..40]);
     text(b"from its second byte on\n");
     parts(&output[1..40]);
+    text(b"with a dead pixel\n");
+    told(sample(NO_READING, &mut output));
+    parts(&output[0..40]);
+    text(b"with a value that is no level\n");
+    told(sample(65534, &mut output));
     weights();
 }

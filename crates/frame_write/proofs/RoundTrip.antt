@@ -39,6 +39,7 @@ use Rattle.spec.specs.Checks.{
   badMark,
   settingsOutcome,
   badDistance,
+  judged,
   scanFile,
   valueScan,
   guideScan,
@@ -102,12 +103,12 @@ module _ {b : List ℕ} {start : ℕ} {l : List ℕ} (s : Stands b start l) wher
       ap (λ (c : List ℕ). be16 c (start + 2 * j)) (s .whole) ∙ ap (λ (m : ℕ). be16 (s .front ++ (all16 l ++ s .behind)) (m + 2 * j)) (sym (s .place))
       ∙ be16-behind (s .front) (all16 l ++ s .behind) (2 * j) ∙ be16-all16 l (s .behind) j h
 
-  stands-scan : (n limit o : ℕ) → n ≡ length l → scanList l limit o ≡ accepted → scanFile b start n limit ≡ accepted
+  stands-scan : (values : Bool) (n limit o : ℕ) → n ≡ length l → scanList l values limit o ≡ accepted → scanFile b values start n limit ≡ accepted
   unfolding scanFile scanList
-  stands-scan n limit o e ok =
+  stands-scan values n limit o e ok =
       sym
-      (scan-none (plane b start) n limit start
-      (λ j h. rw (stands-number j (omega arith)) (scan-accepted (λ i. getD l i 0) (length l) limit o ok j (omega arith))))
+      (scan-none (λ j. judged values (plane b start j)) n limit start
+      (λ j h. rw (stands-number j (omega arith)) (scan-accepted (λ i. judged values (getD l i 0)) (length l) limit o ok j (omega arith))))
 
 -- ---- the trailer that was written
 whole32 : (x : ℕ) → (x / 65536 / 256 * 256 + x / 65536 % 256) * 65536 + (x % 65536 / 256 * 256 + x % 65536 % 256) ≡ x
@@ -382,11 +383,11 @@ module _ (k : Settings) (v g a : List ℕ) where
         (past (settingsOutcome (settingsOf file)) (refuse 6 (badDistance (trailerAt file) (trailerOf file))) (ap settingsOutcome settings-back ∙ ok)
         (sym (ap (refuse 6) placed))))
 
-    contents-pass : scanList v (k .levels) 0 ≡ accepted → scanList g (k .guides) (2 * pixels k) ≡ accepted → contents file plan ≡ accepted
+    contents-pass : scanList v true (k .levels) 0 ≡ accepted → scanList g false (k .guides) (2 * pixels k) ≡ accepted → contents file plan ≡ accepted
     unfolding contents valueScan guideScan
     contents-pass sv sg =
-        let xv : valueScan file plan ≡ accepted = stands-scan values-stand (pixels k) (k .levels) 0 (sym (p .values)) sv in
-        let xg : guideScan file plan ≡ accepted = stands-scan guides-stand (pixels k) (k .guides) (2 * pixels k) (sym (p .guides)) sg in
+        let xv : valueScan file plan ≡ accepted = stands-scan values-stand true (pixels k) (k .levels) 0 (sym (p .values)) sv in
+        let xg : guideScan file plan ≡ accepted = stands-scan guides-stand false (pixels k) (k .guides) (2 * pixels k) (sym (p .guides)) sg in
         sym (past (valueScan file plan) (guideScan file plan) xv (sym xg))
 
 -- ---- the theorem

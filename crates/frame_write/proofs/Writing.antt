@@ -28,10 +28,10 @@ module _ (k : Settings) (v g a : List ℕ) (room : ℕ) where
   of-length = refuse 6 (badLength k (length v) (length g) (length a))
 
   abbrev pub of-values : Outcome
-  of-values = scanList v (k .levels) 0
+  of-values = scanList v true (k .levels) 0
 
   abbrev pub of-guides : Outcome
-  of-guides = scanList g (k .guides) (2 * pixels k)
+  of-guides = scanList g false (k .guides) (2 * pixels k)
 
   abbrev pub of-room : Outcome
   of-room = refuse 11 (ltb room (writtenSize k (length a)))
@@ -57,8 +57,8 @@ module _ (k : Settings) (v g a : List ℕ) (room : ℕ) where
 pub record WritingPassed (k : Settings) (v g a : List ℕ) (room : ℕ) : Type 0 where
   pub settings : settingsOutcome k ≡ accepted
   pub lengths : badLength k (length v) (length g) (length a) ≡ false
-  pub values : scanList v (k .levels) 0 ≡ accepted
-  pub guides : scanList g (k .guides) (2 * pixels k) ≡ accepted
+  pub values : scanList v true (k .levels) 0 ≡ accepted
+  pub guides : scanList g false (k .guides) (2 * pixels k) ≡ accepted
   pub space : ltb room (writtenSize k (length a)) ≡ false
 
 pub passes : (k : Settings) (v g a : List ℕ) (room : ℕ) → writerOutcome k v g a room ≡ accepted → WritingPassed k v g a room

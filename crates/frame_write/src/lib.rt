@@ -9,6 +9,7 @@ use spec::Refusal;
 use spec::Settings;
 use spec::TRAILER;
 use spec::Verdict;
+use spec::judged;
 use spec::stops;
 ghost use mathlib.Core.Path.{_≡_};
 ghost use Prim.Native.Nat.{_<_};
@@ -45,14 +46,14 @@ fn bad_length(settings: Settings, v: usize, g: usize, a: usize) -> bool
     a != c
 }
 
-// Check 7 of numbers that would begin at an offset: those that are surely below the limit are passed over.
-fn scan_list(list: &[u16], limit: u16, offset: usize) -> Verdict
+// Check 7 of numbers, values or not, that would begin at an offset: those that are surely below the limit are passed over.
+fn scan_list(list: &[u16], values: bool, limit: u16, offset: usize) -> Verdict
     requires { ⌜ offset < 1099511627776 ⌝ }
-    ensures { λ r. ⌜ numbered r ≡ scanList (now (list .entry)) limit offset ⌝ }
+    ensures { λ r. ⌜ numbered r ≡ scanList (now (list .entry)) values limit offset ⌝ }
 {
-    let mut k = list_below(list, limit);
+    let mut k = list_below(list, values, limit);
     while k < list.len() {
-        if limit <= list[k] {
+        if limit <= judged(values, list[k]) {
             return too_large(offset + 2 * k);
         }
         k += 1;
@@ -78,11 +79,11 @@ fn check_writing(
         return Verdict::Refused(Refusal::Distance);
     }
     let p = product(settings.width, settings.height);
-    let v = scan_list(values, settings.levels, 0);
+    let v = scan_list(values, true, settings.levels, 0);
     if stops(v) {
         return v;
     }
-    let g = scan_list(guides, settings.guides, 2 * p);
+    let g = scan_list(guides, false, settings.guides, 2 * p);
     if stops(g) {
         return g;
     }

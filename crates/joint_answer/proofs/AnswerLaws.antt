@@ -8,6 +8,7 @@ use lib.ListN.{replicate}
 use Rattle.spec.specs.declared.Plan.{Plan}
 use Rattle.spec.specs.Base.{if_then_else_}
 use Rattle.spec.specs.Frame.{frameOf}
+use Rattle.spec.specs.Window.{empty}
 use Rattle.spec.specs.Weight.{weightless}
 use Rattle.spec.specs.Checks.{SettingsLimits}
 use Rattle.spec.proofs.Limits.{FrameLimits}
@@ -27,20 +28,12 @@ module _ (sizes : Sizes) (cs row : List ℕ) where
   unfolding countedRow
   counted-own e = ap (λ (b : Bool). if b then replicate 256 1 else row) e
 
-  -- as they are where not nothing weighs
-  pub counted-some : (weightlessIn sizes cs row ≡ true → ⊥) → row ≡ countedRow sizes cs row
-  counted-some n = counted-own (go (weightlessIn sizes cs row) refl)
-    where
-      go : (b : Bool) → weightlessIn sizes cs row ≡ b → false ≡ b
-      go true e = absurd (n e)
-      go false e = refl
-
--- ---- of a window
-pub counted-weighs : {b : List ℕ} {plan : Plan} {s t : ℕ} {cs ws row : List ℕ} → Counted b plan s t cs ws → RowOwn (frameOf b) s t row
-    → RowWeighs (frameOf b) s t (countedRow (sizesOf plan) cs row)
+-- ---- of a window with a reading
+pub counted-weighs : {b : List ℕ} {plan : Plan} {s t : ℕ} {cs ws row : List ℕ} → Counted b plan s t cs ws → empty (frameOf b) s t ≡ false
+    → RowOwn (frameOf b) s t row → RowWeighs (frameOf b) s t (countedRow (sizesOf plan) cs row)
 unfolding countedRow
-counted-weighs {b} {plan} {s} {t} {cs} {ws} {row} st own =
-    rw (weightless-is st own) (go (weightless (frameOf b) s t) refl)
+counted-weighs {b} {plan} {s} {t} {cs} {ws} {row} st r own =
+    rw (weightless-is st r own) (go (weightless (frameOf b) s t) refl)
   where
     go : (v : Bool) → weightless (frameOf b) s t ≡ v → RowWeighs (frameOf b) s t (if v then replicate 256 1 else row)
     go true e = ones-weigh (frameOf b) s t (spot st .good .sound .guides-high) e

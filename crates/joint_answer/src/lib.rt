@@ -5,15 +5,14 @@ use joint_cells::level::level_weight;
 use joint_search::Sizes;
 use joint_search::find;
 use joint_search::find::SearchEnd;
-use spec::Guide;
 use spec::Level;
 use spec::Way;
 use spec::by_blocks;
 use spec::shifts_to;
 ghost use mathlib.Core.Path.{_≡_};
-ghost use mathlib.Core.Bool.{true};
+ghost use mathlib.Core.Bool.{true, false};
 ghost use Prim.Native.Nat.{_<_};
-ghost use lib.ListN.{length, getD};
+ghost use lib.ListN.{length};
 ghost use Rattle.spec.specs.Walk.{byBlocks};
 ghost use Rattle.joint_cells.specs.Scan.{RowFits};
 ghost use Rattle.joint_search.specs.Search.{weightlessIn, boxIn, Searchable};
@@ -41,21 +40,20 @@ pub fn none_weighs(sizes: Sizes, row: &[u16], cut: Level, counts: &[u16], words:
 }
 
 // A row of the window's own weights turned into ones where no pixel weighs anything (document 01: hollow), because each is counted as 1 there
-// (document 02). Where the centre weighs something for itself, as in most tables, no level is looked at.
+// (document 02). Where a pixel of the window is known to weigh something, no level is looked at.
 pub fn ones_if_hollow(
     sizes: Sizes,
-    centre: Guide,
+    weighs: bool,
     cut: Level,
     counts: &[u16],
     words: &[u64],
     row: &mut [u16; 256],
 )
     requires { ⌜ (Searchable sizes (now counts) (now words)) × (RowFits (sizes .guides) (now row)) × (length (now row) ≡ 256) ⌝ }
-    requires { ⌜ (cut .0 < sizes .levels) × (centre .0 < 256)
-        × (weightlessIn sizes (now counts) (now row) ≡ true → getD (now row) (centre .0) 0 ≡ 0) ⌝ }
+    requires { ⌜ (cut .0 < sizes .levels) × (weighs ≡ true → weightlessIn sizes (now counts) (now row) ≡ false) ⌝ }
     ensures { λ _. ⌜ (now (row .exit) ≡ countedRow sizes (now (counts .entry)) (now (row .entry))) × (length (now (row .exit)) ≡ 256) ⌝ }
 {
-    if row[centre.0 as usize] != 0 {
+    if weighs {
         return;
     }
     if none_weighs(sizes, row, cut, counts, words) {

@@ -36,7 +36,7 @@ pub record GuidedVisited (p : Frame) (s t c n : ℕ) (v : Visit) (bx : List ℤ)
   pub box : bx ≡ balanceBox p s t (v .cut .0)
   pub guided : GuidedAt p s t (v .cut .0) (v .running .sums) (v .running .below) ns
 
--- way 4: the same without a box, whatever the cut point was
-pub record BlocksVisited (p : Frame) (s t n : ℕ) (v : Visit) (ns : List ℕ) : Type 0 where
-  pub state : (c : ℕ) → stateOf Coarse v ≡ arrive Coarse p s t c n
+-- way 4: the same without a box
+pub record BlocksVisited (p : Frame) (s t c n : ℕ) (v : Visit) (ns : List ℕ) : Type 0 where
+  pub state : stateOf Coarse v ≡ arrive Coarse p s t c n
   pub guided : GuidedAt p s t (v .cut .0) (v .running .sums) (v .running .below) ns

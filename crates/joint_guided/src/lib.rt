@@ -38,7 +38,7 @@ pub fn tally_below(histogram: &[u32], levels: usize, end: usize) -> Tally
     search::gather(&histogram[0..levels], &histogram[levels..last], end)
 }
 
-// Way 1: the window's answer, and the box moved to it; before is the tally of the window that the two lists lead from. Only a monotone window
+// Way 1: the window's answer, and the box moved to it, which stays where there is no reading; before is the tally of the window that the two lists lead from. Only a monotone window
 // needs it, and it is carried there alone.
 pub fn arrive(
     file: &[u8],
@@ -61,6 +61,10 @@ pub fn arrive(
     requires { ⌜ (cut .0 < plan .levels) × (shifts ≤ 4294967296) × (now «balance_box» ≡ balanceBox (frameOf (now file)) s t (cut .0)) ⌝ }
     ensures { λ r. ⌜ GuidedVisited (frameOf (now (file .entry))) s t (cut .0) shifts r (now («balance_box» .exit)) (now (histogram .entry)) ⌝ }
 {
+    let free = FreeList { head: 0, count: 0 };
+    if a.count == 0 {
+        return visit::unread(s, t, cut, shifts, a, free);
+    }
     let l = plan.levels;
     let last = l + l;
     let coefficients = coefficients::of_window(file, plan, a, s, t);
@@ -83,7 +87,6 @@ pub fn arrive(
         guides: plan.guides,
     };
     joint_cut::move_to(sizes, cut, level, balance_box, counts, words);
-    let free = FreeList { head: 0, count: 0 };
     let running = Running {
         sums: a,
         below: tally,
@@ -92,20 +95,25 @@ pub fn arrive(
     visit::answered(s, t, level, r.shifts, running)
 }
 
-// Way 4: the window's answer, which no cut point enters.
+// Way 4: the window's answer, which no cut point enters; it is kept where there is no reading.
 pub fn arrive_by_blocks(
     file: &[u8],
     plan: Plan,
     a: Sums,
     s: usize,
     t: usize,
+    cut: Level,
     shifts: u64,
     histogram: &[u32],
 ) -> Visit
     requires { ⌜ (Planned (now file) plan) × (plan .kind ≡ 2) × (s < plan .width) × (t < plan .height) ⌝ }
     requires { ⌜ (SumsAt (frameOf (now file)) s t a) × (Histogram (frameOf (now file)) s t (now histogram)) × (shifts ≤ 4294967296) ⌝ }
-    ensures { λ r. ⌜ BlocksVisited (frameOf (now (file .entry))) s t shifts r (now (histogram .entry)) ⌝ }
+    ensures { λ r. ⌜ BlocksVisited (frameOf (now (file .entry))) s t (cut .0) shifts r (now (histogram .entry)) ⌝ }
 {
+    let free = FreeList { head: 0, count: 0 };
+    if a.count == 0 {
+        return visit::unread(s, t, cut, shifts, a, free);
+    }
     let l = plan.levels;
     let last = l + l;
     let coefficients = coefficients::of_window(file, plan, a, s, t);
@@ -120,7 +128,6 @@ pub fn arrive_by_blocks(
     );
     let level = r.level;
     let tally = r.tally;
-    let free = FreeList { head: 0, count: 0 };
     let running = Running {
         sums: a,
         below: tally,
@@ -133,11 +140,11 @@ pub fn arrive_by_blocks(
 pub fn enter_by_blocks(file: &[u8], plan: Plan, s: usize, t: usize, histogram: &mut [u32]) -> Visit
     requires { ⌜ (Planned (now file) plan) × (plan .kind ≡ 2) × (s < plan .width) × (t < plan .height) ⌝ }
     requires { ⌜ Blank (plan .levels) (now histogram) ⌝ }
-    ensures { λ r. ⌜ BlocksVisited (frameOf (now (file .entry))) s t 0 r (now (histogram .exit)) ⌝ }
+    ensures { λ r. ⌜ BlocksVisited (frameOf (now (file .entry))) s t 0 0 r (now (histogram .exit)) ⌝ }
 {
     histogram::start(file, plan, s, t, histogram);
     let a = sums::start(file, plan, s, t);
-    arrive_by_blocks(file, plan, a, s, t, 0, histogram)
+    arrive_by_blocks(file, plan, a, s, t, Level(0), 0, histogram)
 }
 
 // Way 1's first window at (s, t), its stores and its box being made.

@@ -5,6 +5,7 @@ use mathlib.Core.Bool.{false}
 use mathlib.Core.Logic.{⊎-elim}
 use mathlib.Core.List.{List}
 use Prim.Native.Nat.{ℕ, _+_, _-_, _*_, _/_, _%_, _≤_, _<_}
+use native.Mathlib.Nat.{le-div-iff-mul-le}
 use native.Mathlib.Omega.{arith}
 use lib.Arith.{digits-div, digits-mod}
 use lib.ListN.{length, getD, set, take, drop, length-set}
@@ -17,7 +18,7 @@ use Rattle.spec.specs.Frame.{Frame, guide, table, heaviest, plane, pixelGuide, 
 use Rattle.spec.specs.Checks.{Planned}
 use Rattle.spec.specs.Weight.{weightless}
 use Rattle.spec.proofs.Lists.{part-long, part-cell}
-use Rattle.spec.proofs.Limits.{built-in-low, built-in-pos, be16-low}
+use Rattle.spec.proofs.Limits.{built-in-low, be16-low}
 use Rattle.spec.proofs.Plans.{facts, pixel-of, place-low, table-own, table-built}
 use Rattle.spec.proofs.Own.{own-table, table-weighs}
 use Rattle.window.proofs.PixelLaws.{guides-range}
@@ -33,15 +34,25 @@ mirror-built : (f h : ℕ) → f ≤ 255 → builtIn 255 (255 - f + h) ≡ built
 unfolding builtIn
 mirror-built f h l = let e : distance 255 (255 - f + h) ≡ distance f h = omega arith in ap (λ (d : ℕ). 4096 / (16 + d)) e
 
+-- the built-in weights are above 0
+built-in-weighs : (f g : ℕ) → f ≤ 255 → g ≤ 255 → 0 < builtIn f g
+unfolding builtIn
+built-in-weighs f g hf hg = le-div-iff-mul-le {k = 16 + distance f g} {x = 1} {y = 4096} (omega arith) .1 (omega arith)
+
 module _ {b : List ℕ} {z : Plan} (pl : Planned b z) {s t : ℕ} (hs : s < z .width) (ht : t < z .height) where
   pub centre-place : t * z .width + s < z .width * z .height
   centre-place = place-low z s t hs ht
 
-  -- the built-in weights are above 0, so that no window is hollow
+  -- so that no window is hollow
   pub built-weighs : z .kind ≡ 1 → z .weights ≡ 0 → weightless (frameOf b) s t ≡ false
   built-weighs one none =
       let c = guide (frameOf b) s t in
-      table-weighs (pixel-of pl hs ht) (sym (facts pl .kind) ∙ one) (rw (table-built pl none c c) (built-in-pos c))
+      let k = pixel-of pl hs ht in
+      let m = k .good .sound .guides-high in
+      let low = k .good .guide-low s t (k .in-column) (k .in-row) in
+      table-weighs (frameOf b) s t (sym (facts pl .kind) ∙ one)
+      (λ x y h. rw (table-built pl none c (guide (frameOf b) x y))
+      (built-in-weighs c (guide (frameOf b) x y) (omega (arith, low, m)) (omega (arith, k .good .guide-low x y (h .wide) (h .high), m))))
 
   module _ {f : ℕ} (ef : f ≡ pixelGuide b (t * z .width + s)) where
     pub centre-is : f ≡ guide (frameOf b) s t

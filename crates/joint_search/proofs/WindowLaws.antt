@@ -15,7 +15,7 @@ use Rattle.ints.specs.Polynomial.{_⊕_, _⊖_, _⊗_, #_, _≐_, solve2}
 use Rattle.spec.specs.declared.Plan.{Plan}
 use Rattle.spec.specs.Base.{if_then_else_, indicator, sum, sumℤ}
 use Rattle.spec.specs.Frame.{Frame, level, guide, frameOf}
-use Rattle.spec.specs.Window.{inCell, count, pixelCount}
+use Rattle.spec.specs.Window.{inCell, count, pixelCount, empty}
 use Rattle.spec.specs.Median.{totalWeight, cumulative, balance, median}
 use Rattle.spec.specs.Weight.{ownWeight, ownTotal, isZero, weightless}
 use Rattle.spec.specs.Joint.{jointCounts, occupancyWords, balanceBox}
@@ -89,7 +89,7 @@ module _ {p : Frame} {s t : ℕ} (k : Pixel p s t) where
       fold-same _+ℤ_ (pos 0) intSums _ _ 0 (p .set .levels) (λ i x y. sym (over-pos p s t (inCell p i f)))
       ∙ sym (over-fold _+ℤ_ (pos 0) intSums p s t (λ i x y. pos (inCell p i f x y)) (p .set .levels))
       ∙ over-inWindow _+ℤ_ (pos 0) intSums p s t _ _
-      (λ x y h. let l = k .good .level-low x y (h .wide) (h .high) in
+      (λ x y h. let l = k .good .level-low x y (h .wide) (h .high) (h .read) in
       one-level (level p x y) (p .set .levels) (eqb (guide p x y) f) l ∙ sym (rw (le-leb (level p x y) (p .set .levels - 1) (omega arith)) refl))
 
   -- so a cell of the box is their balance: at the last cut point, and from there down
@@ -188,16 +188,17 @@ module _ {b : List ℕ} {plan : Plan} {s t : ℕ} {cs ws : List ℕ} (st : Count
         ∙ fold-same _+ℤ_ (pos 0) intSums _ _ 0 M (λ f u v. let l : f < M = subst (λ (q : ℕ). f < q) (zero-add M) v in
         ap₂ (λ (n : ℕ) (x : ℤ). pos n *ℤ x) (rep .cells i f h′ l) (sym (gives .is f l)))
 
-  -- its own weights: the hollow test
-  pub weightless-is : {row : List ℕ} → RowOwn (frameOf b) s t row → weightlessIn (sizesOf plan) cs row ≡ weightless (frameOf b) s t
+  -- its own weights: the hollow test, where there is a reading
+  pub weightless-is : {row : List ℕ} → empty (frameOf b) s t ≡ false → RowOwn (frameOf b) s t row → weightlessIn (sizesOf plan) cs row ≡ weightless (frameOf b) s t
   unfolding weightlessOf weightless totalOf ownTotal
-  weightless-is {row} own =
+  weightless-is {row} r own =
       let p = frameOf b in
-      ap isZero
+      rw r
+      (ap isZero
       (fold-same _+ℤ_ (pos 0) intSums _ _ 0 (plan .levels) (λ i x y. level-by own i (omega arith)
       ∙ fold-same _+ℤ_ (pos 0) intSums _ _ 0 (p .set .guides) (λ f u v. sym (times-is (count p s t i f) (ownWeight p s t f))))
       ∙ ap (λ (l : ℕ). sumℤ (λ i. sumℤ (λ f. times _+ℤ_ (pos 0) (count p s t i f) (ownWeight p s t f)) 0 (p .set .guides)) 0 l) levels-eq
-      ∙ sym (over-joint _+ℤ_ (pos 0) intSums p s t (λ i f. ownWeight p s t f) (spot .good .level-low) (spot .good .guide-low)))
+      ∙ sym (over-joint _+ℤ_ (pos 0) intSums p s t (λ i f. ownWeight p s t f) (spot .good .level-low) (spot .good .guide-low))))
 
   -- the weights that it is counted with
   module _ {row : List ℕ} (weighs : RowWeighs (frameOf b) s t row) where

@@ -1,26 +1,30 @@
 -- Laws of the arrival in kind 1: by the counts of a window, and a row that gives its weights, it is the frame's.
 -- Assumes nothing.
 use mathlib.Core.Path.{_≡_, refl, sym, ap, _∙_}
-use mathlib.Core.Bool.{Bool, true}
+use mathlib.Core.Bool.{Bool, true, false, true≢false, not, _&&_}
 use mathlib.Core.List.{List}
-use Prim.Native.Nat.{ℕ, _+_, _<_}
+use Prim.Native.Nat.{ℕ, _+_, _*_, _<_}
+use native.Mathlib.Omega.{arith}
+use lib.Dec.{eqb}
 use lib.ListN.{getD}
 use lib.IntN.{ℤ, pos, natAbs}
-use borrow.Author.Tests.{eq-eqb}
+use borrow.Author.Tests.{eq-eqb, eqb-false}
 use Rattle.spec.specs.declared.Plan.{Plan}
 use Rattle.spec.specs.declared.Way.{Way}
 use Rattle.spec.specs.Base.{if_then_else_}
-use Rattle.spec.specs.Frame.{Frame, guide, frameOf}
+use Rattle.spec.specs.Frame.{Frame, level, guide, noReading, pixelLevel, frameOf}
 use Rattle.spec.specs.Checks.{Planned}
+use Rattle.spec.specs.Window.{InWindow, empty}
 use Rattle.spec.specs.Weight.{monotone}
 use Rattle.spec.specs.Median.{median}
 use Rattle.spec.specs.Joint.{balanceBox}
-use Rattle.spec.specs.Walk.{byBlocks, shiftsTo, adds, arrive}
+use Rattle.spec.specs.Walk.{byBlocks, shiftsTo, arrive}
+use Rattle.spec.proofs.Checks.{both}
 use Rattle.spec.proofs.Limits.{FrameLimits, Pixel}
-use Rattle.spec.proofs.Plans.{kind-of}
-use Rattle.spec.proofs.Own.{weightless-zero, table-light, centre-in-window}
+use Rattle.spec.proofs.Plans.{facts, kind-of}
+use Rattle.spec.proofs.Own.{weightless-zero, table-light}
 use Rattle.spec.proofs.Totals.{median-low, answer-median}
-use Rattle.spec.proofs.Walks.{arrive-cut, arrive-shifts, arrive-answer}
+use Rattle.spec.proofs.Walks.{cut-read, adds-read, arrive-cut, arrive-shifts, arrive-answer}
 use Rattle.joint_search.specs.declared.find.SearchEnd.{SearchEnd}
 use Rattle.joint_search.specs.Search.{weightlessIn}
 use Rattle.joint_search.specs.Window.{Counted, RowOwn, RowWeighs, sizesOf}
@@ -33,34 +37,64 @@ table-monotone : {b : List ℕ} {plan : Plan} → Planned b plan → (s t : ℕ)
 unfolding monotone
 table-monotone {b} pl s t e = rw (eq-eqb (frameOf b .set .kind) 1 (kind-of pl e)) refl
 
-pub arrives-of : {b : List ℕ} {plan : Plan} {s t : ℕ} {cs ws row : List ℕ} → Counted b plan s t cs ws → RowWeighs (frameOf b) s t row
-    → plan .kind ≡ 1 → (way : Way) {c n : ℕ} {r : SearchEnd} {bx : List ℤ} → AnsweredBy (byBlocks way) (sizesOf plan) cs row c n r bx
+pub arrives-of : {b : List ℕ} {plan : Plan} {s t : ℕ} {cs ws row : List ℕ} → Counted b plan s t cs ws → empty (frameOf b) s t ≡ false
+    → RowWeighs (frameOf b) s t row → plan .kind ≡ 1 → (way : Way) {c n : ℕ} {r : SearchEnd} {bx : List ℤ} → AnsweredBy (byBlocks way) (sizesOf plan) cs row c n r bx
     → Arrives way (frameOf b) s t c n r bx
-unfolding adds
-arrives-of {b} {plan} {s} {t} st weighs one way {c} {n} {r} a =
+arrives-of {b} {plan} {s} {t} st read weighs one way {c} {n} {r} a =
     let p = frameOf b in
     let m = median p s t in
     let k : r .level .0 ≡ m = a .level ∙ median-is st weighs in
     record {
-      level = k ∙ sym (arrive-cut way p s t c n);
+      level = k ∙ sym (arrive-cut way p s t c n ∙ cut-read p s t c read);
       shifts =
           a .shifts ∙ ap (λ (q : ℕ). n + shiftsTo (byBlocks way) q c) k
           ∙ ap (λ (u : Bool). n + (if u then shiftsTo (byBlocks way) m c else m)) (sym (table-monotone (st .planned) s t one))
-          ∙ sym (arrive-shifts way p s t c n);
+          ∙ sym (arrive-shifts way p s t c n ∙ ap (λ (q : ℕ). n + q) (adds-read way p s t c read));
       box = box-at st (a .box) k (rw (levels-eq st) (median-low (spot st))) ∙ ap (balanceBox p s t) (sym k);
     }
 
 -- what is answered: the new cut point
-pub cut-answer : (way : Way) (p : Frame) (s t c n : ℕ) → arrive way p s t c n .cut ≡ arrive way p s t c n .answer
-cut-answer way p s t c n = arrive-cut way p s t c n ∙ sym (answer-median p s t) ∙ sym (arrive-answer way p s t c n)
+pub cut-answer : (way : Way) (p : Frame) (s t c n : ℕ) → empty p s t ≡ false → arrive way p s t c n .cut ≡ arrive way p s t c n .answer
+cut-answer way p s t c n read =
+    arrive-cut way p s t c n ∙ cut-read p s t c read ∙ sym (answer-median p s t read) ∙ sym (arrive-answer way p s t c n)
 
--- where nothing weighs anything the centre does not, for itself
-pub centre-none : {b : List ℕ} {plan : Plan} {s t : ℕ} {cs ws row : List ℕ} → Counted b plan s t cs ws → RowOwn (frameOf b) s t row → plan .kind ≡ 1
-    → {f : ℕ} → f ≡ guide (frameOf b) s t → weightlessIn (sizesOf plan) cs row ≡ true → getD row f 0 ≡ 0
-centre-none {b} {s = s} {t} {row = row} st own one {f} ef e =
-    let p = frameOf b in
-    let k = spot st in
-    let low : guide p s t < p .set .guides = k .good .guide-low s t (k .in-column) (k .in-row) in
-    let none = weightless-zero p s t (table-light p s t (kind-of (st .planned) one)) (sym (weightless-is st own) ∙ e) s t (centre-in-window k) in
-    let zero : pos (getD row (guide p s t) 0) ≡ pos 0 = sym (own .is (guide p s t) low) ∙ none in
-    ap (λ (q : ℕ). getD row q 0) ef ∙ ap natAbs zero
+-- a live centre that weighs something for itself: then not nothing does
+not-true : (a : Bool) → not a ≡ true → a ≡ false
+not-true true e = absurd (true≢false (sym e))
+not-true false e = refl
+
+pub centre-some : {b : List ℕ} {plan : Plan} {s t : ℕ} {cs ws row : List ℕ} → Counted b plan s t cs ws → empty (frameOf b) s t ≡ false
+    → RowOwn (frameOf b) s t row → plan .kind ≡ 1 → {f : ℕ} → f ≡ guide (frameOf b) s t
+    → (not (eqb (getD row f 0) 0) && not (eqb (pixelLevel b (t * plan .width + s)) noReading)) ≡ true
+    → weightlessIn (sizesOf plan) cs row ≡ false
+centre-some {b} {plan} {s} {t} {cs} {row = row} st read own one {f} ef e = go (weightlessIn (sizesOf plan) cs row) refl
+  where
+    p : Frame
+    p = frameOf b
+
+    k : Pixel p s t
+    k = spot st
+
+    tests : (not (eqb (getD row f 0) 0) ≡ true) × (not (eqb (pixelLevel b (t * plan .width + s)) noReading) ≡ true)
+    tests = both (not (eqb (getD row f 0) 0)) (not (eqb (pixelLevel b (t * plan .width + s)) noReading)) e
+
+    live : eqb (level p s t) noReading ≡ false
+    live =
+        ap (λ (i : ℕ). eqb i noReading) (sym (facts (st .planned) .level-at s t))
+        ∙ not-true (eqb (pixelLevel b (t * plan .width + s)) noReading) (tests .1)
+
+    centre : InWindow p s t s t
+    centre =
+        record { left = omega arith; right = omega arith; wide = k .in-column; top = omega arith; bottom = omega arith; high = k .in-row; read = live }
+
+    low : guide p s t < p .set .guides
+    low = k .good .guide-low s t (k .in-column) (k .in-row)
+
+    zero : weightlessIn (sizesOf plan) cs row ≡ true → getD row f 0 ≡ 0
+    zero d =
+        let none = weightless-zero p s t (table-light p s t (kind-of (st .planned) one)) (sym (weightless-is st read own) ∙ d) s t centre in
+        ap (λ (q : ℕ). getD row q 0) ef ∙ ap natAbs (sym (own .is (guide p s t) low) ∙ none)
+
+    go : (v : Bool) → weightlessIn (sizesOf plan) cs row ≡ v → v ≡ false
+    go true d = absurd (eqb-false (getD row f 0) 0 (not-true (eqb (getD row f 0) 0) (tests .0)) (zero d))
+    go false d = refl

@@ -4,7 +4,10 @@ use mathlib.Core.Path.{_≡_, refl, sym, ap, _∙_}
 use mathlib.Core.Bool.{Bool, true, false, true≢false}
 use mathlib.Core.Logic.{inl, inr}
 use mathlib.Core.List.{List}
-use Prim.Native.Nat.{ℕ, _<_}
+use Prim.Native.Nat.{ℕ, zero, suc, _+_, _-_, _/_, _≤_, _<_}
+use native.Mathlib.Numerals.{add-one}
+use lib.ListN.{length, take, drop}
+use lib.Seq.{length-take-le}
 use native.Mathlib.Omega.{arith}
 use lib.Dec.{eqb}
 use lib.IntN.{ℤ}
@@ -15,10 +18,16 @@ use Rattle.spec.specs.declared.Way.the-variants.{Joint, Coarse}
 use Rattle.spec.specs.Base.{if_then_else_}
 use Rattle.spec.specs.Frame.{Frame, frameOf}
 use Rattle.spec.specs.Checks.{Planned}
+use Rattle.spec.specs.Window.{pixelCount}
 use Rattle.spec.specs.Joint.{balanceBox}
 use Rattle.spec.specs.Walk.{byBlocks, arrive}
 use Rattle.spec.proofs.Plans.{facts, kind-of, pixel-of}
+use Rattle.window.specs.declared.line.Step.{Step}
 use Rattle.window.specs.declared.sums.Sums.{Sums}
+use Rattle.window.specs.Line.{Adjacent, stepOf}
+use Rattle.window.specs.Sums.{one}
+use Rattle.pixels.specs.Pixels.{countOf, pixelFoldTo, pixelFold, LinePixels}
+use Rattle.pixels.proofs.AdditiveLaws.{pixels-none, pixels-more, stepped}
 use Rattle.level_search.specs.declared.Tally.{Tally}
 use Rattle.joint.specs.Window.{JointAt}
 use Rattle.joint.proofs.WindowLaws.{settled}
@@ -27,7 +36,7 @@ use Rattle.visit.specs.declared.Visit.{Visit}
 use Rattle.visit.specs.Visit.{stateOf}
 use Rattle.visit.proofs.Laws.{at-visit}
 use Rattle.joint_guided.specs.Guided.{GuidedVisited, BlocksVisited}
-use Rattle.joint_visit.specs.Visit.{JointWay, boxCut, GuidedCarried, JointVisited}
+use Rattle.joint_visit.specs.Visit.{JointWay, boxCut, JointCarried, JointVisited}
 
 module _ {b : List ℕ} {z : Plan} (pl : Planned b z) where
   pub counted-of : {s t c : ℕ} {xs ws xs′ ws′ : List ℕ} {bx′ : List ℤ} → s < z .width → t < z .height → JointAt (frameOf b) s t c xs ws xs′ ws′ bx′ →
@@ -36,9 +45,33 @@ module _ {b : List ℕ} {z : Plan} (pl : Planned b z) where
       let k = settled (pixel-of pl hs ht) j in
       record { planned = pl; column = hs; row = ht; counts = k .counts; words = k .words }
 
-  -- kind 1 carries nothing
-  pub carried-none : {s t c : ℕ} {a : Sums} {w : Tally} {ns : List ℕ} → z .kind ≡ 1 → GuidedCarried (frameOf b) s t c a w ns
-  carried-none one = record { guided = λ two. absurd (omega (arith, one, facts pl .kind, two)) }
+  -- kind 1 carries the number of pixels alone
+  pub carried-count : {s t c : ℕ} {a : Sums} {w : Tally} {ns : List ℕ} → z .kind ≡ 1 → a .count ≡ pixelCount (frameOf b) s t
+      → JointCarried (frameOf b) s t c a w ns
+  carried-count one e = record { count = e; guided = λ two. absurd (omega (arith, one, facts pl .kind, two)) }
+
+-- ---- the number of pixels over a step, by the numbers of places of the two lists
+ones : (p : List ℕ) (k : ℕ) → pixelFoldTo _+_ 0 p one k ≡ k
+ones p zero = pixels-none _+_ 0 p one
+ones p (suc k) = sym (ap (pixelFoldTo _+_ 0 p one) (add-one k)) ∙ pixels-more _+_ 0 p one k ∙ ap (λ (n : ℕ). n + 1) (ones p k) ∙ add-one k
+
+places : (n : ℕ) (p : List ℕ) → n ≤ length p → pixelFold _+_ 0 (take (n - 0) (drop 0 p)) one ≡ n / 2
+places n p h =
+    let e : n - 0 ≡ n = omega arith in
+    ones (take (n - 0) (drop 0 p)) (countOf (take (n - 0) (drop 0 p))) ∙ ap (λ (m : ℕ). m / 2) (rw e (length-take-le n p h))
+
+module _ {b : List ℕ} {z : Plan} (pl : Planned b z) {s t s′ t′ : ℕ} (adj : Adjacent z s t s′ t′) {d : Step} (ed : d ≡ stepOf z s t s′ t′)
+    {n k : ℕ} (e l : List ℕ) (he : n ≤ length e) (hl : k ≤ length l) (re : LinePixels b z (d .entering) (take (n - 0) (drop 0 e)))
+    (rl : LinePixels b z (d .leaving) (take (k - 0) (drop 0 l))) {m : ℕ} (v : m ≡ pixelCount (frameOf b) s t) where
+  count-stepped : pixelCount (frameOf b) s′ t′ + k / 2 ≡ m + n / 2
+  unfolding pixelCount
+  count-stepped = omega (arith, stepped (λ (g : ℕ → ℕ → ℕ). g) pl adj ed re rl one, places n e he, places k l hl, v)
+
+  pub count-enough : k / 2 ≤ m + n / 2
+  count-enough = omega (arith, count-stepped)
+
+  pub count-moved : m + n / 2 - k / 2 ≡ pixelCount (frameOf b) s′ t′
+  count-moved = omega (arith, count-stepped)
 
 -- ---- the level of the box
 pub box-cut-table : (blocks : Bool) (kind c : ℕ) → kind ≡ 1 → boxCut blocks kind c ≡ c
@@ -69,29 +102,29 @@ joint-way way (inr e) b = absurd (true≢false (sym (ap byBlocks e) ∙ b))
 -- ---- the window is the visit's own
 pub joint-visited : (way : Way) (p : Frame) (s t c n : ℕ) (v : Visit) (xs ws xs′ ws′ : List ℕ) (bx : List ℤ) (ns : List ℕ)
     → stateOf way v ≡ arrive way p s t c n → JointAt p s t (boxCut (byBlocks way) (p .set .kind) (v .cut .0)) xs ws xs′ ws′ bx
-    → GuidedCarried p s t (v .cut .0) (v .running .sums) (v .running .below) ns → JointVisited way p (arrive way p s t c n) v xs ws xs′ ws′ bx ns
+    → JointCarried p s t (v .cut .0) (v .running .sums) (v .running .below) ns → JointVisited way p (arrive way p s t c n) v xs ws xs′ ws′ bx ns
 joint-visited way p s t c n v xs ws xs′ ws′ bx ns e j k =
     record {
       state = e;
       joint = at-visit way p s t c n (λ x y. JointAt p x y (boxCut (byBlocks way) (p .set .kind) (v .cut .0)) xs ws xs′ ws′ bx) v e j;
-      carried = at-visit way p s t c n (λ x y. GuidedCarried p x y (v .cut .0) (v .running .sums) (v .running .below) ns) v e k;
+      carried = at-visit way p s t c n (λ x y. JointCarried p x y (v .cut .0) (v .running .sums) (v .running .below) ns) v e k;
     }
 
 -- ---- by kind and way, from stores that were made or moved with the box at the kept level
 module _ {b : List ℕ} {z : Plan} (pl : Planned b z) (way : Way) (c n : ℕ) {s t : ℕ} {v : Visit}
     {xs ws xs′ ws′ : List ℕ} {bx : List ℤ} {ns : List ℕ} where
   -- kind 1
-  pub table-visited : {d : ℕ} {bx₀ : List ℤ} → z .kind ≡ 1 → JointAt (frameOf b) s t d xs ws xs′ ws′ bx₀
-      → (stateOf way v ≡ arrive way (frameOf b) s t c n) × (bx ≡ balanceBox (frameOf b) s t (v .cut .0))
+  pub table-visited : {d m : ℕ} {bx₀ : List ℤ} → z .kind ≡ 1 → m ≡ pixelCount (frameOf b) s t → JointAt (frameOf b) s t d xs ws xs′ ws′ bx₀
+      → (stateOf way v ≡ arrive way (frameOf b) s t c n) × (bx ≡ balanceBox (frameOf b) s t (v .cut .0)) × (v .running .sums .count ≡ m)
       → JointVisited way (frameOf b) (arrive way (frameOf b) s t c n) v xs ws xs′ ws′ bx ns
-  table-visited one j e =
+  table-visited one em j e =
       joint-visited way (frameOf b) s t c n v xs ws xs′ ws′ bx ns (e .0)
       (record {
         counts = j .counts;
         words = j .words;
         box = e .1 ∙ ap (balanceBox (frameOf b) s t) (sym (box-cut-table (byBlocks way) (frameOf b .set .kind) (v .cut .0) (kind-of pl one)));
       })
-      (carried-none pl one)
+      (carried-count pl one (e .2 ∙ em))
 
   -- kind 2, way 1
   pub guided-visited : {d : ℕ} {bx₀ : List ℤ} → JointWay way → byBlocks way ≡ false → JointAt (frameOf b) s t d xs ws xs′ ws′ bx₀
@@ -104,17 +137,17 @@ module _ {b : List ℕ} {z : Plan} (pl : Planned b z) (way : Way) (c n : ℕ) {s
         words = j .words;
         box = g .box ∙ ap (balanceBox (frameOf b) s t) (sym (box-cut-joint (frameOf b .set .kind) (v .cut .0)));
       })
-      (record { guided = λ _. g .guided }))
+      (record { count = g .guided .sums .count; guided = λ _. g .guided }))
 
   -- kind 2, way 4: the box has not been touched since
   pub blocks-visited : JointWay way → byBlocks way ≡ true → z .kind ≡ 2 → JointAt (frameOf b) s t 0 xs ws xs′ ws′ bx
-      → BlocksVisited (frameOf b) s t n v ns → JointVisited way (frameOf b) (arrive way (frameOf b) s t c n) v xs ws xs′ ws′ bx ns
+      → BlocksVisited (frameOf b) s t c n v ns → JointVisited way (frameOf b) (arrive way (frameOf b) s t c n) v xs ws xs′ ws′ bx ns
   blocks-visited w e two j g =
       rw (coarse-way way w e)
-      (joint-visited Coarse (frameOf b) s t c n v xs ws xs′ ws′ bx ns (g .state c)
+      (joint-visited Coarse (frameOf b) s t c n v xs ws xs′ ws′ bx ns (g .state)
       (record {
         counts = j .counts;
         words = j .words;
         box = j .box ∙ ap (balanceBox (frameOf b) s t) (sym (box-cut-guided (frameOf b .set .kind) (v .cut .0) (kind-of pl two)));
       })
-      (record { guided = λ _. g .guided }))
+      (record { count = g .guided .sums .count; guided = λ _. g .guided }))

@@ -11,6 +11,7 @@ use Rattle.spec.specs.declared.Way.{Way}
 use Rattle.spec.specs.declared.Way.the-variants.{Joint, Coarse}
 use Rattle.spec.specs.Base.{if_then_else_}
 use Rattle.spec.specs.Frame.{Frame}
+use Rattle.spec.specs.Window.{pixelCount}
 use Rattle.spec.specs.Walk.{State, byBlocks}
 use Rattle.window.specs.declared.sums.Sums.{Sums}
 use Rattle.level_search.specs.declared.Tally.{Tally}
@@ -27,8 +28,9 @@ JointWay way = (way ≡ Joint) ⊎ (way ≡ Coarse)
 unfoldable pub boxCut : Bool → ℕ → ℕ → ℕ
 boxCut blocks kind c = if eqb kind 2 then (if blocks then 0 else c) else c
 
--- what kind 2 carries beside the stores; kind 1 carries nothing
-pub record GuidedCarried (p : Frame) (s t c : ℕ) (a : Sums) (w : Tally) (ns : List ℕ) : Type 0 where
+-- what is carried beside the stores: the number of the window's pixels, and in kind 2 all that its search goes by
+pub record JointCarried (p : Frame) (s t c : ℕ) (a : Sums) (w : Tally) (ns : List ℕ) : Type 0 where
+  pub count : a .count ≡ pixelCount p s t
   pub guided : p .set .kind ≡ 2 → GuidedAt p s t c a w ns
 
 -- the visit is in the state x, and the stores, which held xs and ws, the box and the histogram are those of its window; nothing beyond the way's
@@ -36,4 +38,4 @@ pub record GuidedCarried (p : Frame) (s t c : ℕ) (a : Sums) (w : Tally) (ns : 
 pub record JointVisited (way : Way) (p : Frame) (x : State) (v : Visit) (xs ws xs′ ws′ : List ℕ) (bx′ : List ℤ) (ns′ : List ℕ) : Type 0 where
   pub state : stateOf way v ≡ x
   pub joint : JointAt p (v .column) (v .row) (boxCut (byBlocks way) (p .set .kind) (v .cut .0)) xs ws xs′ ws′ bx′
-  pub carried : GuidedCarried p (v .column) (v .row) (v .cut .0) (v .running .sums) (v .running .below) ns′
+  pub carried : JointCarried p (v .column) (v .row) (v .cut .0) (v .running .sums) (v .running .below) ns′

@@ -18,7 +18,7 @@ ghost use Rattle.joint.specs.Window.{Fresh, Held};
 ghost use Rattle.histogram.specs.Histogram.{Blank};
 ghost use Rattle.joint_rows.specs.Rows.{WeightRows};
 ghost use Rattle.visit.specs.Visit.{Within};
-ghost use Rattle.joint_visit.specs.Visit.{boxCut, JointWay, GuidedCarried, JointVisited};
+ghost use Rattle.joint_visit.specs.Visit.{boxCut, JointWay, JointCarried, JointVisited};
 
 // The level that the box is kept at, with the walk's cut point.
 pub fn box_cut(blocks: bool, kind: usize, cut: Level) -> Level
@@ -77,6 +77,7 @@ pub fn enter(
             histogram,
         );
     }
+    let a = sums::start(file, plan, column, row);
     joint_table::visit(
         file,
         plan,
@@ -84,6 +85,7 @@ pub fn enter(
         weights,
         column,
         row,
+        a.count,
         Level(0),
         0,
         balance_box,
@@ -108,7 +110,7 @@ pub fn slide(
 ) -> Visit
     requires { ⌜ (Held (now file) plan (from .column) (from .row) (boxCut (byBlocks way) (plan .kind) (from .cut .0))
         (now counts) (now words) (now «balance_box»)) × (Adjacent plan (from .column) (from .row) column row)
-        × (GuidedCarried (frameOf (now file)) (from .column) (from .row) (from .cut .0) (from .running .sums) (from .running .below)
+        × (JointCarried (frameOf (now file)) (from .column) (from .row) (from .cut .0) (from .running .sums) (from .running .below)
         (now histogram)) ⌝ }
     requires { ⌜ (WeightRows plan (now weights)) × (Within plan from) × (JointWay way) ⌝ }
     ensures { λ r. ⌜ JointVisited way (frameOf (now (file .entry)))
@@ -145,6 +147,7 @@ pub fn slide(
                 a,
                 column,
                 row,
+                cut,
                 from.shifts,
                 histogram,
             );
@@ -166,6 +169,9 @@ pub fn slide(
             histogram,
         );
     }
+    let carried = from.running;
+    let former = carried.sums;
+    let count = former.count + n / 2 - k / 2;
     joint_table::visit(
         file,
         plan,
@@ -173,6 +179,7 @@ pub fn slide(
         weights,
         column,
         row,
+        count,
         cut,
         from.shifts,
         balance_box,

@@ -1,18 +1,21 @@
 -- Laws of a summary: zeros place by place, and the sums gathered over blocks of 16 levels are the definition's.
 -- Assumes nothing.
 use mathlib.Core.Path.{_≡_, refl, sym, ap, ap₂, _∙_, subst}
+use mathlib.Core.Bool.{true}
 use mathlib.Core.Logic.{⊎-elim}
 use mathlib.Core.List.{List, _++_}
 use Prim.Native.Nat.{ℕ, _+_, _-_, _/_, _≤_, _<_}
 use native.Mathlib.Omega.{arith}
-use lib.ListN.{length, getD, set, take, drop, length-set, length-append, length-drop, List·getD-eq-default}
+use lib.ListN.{length, getD, set, take, drop, length-set, length-append, length-drop, take-append-drop, List·getD-eq-default}
 use lib.Seq.{getD-set-same, getD-set-other, drop-set-lt, ext-getD, length-take-le, getD-take}
 use lib.IntN.{ℤ, pos}
 use Rattle.ints.specs.Order.{eq-or-ne, lt-or-le}
 use Rattle.spec.specs.Frame.{Frame}
+use Rattle.spec.specs.Window.{empty}
 use Rattle.spec.specs.Coarse.{blockCount, blockWeight, summary}
 use Rattle.spec.proofs.First.{length-tabulate, getD-tabulate}
 use Rattle.weight_sums.specs.Sums.{blockOf, weightIn, Zeros, BlocksFit, Gathered}
+use Rattle.weight_sums.proofs.SumLaws.{gathered-empty}
 use Rattle.summary.specs.Summary.{Cleared}
 
 -- ---- zeros, place by place
@@ -71,3 +74,7 @@ module _ {n : ℕ} {xs ys : List ℤ} (room : n ≤ length xs) (g : Cleared n n 
   filled-long {zs = zs} h =
       length-append zs (drop (n - 0) (drop 0 ys))
       ∙ omega (arith, h .long, ap length part-is, part-long, length-drop (n - 0) ys, g .long)
+
+  -- where there is no reading, with none
+  pub filled-empty : (p : Frame) (s t : ℕ) → n ≡ blockCount (p .set) → empty p s t ≡ true → ys ≡ summary p s t ++ drop (blockCount (p .set)) xs
+  filled-empty p s t e none = sym (take-append-drop (n - 0) ys) ∙ filled e (gathered-empty 16 none zeros-part)

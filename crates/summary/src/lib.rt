@@ -1,4 +1,6 @@
 // Way 4's summary of a window: its weight sums over blocks of 16 levels, from the file alone.
+use balance::is_empty;
+use pixels::sums;
 use spec::Plan;
 use weight_sums::add_window;
 use weight_sums::weights_of;
@@ -25,7 +27,7 @@ pub fn clear(summary: &mut [i64], n: usize)
     }
 }
 
-// The summary of the window at (s, t), whatever its numbers held.
+// The summary of the window at (s, t), whatever its numbers held: 0 in each block where it has no reading.
 pub fn fill(file: &[u8], plan: Plan, s: usize, t: usize, summary: &mut [i64])
     requires { ⌜ (Planned (now file) plan) × (s < plan .width) × (t < plan .height) ⌝ }
     requires { ⌜ definitions.blockCount (frameOf (now file) .set) ≤ length (now summary) ⌝ }
@@ -34,8 +36,12 @@ pub fn fill(file: &[u8], plan: Plan, s: usize, t: usize, summary: &mut [i64])
 {
     let n = (plan.levels + (BLOCK - 1)) / BLOCK;
     clear(summary, n);
+    let a = sums::start(file, plan, s, t);
+    if is_empty(a) {
+        return;
+    }
     let mut row = [0u16; 256];
-    let c = weights_of(file, plan, s, t, &mut row);
+    let c = weights_of(file, plan, a, s, t, &mut row);
     let formula = c.formula;
     add_window(
         file,

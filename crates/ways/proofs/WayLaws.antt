@@ -99,8 +99,8 @@ record JointStores (way : Way) : Type 0 where
   numbers : (p : Frame) (s t : ℕ) (m : List ℕ) → NumbersOf way p s t m
   box : (p : Frame) (s t c : ℕ) → ownBox way p s t c ≡ balanceBox p s t (joint.boxCut (byBlocks way) (p .set .kind) c)
   carried : (b : List ℕ) (s t c : ℕ) (m hs : List ℕ) (r : Running) → WayCarries way b s t c m hs r →
-      joint.GuidedCarried (frameOf b) s t c (r .sums) (r .below) hs
-  carries : (b : List ℕ) (s t c : ℕ) (m hs : List ℕ) (r : Running) → joint.GuidedCarried (frameOf b) s t c (r .sums) (r .below) hs →
+      joint.JointCarried (frameOf b) s t c (r .sums) (r .below) hs
+  carries : (b : List ℕ) (s t c : ℕ) (m hs : List ℕ) (r : Running) → joint.JointCarried (frameOf b) s t c (r .sums) (r .below) hs →
       WayCarries way b s t c m hs r
 
 joint-stores : (way : Way) → joint.JointWay way → JointStores way
@@ -169,7 +169,7 @@ module _ (way : Way) {b : List ℕ} {z : Plan} (k : Planned b z) (cs ws ns : Lis
     pub joint-at : joint.JointWay way → AtWindow way b (stores cs ws ns) hs d v → Within z v
         →
         Held b z (v .column) (v .row) (joint.boxCut (byBlocks way) (z .kind) (v .cut .0)) cs ws d
-        × joint.GuidedCarried (frameOf b) (v .column) (v .row) (v .cut .0) (v .running .sums) (v .running .below) hs
+        × joint.JointCarried (frameOf b) (v .column) (v .row) (v .cut .0) (v .running .sums) (v .running .below) hs
     joint-at w g q =
         let j = joint-stores way w in
         let p = frameOf b in

@@ -66,10 +66,10 @@ pub record RestKept (way : Way) (settings : Settings) (before after : Stores) : 
 -- what the way carries to the next window of a file, beside the window's sums: columns the tally up to the cut point, joint and coarse that tally
 -- and the histogram of levels, the chain its free list in the numbers
 unfoldable pub WayCarries : Way → List ℕ → ℕ → ℕ → ℕ → (numbers histogram : List ℕ) → Running → Type 0
-WayCarries Joint b s t c numbers histogram r = joint.GuidedCarried (frameOf b) s t c (r .sums) (r .below) histogram
+WayCarries Joint b s t c numbers histogram r = joint.JointCarried (frameOf b) s t c (r .sums) (r .below) histogram
 WayCarries Columns b s t c numbers histogram r = SumsAt (frameOf b) s t (r .sums) × BelowAt (frameOf b) s t (c + 1) (r .below)
 WayCarries Chain b s t c numbers histogram r = SumsAt (frameOf b) s t (r .sums) × Listed b (planOf b) s t (r .free) numbers
-WayCarries Coarse b s t c numbers histogram r = joint.GuidedCarried (frameOf b) s t c (r .sums) (r .below) histogram
+WayCarries Coarse b s t c numbers histogram r = joint.JointCarried (frameOf b) s t c (r .sums) (r .below) histogram
 
 -- the way serves the plan's kind
 abbrev pub Serves : Way → Plan → Type 0

@@ -1,6 +1,7 @@
 -- Laws of a window's weight sums by block: what a list's pixels add to each, and column after column.
 -- Assumes nothing.
 use mathlib.Core.Path.{_≡_, refl, sym, ap, ap₂, _∙_}
+use mathlib.Core.Bool.{true}
 use mathlib.Core.Logic.{⊎-elim}
 use mathlib.Core.List.{List}
 use Prim.Native.Nat.{ℕ, _+_, _-_, _*_, _^_, _≤_, _<_}
@@ -20,10 +21,12 @@ use Rattle.ints.specs.Machine.{read-bounded}
 use Rattle.spec.specs.declared.Plan.{Plan}
 use Rattle.spec.specs.Base.{if_then_else_}
 use Rattle.spec.specs.Frame.{Frame, frameOf}
-use Rattle.spec.specs.Window.{span}
+use Rattle.spec.specs.Window.{span, empty}
 use Rattle.spec.specs.Weight.{weight}
 use Rattle.spec.proofs.Plans.{facts}
 use Rattle.spec.proofs.Ranges.{intSums, fold-same}
+use Rattle.spec.proofs.Sums.{over-empty}
+use Rattle.spec.proofs.Own.{empty-count}
 use Rattle.window.specs.declared.line.Line.{Line}
 use Rattle.window.specs.Line.{columnLine}
 use Rattle.pixels.specs.Pixels.{countOf, levelIn, guideIn, pixelFoldTo, pixelFold, columnsFold, LinePixels}
@@ -180,3 +183,11 @@ module _ (width : ℕ) {b : List ℕ} {z : Plan} {s t : ℕ} {ns : List ℕ} {w 
     long = g .long;
     blocks = λ j. g .blocks j ∙ columns-window _+ℤ_ (pos 0) b z x t (windowShare width (frameOf b) s t j) (wd .planned) s ex en;
   }
+
+-- a window with no reading adds nothing
+pub gathered-empty : (width : ℕ) {p : Frame} {s t : ℕ} → empty p s t ≡ true → {xs : List ℤ} → Zeros xs → Gathered width p s t xs xs
+unfolding weightIn
+gathered-empty width {p} {s} {t} e g = record {
+  long = refl;
+  blocks = λ b. g .zero b ∙ sym (over-empty p s t _+ℤ_ (pos 0) intSums _ (empty-count p s t e));
+}

@@ -12,12 +12,16 @@ use window::line::column_line;
 use window::line::low;
 use window::line::span_of;
 use window::pixel;
+use window::sums::Sums;
 ghost use mathlib.Core.Path.{_≡_};
+ghost use mathlib.Core.Bool.{false};
 ghost use Prim.Native.Nat.{_^_, _<_};
 ghost use lib.ListN.{length};
 ghost use lib.IntN.{pos, _+ℤ_};
 ghost use Rattle.spec.specs.Frame.{frameOf};
 ghost use Rattle.spec.specs.Checks.{Planned};
+ghost use Rattle.spec.specs.Window.{empty};
+ghost use Rattle.window.specs.Sums.{SumsAt};
 ghost use Rattle.pixels.specs.Pixels.{countOf, pixelFold};
 ghost use Rattle.balance.specs.Formula.{Weighs};
 ghost use Rattle.balance.specs.Balance.{signedBy, balanceBy, PixelsWeighed, Weighed};
@@ -29,13 +33,22 @@ pub struct Counting {
     pub hollow: bool,
 }
 
-// The row and the formula of the window at (s, t), whatever the row held. Each pixel of a hollow window weighs 1; kind 2 has none.
-pub fn weights_of(file: &[u8], plan: Plan, s: usize, t: usize, row: &mut [u16; 256]) -> Counting
+// The row and the formula of the window at (s, t), whose sums are a and which has a reading, whatever the row held. Each pixel of a hollow window
+// weighs 1; kind 2 has none.
+pub fn weights_of(
+    file: &[u8],
+    plan: Plan,
+    a: Sums,
+    s: usize,
+    t: usize,
+    row: &mut [u16; 256],
+) -> Counting
     requires { ⌜ (Planned (now file) plan) × (s < plan .width) × (t < plan .height) × (length (now row) ≡ 256) ⌝ }
+    requires { ⌜ (SumsAt (frameOf (now file)) s t a) × (empty (frameOf (now file)) s t ≡ false) ⌝ }
     ensures { λ r. ⌜ CountedBy (frameOf (now (file .entry))) s t (now (row .exit)) r ⌝ }
 {
     if plan.kind == 2 {
-        let guided = guided_formula(file, plan, s, t, row);
+        let guided = guided_formula(file, plan, a, s, t, row);
         return Counting {
             formula: guided,
             hollow: false,

@@ -2,7 +2,9 @@
 
 mod rows;
 
-use icemedian::{balance, check, explain, filter, walk, write, Answer, Cause, Explanation, Refusal, Settings, Way, Weights};
+use icemedian::{
+    balance, check, explain, filter, walk, write, Answer, Cause, Explanation, Refusal, Settings, Way, Weights,
+};
 use icemedian::{LEFT, NO_READING, RIGHT};
 use rows::{b_with, row, tabled};
 
@@ -105,7 +107,8 @@ fn a_walk_into_dead_pixels_keeps_the_cut_and_leaves_nothing() {
 
 #[test]
 fn a_dead_pixel_is_asked_for_by_its_own_guide() {
-    let level = |guide| filter(&tabled(&[2, NO_READING, 6], &[0, guide, 1], &[3, 1, 1, 3]), Way::Joint).unwrap().levels[1];
+    let level =
+        |guide| filter(&tabled(&[2, NO_READING, 6], &[0, guide, 1], &[3, 1, 1, 3]), Way::Joint).unwrap().levels[1];
     assert_eq!([0, 1].map(level), [2, 6]);
     // What it would weigh itself is all that weighs in its window, which is hollow.
     let hollow = explain(&tabled(&[6, NO_READING, 4], &[1, 0, 1], &[1, 0, 1, 1]), (1, 0)).unwrap();
@@ -133,7 +136,11 @@ fn only_65535_is_no_reading_and_no_guide_is() {
                 assert_eq!(check(&with_guide).map(drop), Err(refused(pixels + place)), "{width} {place} {number}");
                 assert_eq!(write(&settings, &values, &[63].repeat(pixels), &[]), expected, "{width} {place} {number}");
                 let dead = vec![NO_READING; pixels];
-                assert_eq!(write(&settings, &dead, &guide, &[]), Err(refused(pixels + place)), "{width} {place} {number}");
+                assert_eq!(
+                    write(&settings, &dead, &guide, &[]),
+                    Err(refused(pixels + place)),
+                    "{width} {place} {number}"
+                );
             }
         }
     }

@@ -58,7 +58,10 @@ fn scaled(place: &Place, picture: &Picture, dead: Option<u16>, steps_most: u16) 
 fn check_dead(thermal: &Picture, scale: &Scale, options: &Options) -> Result<(), String> {
     let (Some(dead), place) = (options.dead, &options.thermal) else { return Ok(()) };
     if dead > thermal.most {
-        return Err(format!("--dead {dead}: no pixel of {place} can have it, whose greatest value is {}", thermal.most));
+        return Err(format!(
+            "--dead {dead}: no pixel of {place} can have it, whose greatest value is {}",
+            thermal.most
+        ));
     }
     if scale.confuses(&thermal.values) {
         return Err(format!(

@@ -223,7 +223,10 @@ fn dead_pixels_are_explained_in_words() {
                   pixel counts against its own value.\n";
     assert_eq!(said("said", &B_DEAD, &B_GUIDE, &B_OPTIONS, "1"), centre);
     let beside = said("said", &B_DEAD, &B_GUIDE, &B_OPTIONS, "2");
-    assert!(beside.starts_with("Column 2, row 0 becomes 105. Its window has 3 pixels of total weight 411."), "{beside}");
+    assert!(
+        beside.starts_with("Column 2, row 0 becomes 105. Its window has 3 pixels of total weight 411."),
+        "{beside}"
+    );
     let empty = "Column 0, row 0 has no reading and stays 200. No pixel of its window has a reading.\n";
     assert_eq!(said("said_empty", &[200, 200, 5], &[0; 3], &["--radius", "1"], "0"), empty);
 }

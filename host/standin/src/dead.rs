@@ -187,7 +187,9 @@ fn arrive(chosen: &str, frame: &Frame, pixel: (usize, usize), cut: u16) -> Arriv
     let right = Arrival { answer: level, cut: level, added, blocks };
     match chosen {
         "dead_centre_passed_over" if frame.level(pixel.0, pixel.1).is_none() => arrive_empty("", cut),
-        "dead_centre_answers_none" if frame.level(pixel.0, pixel.1).is_none() => Arrival { answer: NO_READING, ..right },
+        "dead_centre_answers_none" if frame.level(pixel.0, pixel.1).is_none() => {
+            Arrival { answer: NO_READING, ..right }
+        }
         _ => right,
     }
 }
@@ -243,7 +245,9 @@ fn spoil_stores(chosen: &str, frame: &Frame, last: (usize, usize), walked: &mut 
         (Stores::Joint { counts, .. }, "dead_in_counts") => counts[level * guides + usize::from(first)] += 1,
         (Stores::Coarse { counts, .. }, "dead_in_coarse_counts") => counts[level * guides + usize::from(first)] += 1,
         (Stores::Joint { words, .. }, "dead_in_words") => *words.last_mut().expect("a word") |= 1 << (first % 64),
-        (Stores::Coarse { words, .. }, "dead_in_coarse_words") => *words.last_mut().expect("a word") |= 1 << (first % 64),
+        (Stores::Coarse { words, .. }, "dead_in_coarse_words") => {
+            *words.last_mut().expect("a word") |= 1 << (first % 64)
+        }
         (Stores::Joint { .. }, "dead_in_box") => walked.balance_box[usize::from(first)] -= 1,
         (Stores::Coarse { summary, .. }, "dead_in_summary") => {
             let right = Window::at(frame, last.0, last.1);

@@ -1,11 +1,11 @@
-//! Small frames with dead pixels, from one to all, of both kinds: every window as a walk's only one, walks from every
+//! Small frames with dead pixels, from one to all, and of both kinds: every window as a walk's only one, walks from every
 //! window and through all of them in every serving way, and balances at every level that tells two answers apart.
 
 use crate::frames::{place, test_accepted, test_walk_from, try_balance};
 use crate::tally::Tally;
 use crate::Check;
 use sorting_filter::frame::{Settings, KIND_GUIDED, KIND_TABLE, NO_READING};
-use sorting_filter::random::{moves, random_classes, random_dead, random_guides, random_table, random_values, Random};
+use sorting_filter::random::{kill, moves, random_classes, random_guides, random_table, random_values, Random};
 use sorting_filter::store::Way;
 use sorting_filter::writer;
 
@@ -40,11 +40,10 @@ pub fn test(random: &mut Random, tally: &mut Tally) -> Check {
     Ok(())
 }
 
-/// The file of a frame with a dead pixel or more, and its values.
+/// The file of a frame, nearly always with dead pixels, and its values.
 pub fn file(random: &mut Random, settings: &Settings) -> Result<(Vec<u8>, Vec<u16>), String> {
     let mut values = random_values(random, settings);
-    let dead = random_dead(random, settings);
-    values.iter_mut().zip(dead).filter(|(_, dead)| *dead).for_each(|(value, _)| *value = NO_READING);
+    kill(random, settings, &mut values);
     let (guides, table) = if settings.kind == KIND_GUIDED {
         (random_guides(random, settings), Vec::new())
     } else if random.once_in(2) {

@@ -67,7 +67,7 @@ returns-3 c =
     let p = frameOf (at .args .file .now) in
     let none : ownTotal p (at .args .s) (at .args .t) ≡ pos 0 =
     sym (total e) ∙ sym (toZ-ofZ (record { sfits = e .window-balance .ok })) ∙ ap (toZ w64) (i .if2 .left) in
-    let hollow = total-weightless p (at .args .s) (at .args .t) none in
+    let hollow = total-weightless p (at .args .s) (at .args .t) (at .pre .1 .2) none in
     (sym hollow, ones-weigh p (at .args .s) (at .args .t) (facts (at .pre .0 .0) .limits .sound .guides-high) hollow, length-replicate {A = ℕ} 256 1)
 
 pub ones-if-hollow-spec : {M : Type 1} → statement M

@@ -20,18 +20,18 @@ use Rattle.balance.proofs.table_balance.Statement.{statement}
 use Rattle.balance.proofs.table_balance.Tie as tie
 
 mul-guide-at : tie.Need-mul-guide-at
-mul-guide-at c = let at = c .before .before in omega (arith, place-small (at .pre .0) (centre-place (at .pre .0) (at .pre .2) (at .pre .3)))
+mul-guide-at c = let at = c .before .before in omega (arith, place-small (at .pre .0 .0) (centre-place (at .pre .0 .0) (at .pre .0 .2) (at .pre .0 .3)))
 
 add-guide-at : tie.Need-add-guide-at
-add-guide-at c = let at = c .before .before in omega (arith, place-small (at .pre .0) (centre-place (at .pre .0) (at .pre .2) (at .pre .3)))
+add-guide-at c = let at = c .before .before in omega (arith, place-small (at .pre .0 .0) (centre-place (at .pre .0 .0) (at .pre .0 .2) (at .pre .0 .3)))
 
 guide-at-requires : tie.Need-guide-at-requires
-guide-at-requires c κs = let at = c .before .before in (at .pre .0, centre-place (at .pre .0) (at .pre .2) (at .pre .3))
+guide-at-requires c κs = let at = c .before .before in (at .pre .0 .0, centre-place (at .pre .0 .0) (at .pre .0 .2) (at .pre .0 .3))
 
 table-row-requires : tie.Need-table-row-requires
 table-row-requires c κs =
     let at = c .before .before .before .before in
-    (at .pre .0, centre-low (at .pre .0) (at .pre .2) (at .pre .3) (c .before .guide-at .ensures), length-replicate {A = ℕ} 256 0)
+    (at .pre .0 .0, centre-low (at .pre .0 .0) (at .pre .0 .2) (at .pre .0 .3) (c .before .guide-at .ensures), length-replicate {A = ℕ} 256 0)
 
 slice-aggregate-window-balance : tie.Need-slice-aggregate-window-balance
 slice-aggregate-window-balance c = search needs
@@ -48,31 +48,31 @@ own : (r : tie.After-table-row) → let at = start r in
     RowOwn (frameOf (at .args .file .now)) (at .args .s) (at .args .t) (r .table-row .last .1 .1 .1 .0)
 own r =
     let at = start r in
-    row-weighs-own (at .pre .0) (at .pre .2) (at .pre .3) (r .before .before .guide-at .ensures) (at .pre .1) (r .table-row .ensures)
+    row-weighs-own (at .pre .0 .0) (at .pre .0 .2) (at .pre .0 .3) (r .before .before .guide-at .ensures) (at .pre .0 .1) (r .table-row .ensures)
 
 -- by them it is the window's balance, where that is not hollow
 by-them : (e : tie.After-window-balance) → let at = start (table e) in weightless (frameOf (at .args .file .now)) (at .args .s) (at .args .t) ≡ false
     → e .window-balance .result ≡ balance (frameOf (at .args .file .now)) (at .args .s) (at .args .t) (at .args .top .0)
 by-them e full =
     let at = start (table e) in
-    e .window-balance .ensures ∙ by-own (pixel-of (at .pre .0) (at .pre .2) (at .pre .3)) (row-formula (own (table e))) full (at .args .top .0)
+    e .window-balance .ensures ∙ by-own (pixel-of (at .pre .0 .0) (at .pre .0 .2) (at .pre .0 .3)) (row-formula (own (table e))) full (at .args .top .0)
 
 window-balance-requires : tie.Need-window-balance-requires
 window-balance-requires c κs =
     let r = c .before in
     let at = start r in
-    record { planned = at .pre .0; column = at .pre .2; row = at .pre .3; fits = row-formula (own r) .fits }
+    record { planned = at .pre .0 .0; column = at .pre .0 .2; row = at .pre .0 .3; fits = row-formula (own r) .fits }
 
 returns : tie.Need-returns
 returns c =
     let e = c .before in
     let at = start (table e) in
     toZ-ofZ (record { sfits = e .window-balance .ok }) ∙ by-them e
-    (by-some (pixel-of (at .pre .0) (at .pre .2) (at .pre .3)) (row-formula (own (table e))) (kind-of (at .pre .0) (at .pre .1)) (at .args .top .0)
+    (by-some (pixel-of (at .pre .0 .0) (at .pre .0 .2) (at .pre .0 .3)) (row-formula (own (table e))) (kind-of (at .pre .0 .0) (at .pre .0 .1)) (at .args .top .0)
     (λ z. let zero = ap (ofZ w64) (e .window-balance .ensures ∙ z) in omega (arith, zero, c .if1 .taken)))
 
 ones-if-hollow-requires : tie.Need-ones-if-hollow-requires
-ones-if-hollow-requires c κs = let r = table (c .before .before) in (start r .pre, (own r, r .table-row .ensures .long))
+ones-if-hollow-requires c κs = let r = table (c .before .before) in (start r .pre .0, (own r, r .table-row .ensures .long, start r .pre .1))
 
 slice-aggregate-window-balance-2 : tie.Need-slice-aggregate-window-balance-2
 slice-aggregate-window-balance-2 c = search needs
@@ -82,14 +82,14 @@ window-balance-requires-2 : tie.Need-window-balance-requires-2
 window-balance-requires-2 c κs =
     let h = c .before .before in
     let at = start (table (h .before .before .before)) in
-    record { planned = at .pre .0; column = at .pre .2; row = at .pre .3; fits = row-formula (h .ones-if-hollow .ensures .1) .fits }
+    record { planned = at .pre .0 .0; column = at .pre .0 .2; row = at .pre .0 .3; fits = row-formula (h .ones-if-hollow .ensures .1) .fits }
 
 returns-2 : tie.Need-returns-2
 returns-2 c =
     let h = c .before .before .before in
     let at = start (table (h .before .before .before)) in
     toZ-ofZ (record { sfits = c .window-balance2 .ok }) ∙ c .window-balance2 .ensures
-    ∙ by-balance (pixel-of (at .pre .0) (at .pre .2) (at .pre .3)) (row-formula (h .ones-if-hollow .ensures .1)) (at .args .top .0)
+    ∙ by-balance (pixel-of (at .pre .0 .0) (at .pre .0 .2) (at .pre .0 .3)) (row-formula (h .ones-if-hollow .ensures .1)) (at .args .top .0)
 
 returns-3 : tie.Need-returns-3
 returns-3 c =

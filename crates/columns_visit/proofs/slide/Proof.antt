@@ -1,8 +1,11 @@
--- `columns_visit::slide` meets its contract: sums and store are moved, the tally where it is needed, then the window answers.
+-- `columns_visit::slide` meets its contract: sums and store are moved; where there is a reading, the tally if it is needed, and the window answers.
 -- Assumes nothing.
+use mathlib.Core.Path.{_≡_}
+use mathlib.Core.Bool.{false}
 use native.Mathlib.Omega.{arith}
 use borrow.Author.Needs.{needs}
 use Rattle.spec.specs.Frame.{frameOf}
+use Rattle.spec.specs.Window.{empty}
 use Rattle.window.specs.Sums.{SumsAt}
 use Rattle.window.proofs.FormLaws.{both-in}
 use Rattle.window.proofs.LineLaws.{lines-in}
@@ -12,7 +15,7 @@ use Rattle.spec.specs.declared.Way.the-variants.{Columns}
 use Rattle.levels.proofs.AnswerLaws.{answerable, from-cut, answered-at}
 use Rattle.columns_visit.specs.Visit.{windowCounts, windowGuides}
 use Rattle.columns_visit.proofs.GuideSumLaws.{movable, moved-at}
-use Rattle.columns_visit.proofs.VisitLaws.{as-made, made-self, store-places, window-cells, visited}
+use Rattle.columns_visit.proofs.VisitLaws.{as-made, made-self, store-places, window-cells, visited, unread-visited, some-read}
 use Rattle.columns_visit.proofs.slide.Statement.{statement}
 use Rattle.columns_visit.proofs.slide.Tie as tie
 
@@ -29,6 +32,9 @@ summing n = n .before .before
 abbrev opened : tie.After-slide → tie.Start
 opened n = begin (step (summing n))
 
+abbrev storing : tie.After-struct-known → tie.After-slide
+storing k = k .before .before .before .before
+
 -- the store and the sums are the neighbour's
 cells : (n : tie.After-slide) → let at = opened n in
     Profiled (frameOf (at .args .file .now)) (at .args .column) (at .args .row) (windowCounts (at .args .plan) (n .slide .last .1 .1 .0))
@@ -44,6 +50,12 @@ summed a =
     let d = step a in
     let at = begin d in
     moved-at (at .pre .0 .0) (at .pre .1 .0 .1) (at .pre .1 .1 .sums) (d .step-to .ensures) (a .moved .ensures)
+
+reads : (r : tie.Else1) → let at = opened (storing (r .before)) in empty (frameOf (at .args .file .now)) (at .args .column) (at .args .row) ≡ false
+reads r =
+    let n = storing (r .before) in
+    let at = opened n in
+    some-read (frameOf (at .args .file .now)) (at .args .column) (at .args .row) (summing n .moved .result) (summed (summing n)) (r .if1 .left)
 
 step-to-requires : tie.Need-step-to-requires
 step-to-requires c κs = let at = c .before .before in (plan-limits (at .pre .0 .0), at .pre .1 .0 .1)
@@ -63,28 +75,40 @@ slide-requires c κs =
       (at .pre .1 .0 .1, as-made (frameOf (at .args .file .now)) (at .args .from .column) (at .args .from .row) _ _ (at .pre .1 .1 .store)),
     )
 
+unread-requires : tie.Need-unread-requires
+unread-requires c κs = search needs
+
+same-length : tie.Need-same-length
+same-length c = storing (c .before .before) .slide .kept .1 .1 .0
+
+returns : tie.Need-returns
+returns c =
+    let z = c .before in
+    let n = storing (z .before) in
+    let at = opened n in
+    unread-visited (frameOf (at .args .file .now)) (at .args .column) (at .args .row) _ _ _ _ _ _ _ (c .unread .ensures) (summed (summing n))
+    (z .if1 .taken) (n .slide .ensures)
+
 of-window-requires : tie.Need-of-window-requires
 of-window-requires c κs =
-    let n = c .before .before in
+    let n = storing (c .before) in
     let at = opened n in
     let i = both-in (at .pre .1 .0 .1) in
     (at .pre .0, (i .2, i .3, summed (summing n)))
 
 monotone-requires : tie.Need-monotone-requires
-monotone-requires c κs =
-    let at = opened (c .before .before .before) in
-    let i = both-in (at .pre .1 .0 .1) in
-    (guides-range (at .pre .0 .0), c .of-window .ensures .1)
+monotone-requires c κs = let at = opened (storing (c .before .before)) in (guides-range (at .pre .0 .0), c .of-window .ensures .1)
 
 carried-requires : tie.Need-carried-requires
-carried-requires c κs = let at = opened (c .before .before .before .before) in (at .pre .0 .0, at .pre .1 .0 .1, at .pre .1 .1 .below)
+carried-requires c κs =
+    let at = opened (storing (c .before .before .before)) in (at .pre .0 .0, at .pre .1 .0 .1, at .pre .1 .1 .below)
 
 answer-from-requires : tie.Need-answer-from-requires
 answer-from-requires c κs =
-    let w = c .before .before in
+    let w = c .before in
     let m = w .before in
     let k = m .before in
-    let n = k .before .before .before in
+    let n = storing (k .before .before) in
     let at = opened n in
     let pl = at .pre .0 .0 in
     let i = both-in (at .pre .1 .0 .1) in
@@ -100,26 +124,28 @@ answer-from-requires c κs =
 answered-requires : tie.Need-answered-requires
 answered-requires c κs = search needs
 
-same-length : tie.Need-same-length
-same-length c = c .before .before .before .before .before .before .before .before .before .before .before .slide .kept .1 .1 .0
+same-length-2 : tie.Need-same-length-2
+same-length-2 c =
+    let r = c .before .before .before .before .before .before .before .before in
+    storing (r .before) .slide .kept .1 .1 .0
 
-returns : tie.Need-returns
-returns c =
+returns-2 : tie.Need-returns-2
+returns-2 c =
     let f = c .before .before .before in
-    let w = f .before .before .before in
+    let w = f .before .before in
     let m = w .before in
     let k = m .before in
-    let n = k .before .before .before in
+    let n = storing (k .before .before) in
     let at = opened n in
     let i = both-in (at .pre .1 .0 .1) in
     let e = f .answer-from .ensures in
     visited (frameOf (at .args .file .now)) (at .args .column) (at .args .row) _ _ _ _ _ _ _ (c .answered .ensures) (summed (summing n))
-    (answered-at (at .pre .0 .0) (at .pre .0 .1) (i .2) (i .3) (k .of-window .ensures) (cells n) (m .monotone .ensures) Columns
+    (answered-at (at .pre .0 .0) (at .pre .0 .1) (i .2) (i .3) (k .of-window .ensures) (cells n) (m .monotone .ensures) Columns (reads (k .before))
     (e .0) (e .1))
     (n .slide .ensures)
 
 pub slide-spec : {M : Type 1} → statement M
 slide-spec =
     tie.close
-    (tie.spec step-to-requires moved-requires slide-requires of-window-requires monotone-requires carried-requires answer-from-requires
-    answered-requires same-length returns)
+    (tie.spec step-to-requires moved-requires slide-requires unread-requires same-length returns of-window-requires monotone-requires carried-requires
+    answer-from-requires answered-requires same-length-2 returns-2)

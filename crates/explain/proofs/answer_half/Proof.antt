@@ -18,7 +18,7 @@ use Rattle.explain.proofs.answer_half.Statement.{statement}
 use Rattle.explain.proofs.answer_half.Tie as tie
 
 pixel : (at : tie.Start) → Pixel (frameOf (at .args .file .now)) (at .args .s) (at .args .t)
-pixel at = let w = at .pre .0 in pixel-of (w .planned) (w .column) (w .row)
+pixel at = let w = at .pre .0 .0 in pixel-of (w .planned) (w .column) (w .row)
 
 abbrev start : tie.After-add-window → tie.Start
 start w = w .before .before .before .before
@@ -27,7 +27,7 @@ start w = w .before .before .before .before
 total-is : (w : tie.After-add-window) → let at = start w in
     toZ w64 (ofZ w64 (w .add-window .result)) ≡ totalWeight (frameOf (at .args .file .now)) (at .args .s) (at .args .t)
 total-is w = let at = start w in
-    toZ-ofZ (record { sfits = w .add-window .ok }) ∙ w .add-window .ensures .1 ∙ total-gathered (pixel at) (at .pre .1)
+    toZ-ofZ (record { sfits = w .add-window .ok }) ∙ w .add-window .ensures .1 ∙ total-gathered (pixel at) (at .pre .0 .1)
 
 slice-aggregate-add-window : tie.Need-slice-aggregate-add-window
 slice-aggregate-add-window c = search needs
@@ -35,7 +35,7 @@ slice-aggregate-add-window c = search needs
 add-window-requires : tie.Need-add-window-requires
 add-window-requires c κs =
     let at = c .before .before .before in
-    (at .pre, (zeros-made 1024, levels-fit _ (levels-high (at .pre .0 .planned)), omega arith))
+    (at .pre .0, (zeros-made 1024, levels-fit _ (levels-high (at .pre .0 .0 .planned)), omega arith))
 
 slice-aggregate-reach-half : tie.Need-slice-aggregate-reach-half
 slice-aggregate-reach-half c = search needs
@@ -44,13 +44,13 @@ reach-half-requires : tie.Need-reach-half-requires
 reach-half-requires c κs =
     let w = c .before .before in
     let at = start w in
-    subst (HalfInReach _) (sym (total-is w)) (in-reach (pixel at) (w .add-window .ensures .0) (at .pre .1) (length-replicate {A = ℤ} 1024 (pos 0)))
+    subst (HalfInReach _) (sym (total-is w)) (in-reach (pixel at) (at .pre .1) (w .add-window .ensures .0) (at .pre .0 .1) (length-replicate {A = ℤ} 1024 (pos 0)))
 
 returns : tie.Need-returns
 returns c =
     let w = c .before .before .before in
     let at = start w in
-    answer-found (pixel at) (w .add-window .ensures .0) (total-is w)
+    answer-found (pixel at) (at .pre .1) (w .add-window .ensures .0) (total-is w)
     (subst (λ (z : ℤ). HalfReached (w .add-window .last .1 .1 .1 .1 .1 .1 .1 .0) z (c .reach-half .result)) (total-is w) (c .reach-half .ensures))
 
 pub answer-half-spec : {M : Type 1} → statement M

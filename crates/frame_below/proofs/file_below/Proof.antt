@@ -1,19 +1,20 @@
--- `frame_below::file_below` meets its contract. The invariant: every number before place k is below the limit. Assumes nothing.
+-- `frame_below::file_below` meets its contract. The invariant: every number before place k is judged below the limit. Assumes nothing.
 use Rattle.frame_below.proofs.BelowLaws.{run-below}
 use Rattle.frame_below.specs.Below.{Below}
 use Prim.Native.Nat.{ℕ, _+_, _-_, _*_, _≤_, _<_}
 use native.Mathlib.Omega.{arith}
 use mathlib.Core.Path.{_≡_, subst}
 use Rattle.spec.specs.Bytes.{be16}
+use Rattle.spec.specs.Checks.{judged}
 use Rattle.spec.specs.Frame.{plane}
 use Rattle.frame_below.proofs.file_below.Statement.{statement}
 use Rattle.frame_below.proofs.file_below.Tie as tie
 
 abbrev Inv-loop : tie.InvT-loop
-Inv-loop file offset n limit k₀ k = (k ≤ n) × Below (plane file offset) k limit
+Inv-loop file values offset n limit k₀ k = (k ≤ n) × Below (λ j. judged values (plane file offset j)) k limit
 
 abbrev μ-loop : tie.MeasureT-loop
-μ-loop file offset n limit k₀ k = n - k
+μ-loop file values offset n limit k₀ k = n - k
 
 loop-holds : tie.Need-loop-holds Inv-loop μ-loop
 loop-holds c = (omega arith, λ j less. absurd (omega arith))
@@ -49,9 +50,10 @@ loop-again c =
     let b = a .file .now in
     let m = c .before .most-of-file .result in
     let place : (j : ℕ) → a .offset + 2 * d .loop .k + 2 * j ≡ a .offset + 2 * (d .loop .k + j) = λ j. omega arith in
-    let run : Below (λ j. plane b (a .offset) (d .loop .k + j)) 64 (m + 1) =
-    λ j less. subst (λ (at : ℕ). be16 b at < m + 1) (place j) (c .before .most-of-file .ensures j less) in
-    (omega arith, run-below (plane b (a .offset)) (d .loop .k) 64 (d .loop .inv .1) run (omega arith))
+    let number : ℕ → ℕ = λ j. judged (a .values) (plane b (a .offset) j) in
+    let run : Below (λ j. number (d .loop .k + j)) 64 (m + 1) =
+    λ j less. subst (λ (at : ℕ). judged (a .values) (be16 b at) < m + 1) (place j) (c .before .most-of-file .ensures j less) in
+    (omega arith, run-below number (d .loop .k) 64 (d .loop .inv .1) run (omega arith))
 
 returns-2 : tie.Need-returns-2 Inv-loop μ-loop
 returns-2 c = c .before .loop .inv

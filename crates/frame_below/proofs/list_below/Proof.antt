@@ -1,17 +1,18 @@
--- `frame_below::list_below` meets its contract. The invariant: every number before place k is below the limit. Assumes nothing.
+-- `frame_below::list_below` meets its contract. The invariant: every number before place k is judged below the limit. Assumes nothing.
 use Rattle.frame_below.proofs.BelowLaws.{run-below}
 use Rattle.frame_below.specs.Below.{Below}
 use Prim.Native.Nat.{ℕ, _+_, _-_, _*_, _≤_, _<_}
 use native.Mathlib.Omega.{arith}
 use lib.ListN.{length, getD}
+use Rattle.spec.specs.Checks.{judged}
 use Rattle.frame_below.proofs.list_below.Statement.{statement}
 use Rattle.frame_below.proofs.list_below.Tie as tie
 
 abbrev Inv-loop : tie.InvT-loop
-Inv-loop list limit k₀ k = (k ≤ length list) × Below (λ j. getD list j 0) k limit
+Inv-loop list values limit k₀ k = (k ≤ length list) × Below (λ j. judged values (getD list j 0)) k limit
 
 abbrev μ-loop : tie.MeasureT-loop
-μ-loop list limit k₀ k = length list - k
+μ-loop list values limit k₀ k = length list - k
 
 loop-holds : tie.Need-loop-holds Inv-loop μ-loop
 loop-holds c = (omega arith, λ j less. absurd (omega arith))
@@ -34,8 +35,9 @@ loop-less c = omega arith
 loop-again : tie.Need-loop-again Inv-loop μ-loop
 loop-again c =
     let d = c .before .before .before in
-    let l = d .before .before .args .list .now in
-    (omega arith, run-below (λ j. getD l j 0) (d .loop .k) 64 (d .loop .inv .1) (c .before .most-of-list .ensures) (omega arith))
+    let a = d .before .before .args in
+    let number : ℕ → ℕ = λ j. judged (a .values) (getD (a .list .now) j 0) in
+    (omega arith, run-below number (d .loop .k) 64 (d .loop .inv .1) (c .before .most-of-list .ensures) (omega arith))
 
 returns-2 : tie.Need-returns-2 Inv-loop μ-loop
 returns-2 c = c .before .loop .inv

@@ -1,8 +1,10 @@
--- `frame_below::most_of_file` meets its contract. The invariant: no number looked at is larger, and the array has the bytes of all. Assumes nothing.
+-- `frame_below::most_of_file` meets its contract. The invariant: none looked at is judged larger, and the array has the bytes of all.
+-- Assumes nothing.
 use Rattle.frame_below.proofs.BelowLaws.{most-next}
 use Rattle.frame_below.specs.Below.{Below}
 use Rattle.big_endian_part.specs.Part.{Made, lowFirst, exchanged}
 use Rattle.big_endian_part.proofs.PartLaws.{low-first}
+use Rattle.spec.specs.Checks.{judged}
 use Rattle.spec.specs.Frame.{plane}
 use Prim.Native.Nat.{ℕ, _+_, _-_, _≤_}
 use native.Mathlib.Omega.{arith}
@@ -14,11 +16,11 @@ use Rattle.frame_below.proofs.most_of_file.Statement.{statement}
 use Rattle.frame_below.proofs.most_of_file.Tie as tie
 
 abbrev Inv-loop : tie.InvT-loop
-Inv-loop file offset part most₀ j₀ most j =
-    (j ≤ 64) × Below (plane file offset) j (most + 1) × Made (lowFirst file offset) 0 64 (replicate 64 0) part
+Inv-loop file values offset part most₀ j₀ most j =
+    (j ≤ 64) × Below (λ i. judged values (plane file offset i)) j (most + 1) × Made (lowFirst file offset) 0 64 (replicate 64 0) part
 
 abbrev μ-loop : tie.MeasureT-loop
-μ-loop file offset part most₀ j₀ most j = 64 - j
+μ-loop file values offset part most₀ j₀ most j = 64 - j
 
 copy-low-first-requires : tie.Need-copy-low-first-requires Inv-loop μ-loop
 copy-low-first-requires c κs = search needs
@@ -35,6 +37,9 @@ array-read-exchanged c = omega (arith, c .before .loop .inv .2 .long, length-rep
 exchanged-requires : tie.Need-exchanged-requires Inv-loop μ-loop
 exchanged-requires c κs = search needs
 
+judged-requires : tie.Need-judged-requires Inv-loop μ-loop
+judged-requires c κs = search needs
+
 add-j : tie.Need-add-j Inv-loop μ-loop
 add-j c = omega arith
 
@@ -42,23 +47,25 @@ loop-less : tie.Need-loop-less Inv-loop μ-loop
 loop-less c = omega arith
 
 -- the number that a turn looks at
-number : (c : tie.After-exchanged Inv-loop μ-loop) → let h = c .before .before in
-    let a = h .before .before .before .before .args in c .exchanged .result ≡ plane (a .file .now) (a .offset) (h .loop .j)
+number : (c : tie.After-judged Inv-loop μ-loop) → let h = c .before .before .before in
+    let a = h .before .before .before .before .args in c .judged .result ≡ judged (a .values) (plane (a .file .now) (a .offset) (h .loop .j))
 number c =
-    let h = c .before .before in
+    let h = c .before .before .before in
     let known = h .before .before .before in
     let a = known .before .args in
-    c .exchanged .ensures ∙ ap exchanged (h .loop .inv .2 .is (h .loop .j) (omega arith) (omega arith))
-    ∙ low-first (a .file .now) (λ i. omega (arith, known .shared-slice-known .given i)) (a .offset) (h .loop .j)
+    c .judged .ensures ∙ ap (judged (a .values))
+    (c .before .exchanged .ensures ∙ ap exchanged (h .loop .inv .2 .is (h .loop .j) (omega arith) (omega arith))
+    ∙ low-first (a .file .now) (λ i. omega (arith, known .shared-slice-known .given i)) (a .offset) (h .loop .j))
 
 loop-again : tie.Need-loop-again Inv-loop μ-loop
 loop-again c =
-    let h = c .before .before .before in
+    let h = c .before .before .before .before in
     let a = h .before .before .before .before .args in
+    let of : ℕ → ℕ = λ i. judged (a .values) (plane (a .file .now) (a .offset) i) in
     let e = number (c .before) in
     let old : h .loop .most ≤ c .if1 .most = ⊎-elim (λ w. omega arith) (λ w. omega arith) (c .if1 .came) in
-    let new : plane (a .file .now) (a .offset) (h .loop .j) ≤ c .if1 .most = ⊎-elim (λ w. omega arith) (λ w. omega arith) (c .if1 .came) in
-    (omega arith, most-next (plane (a .file .now) (a .offset)) (h .loop .inv .1) old new, h .loop .inv .2)
+    let new : of (h .loop .j) ≤ c .if1 .most = ⊎-elim (λ w. omega arith) (λ w. omega arith) (c .if1 .came) in
+    (omega arith, most-next of (h .loop .inv .1) old new, h .loop .inv .2)
 
 returns : tie.Need-returns Inv-loop μ-loop
 returns c = λ i less. c .before .loop .inv .1 i (omega arith)
@@ -74,6 +81,7 @@ most-of-file-spec =
     mul-exchanged
     array-read-exchanged
     exchanged-requires
+    judged-requires
     add-j
     loop-less
     loop-again

@@ -1,30 +1,35 @@
--- `frame_below::most_of_list` meets its contract. The invariant: no number looked at is larger. Assumes nothing.
+-- `frame_below::most_of_list` meets its contract. The invariant: no number looked at is judged larger. Assumes nothing.
 use Rattle.frame_below.proofs.BelowLaws.{most-next}
 use Rattle.frame_below.specs.Below.{Below}
 use Prim.Native.Nat.{ℕ, _+_, _-_, _≤_}
 use native.Mathlib.Omega.{arith}
 use mathlib.Core.Logic.{⊎-elim}
 use lib.ListN.{getD}
+use borrow.Author.Needs.{needs}
+use Rattle.spec.specs.Checks.{judged}
 use Rattle.frame_below.proofs.most_of_list.Statement.{statement}
 use Rattle.frame_below.proofs.most_of_list.Tie as tie
 
 abbrev Inv-loop : tie.InvT-loop
-Inv-loop list from most₀ j₀ most j = (j ≤ 64) × Below (λ i. getD list (from + i) 0) j (most + 1)
+Inv-loop list values from most₀ j₀ most j = (j ≤ 64) × Below (λ i. judged values (getD list (from + i) 0)) j (most + 1)
 
 abbrev μ-loop : tie.MeasureT-loop
-μ-loop list from most₀ j₀ most j = 64 - j
+μ-loop list values from most₀ j₀ most j = 64 - j
 
 loop-holds : tie.Need-loop-holds Inv-loop μ-loop
 loop-holds c = (omega arith, λ i less. absurd (omega arith))
 
-add-number : tie.Need-add-number Inv-loop μ-loop
-add-number c = omega arith
+add-judged : tie.Need-add-judged Inv-loop μ-loop
+add-judged c = omega arith
 
-mul-number : tie.Need-mul-number Inv-loop μ-loop
-mul-number c = omega arith
+mul-judged : tie.Need-mul-judged Inv-loop μ-loop
+mul-judged c = omega arith
 
-shared-slice-read-number : tie.Need-shared-slice-read-number Inv-loop μ-loop
-shared-slice-read-number c = omega arith
+shared-slice-read-judged : tie.Need-shared-slice-read-judged Inv-loop μ-loop
+shared-slice-read-judged c = omega arith
+
+judged-requires : tie.Need-judged-requires Inv-loop μ-loop
+judged-requires c κs = search needs
 
 add-j : tie.Need-add-j Inv-loop μ-loop
 add-j c = omega arith
@@ -34,11 +39,13 @@ loop-less c = omega arith
 
 loop-again : tie.Need-loop-again Inv-loop μ-loop
 loop-again c =
-    let d = c .before .before .before in
-    let a = d .before .args in
+    let d = c .before .before .before .before in
+    let a = d .before .before .args in
+    let number : ℕ → ℕ = λ i. judged (a .values) (getD (a .list .now) (a .from + i) 0) in
+    let e = c .before .judged .ensures in
     let old : d .loop .most ≤ c .if1 .most = ⊎-elim (λ w. omega arith) (λ w. omega arith) (c .if1 .came) in
-    let new : getD (a .list .now) (a .from + d .loop .j) 0 ≤ c .if1 .most = ⊎-elim (λ w. omega arith) (λ w. omega arith) (c .if1 .came) in
-    (omega arith, most-next (λ i. getD (a .list .now) (a .from + i) 0) (d .loop .inv .1) old new)
+    let new : number (d .loop .j) ≤ c .if1 .most = ⊎-elim (λ w. omega arith) (λ w. omega arith) (c .if1 .came) in
+    (omega arith, most-next number (d .loop .inv .1) old new)
 
 returns : tie.Need-returns Inv-loop μ-loop
 returns c = λ i less. c .before .loop .inv .1 i (omega arith)
@@ -50,9 +57,10 @@ most-of-list-spec =
     Inv-loop
     μ-loop
     loop-holds
-    add-number
-    mul-number
-    shared-slice-read-number
+    add-judged
+    mul-judged
+    shared-slice-read-judged
+    judged-requires
     add-j
     loop-less
     loop-again

@@ -32,7 +32,8 @@ returns-2 c =
     let b = a .file .now in
     let z = a .plan in
     past (valueScan b z) (guideScan b z)
-    (quiet (c .before .before .before .scan .ensures) (c .before .before .stops .ensures) (c .before .if1 .left)) (c .scan2 .ensures)
+    (quiet {x = valueScan b z} (c .before .before .before .scan .ensures) (c .before .before .stops .ensures) (c .before .if1 .left))
+    (c .scan2 .ensures)
 
 pub contents-spec : {M : Type 1} → statement M
 contents-spec =

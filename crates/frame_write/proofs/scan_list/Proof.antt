@@ -1,5 +1,6 @@
--- `frame_write::scan_list` meets its contract. The invariant: no number before place k is too large. Assumes nothing.
+-- `frame_write::scan_list` meets its contract. The invariant: no number before place k is judged too large. Assumes nothing.
 use Rattle.spec.proofs.Checks.{scan-found, scan-none}
+use Rattle.spec.specs.Checks.{judged}
 use Rattle.spec.specs.Writer.{scanList}
 use borrow.Author.Needs.{needs}
 use lib.ListN.{length, getD}
@@ -11,10 +12,10 @@ use Rattle.frame_write.proofs.scan_list.Statement.{statement}
 use Rattle.frame_write.proofs.scan_list.Tie as tie
 
 abbrev Inv-loop : tie.InvT-loop
-Inv-loop list limit offset k₀ k = (k ≤ length list) × ((j : ℕ) → j < k → getD list j 0 < limit)
+Inv-loop list values limit offset k₀ k = (k ≤ length list) × ((j : ℕ) → j < k → judged values (getD list j 0) < limit)
 
 abbrev μ-loop : tie.MeasureT-loop
-μ-loop list limit offset k₀ k = length list - k
+μ-loop list values limit offset k₀ k = length list - k
 
 list-below-requires : tie.Need-list-below-requires Inv-loop μ-loop
 list-below-requires c κs = search needs
@@ -22,11 +23,14 @@ list-below-requires c κs = search needs
 loop-holds : tie.Need-loop-holds Inv-loop μ-loop
 loop-holds c = c .list-below .ensures
 
-mul-if1 : tie.Need-mul-if1 Inv-loop μ-loop
-mul-if1 c = omega arith
+mul-judged : tie.Need-mul-judged Inv-loop μ-loop
+mul-judged c = omega arith
 
-shared-slice-read-if1 : tie.Need-shared-slice-read-if1 Inv-loop μ-loop
-shared-slice-read-if1 c = omega arith
+shared-slice-read-judged : tie.Need-shared-slice-read-judged Inv-loop μ-loop
+shared-slice-read-judged c = omega arith
+
+judged-requires : tie.Need-judged-requires Inv-loop μ-loop
+judged-requires c κs = search needs
 
 mul-too-large : tie.Need-mul-too-large Inv-loop μ-loop
 mul-too-large c = omega arith
@@ -40,8 +44,9 @@ too-large-requires c κs = search needs
 returns : tie.Need-returns Inv-loop μ-loop
 unfolding scanList
 returns c =
-    c .too-large .ensures ∙ scan-found _ _ _ _ (c .before .before .before .before .loop .k) (c .before .before .before .loop-test .taken)
-    (c .before .if1 .taken) (c .before .before .before .before .loop .inv .1)
+    let h = c .before .before .before .before .before in
+    c .too-large .ensures ∙ scan-found _ _ _ _ (h .loop .k) (c .before .before .before .before .loop-test .taken)
+    (omega (arith, c .before .before .judged .ensures, c .before .if1 .taken)) (h .loop .inv .1)
 
 add-k : tie.Need-add-k Inv-loop μ-loop
 add-k c = omega arith
@@ -50,7 +55,7 @@ loop-less : tie.Need-loop-less Inv-loop μ-loop
 loop-less c = omega arith
 
 loop-again : tie.Need-loop-again Inv-loop μ-loop
-loop-again c = (omega arith, below-more _ _ (c .before .before .before .loop .inv .1) (c .if1 .left))
+loop-again c = (omega arith, below-more _ _ (c .before .before .before .before .loop .inv .1) (omega (arith, c .before .judged .ensures)))
 
 returns-2 : tie.Need-returns-2 Inv-loop μ-loop
 unfolding scanList
@@ -64,8 +69,9 @@ scan-list-spec =
     μ-loop
     list-below-requires
     loop-holds
-    mul-if1
-    shared-slice-read-if1
+    mul-judged
+    shared-slice-read-judged
+    judged-requires
     mul-too-large
     add-too-large
     too-large-requires

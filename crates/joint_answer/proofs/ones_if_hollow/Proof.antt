@@ -1,32 +1,18 @@
--- `ones_if_hollow` meets its contract: the centre weighs something, or the levels say whether anything does. Assumes nothing.
+-- `ones_if_hollow` meets its contract: a pixel weighs something, or the levels say whether anything does. Assumes nothing.
 use mathlib.Core.Path.{_≡_, sym, _∙_}
-use mathlib.Core.Bool.{true}
-use native.Mathlib.Omega.{arith}
 use Prim.Native.Nat.{ℕ}
 use lib.ListN.{length-replicate}
-use Rattle.joint_search.specs.Search.{weightlessIn}
-use Rattle.joint_answer.proofs.AnswerLaws.{counted-ones, counted-own, counted-some}
+use Rattle.joint_answer.proofs.AnswerLaws.{counted-ones, counted-own}
 use Rattle.joint_answer.proofs.ones_if_hollow.Statement.{statement}
 use Rattle.joint_answer.proofs.ones_if_hollow.Tie as tie
 
 abbrev start : tie.Else1 → tie.Start
-start e = e .before .before .before .before .before
-
-cast-if1 : tie.Need-cast-if1
-cast-if1 c = omega (arith, c .before .before .before .pre .1 .1)
-
-mul-if1 : tie.Need-mul-if1
-mul-if1 c = omega (arith, c .before .before .before .pre .1 .1)
-
-element-copy-out-if1 : tie.Need-element-copy-out-if1
-element-copy-out-if1 c = let at = c .before .before .before in omega (arith, at .pre .0 .2, at .pre .1 .1)
+start e = e .before .before .before
 
 returns : tie.Need-returns
 returns c =
-    let at = c .before .before .before .before .before in
-    let none : weightlessIn (at .args .sizes) (at .args .counts .now) (at .args .row .now) ≡ true → ⊥ =
-    λ e. let zero = at .pre .1 .2 e in omega (arith, zero, c .if1 .taken) in
-    (counted-some (at .args .sizes) (at .args .counts .now) (at .args .row .now) none, at .pre .0 .2)
+    let at = c .before .before .before in
+    (counted-own (at .args .sizes) (at .args .counts .now) (at .args .row .now) (sym (at .pre .1 .1 (c .if1 .taken))), at .pre .0 .2)
 
 none-weighs-requires : tie.Need-none-weighs-requires
 none-weighs-requires c κs =
@@ -51,4 +37,4 @@ returns-3 c =
 pub ones-if-hollow-spec : {M : Type 1} → statement M
 ones-if-hollow-spec =
     tie.close
-    (tie.spec cast-if1 mul-if1 element-copy-out-if1 returns none-weighs-requires returns-2 returns-3)
+    (tie.spec returns none-weighs-requires returns-2 returns-3)

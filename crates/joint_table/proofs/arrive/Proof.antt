@@ -10,7 +10,7 @@ use Rattle.joint_search.specs.Window.{RowOwn, RowWeighs}
 use Rattle.joint_search.proofs.WindowLaws.{searchable, row-fits, box-of}
 use Rattle.joint_rows.proofs.RowLaws.{centre-place, centre-is, centre-low, centre-small, mirror-weighs, row-weighs-own}
 use Rattle.joint_answer.proofs.AnswerLaws.{counted-weighs}
-use Rattle.joint_table.proofs.ArriveLaws.{arrives-of, centre-none}
+use Rattle.joint_table.proofs.ArriveLaws.{arrives-of, centre-some}
 use Rattle.joint_table.proofs.arrive.Statement.{statement}
 use Rattle.joint_table.proofs.arrive.Tie as tie
 
@@ -27,11 +27,11 @@ read d = d .before .before .before
 small : (g : tie.After-guide-at) → g .guide-at .result .0 ≤ 255
 small g = let k = start g .pre .0 .0 in centre-small (k .planned) (k .column) (k .row) (g .guide-at .ensures)
 
-mul-guide-at : tie.Need-mul-guide-at
-mul-guide-at c = let k = begin c .pre .0 .0 in omega (arith, place-small (k .planned) (centre-place (k .planned) (k .column) (k .row)))
+mul-place : tie.Need-mul-place
+mul-place c = let k = begin c .pre .0 .0 in omega (arith, place-small (k .planned) (centre-place (k .planned) (k .column) (k .row)))
 
-add-guide-at : tie.Need-add-guide-at
-add-guide-at c = let k = begin c .pre .0 .0 in omega (arith, place-small (k .planned) (centre-place (k .planned) (k .column) (k .row)))
+add-place : tie.Need-add-place
+add-place c = let k = begin c .pre .0 .0 in omega (arith, place-small (k .planned) (centre-place (k .planned) (k .column) (k .row)))
 
 guide-at-requires : tie.Need-guide-at-requires
 guide-at-requires c κs = let k = begin c .pre .0 .0 in (k .planned, centre-place (k .planned) (k .column) (k .row))
@@ -82,7 +82,7 @@ returns : tie.Need-returns
 returns c =
     let d = c .before .before .before in
     let at = start (read d) in
-    arrives-of (at .pre .0 .0) (built d (omega arith)) (at .pre .0 .2) (at .args .way) (c .arrive .ensures)
+    arrives-of (at .pre .0 .0) (at .pre .0 .3) (built d (omega arith)) (at .pre .0 .2) (at .args .way) (c .arrive .ensures)
 
 -- the file's own
 own-row-requires : tie.Need-own-row-requires
@@ -105,17 +105,33 @@ own o =
 
 -- the row read
 abbrev filled : tie.After-ones-if-hollow → tie.After-own-row
-filled h = h .before .before
+filled h = h .before .before .before .before
+
+cast-centre-weighs : tie.Need-cast-centre-weighs
+cast-centre-weighs c = search needs
+
+mul-centre-weighs : tie.Need-mul-centre-weighs
+mul-centre-weighs c = omega (arith, small (c .before .before .before .before .before))
+
+array-read-centre-weighs : tie.Need-array-read-centre-weighs
+array-read-centre-weighs c =
+    let o = c .before in
+    omega (arith, small (o .before .before .before .before), o .own-row .ensures .long)
+
+centre-weighs-requires : tie.Need-centre-weighs-requires
+centre-weighs-requires c κs =
+    let k = start (c .before .before .before .before .before) .pre .0 .0 in
+    (k .planned, centre-place (k .planned) (k .column) (k .row))
 
 ones-if-hollow-requires : tie.Need-ones-if-hollow-requires
 ones-if-hollow-requires c κs =
-    let o = c .before in
+    let o = c .before .before .before in
     let g = o .before .before .before .before in
     let at = start g in
     let k = at .pre .0 .0 in
     let f = centre-is (k .planned) (k .column) (k .row) (g .guide-at .ensures) in (
       (searchable k, row-fits k (own o), o .own-row .ensures .long),
-      (at .pre .1 .0, omega (arith, small g), λ e. centre-none k (own o) (at .pre .0 .2) f e),
+      (at .pre .1 .0, λ e. centre-some k (at .pre .0 .3) (own o) (at .pre .0 .2) f (sym (c .before .centre-weighs .ensures) ∙ e)),
     )
 
 -- the row that the window is counted with
@@ -125,7 +141,7 @@ counted h =
     let o = filled h in
     let at = start (o .before .before .before .before) in
     subst (RowWeighs (frameOf (at .args .file .now)) (at .args .s) (at .args .t)) (sym (h .ones-if-hollow .ensures .0))
-    (counted-weighs (at .pre .0 .0) (own o))
+    (counted-weighs (at .pre .0 .0) (at .pre .0 .3) (own o))
 
 slice-aggregate-arrive : tie.Need-slice-aggregate-arrive
 slice-aggregate-arrive c = search needs
@@ -142,14 +158,14 @@ returns-2 : tie.Need-returns-2
 returns-2 c =
     let h = c .before .before .before in
     let at = start (filled h .before .before .before .before) in
-    arrives-of (at .pre .0 .0) (counted h) (at .pre .0 .2) (at .args .way) (c .arrive2 .ensures)
+    arrives-of (at .pre .0 .0) (at .pre .0 .3) (counted h) (at .pre .0 .2) (at .args .way) (c .arrive2 .ensures)
 
 pub arrive-spec : {M : Type 1} → statement M
 arrive-spec =
     tie.close
     (tie.spec
-    mul-guide-at
-    add-guide-at
+    mul-place
+    add-place
     guide-at-requires
     cast-from
     sub-from
@@ -161,6 +177,10 @@ arrive-spec =
     arrive-requires
     returns
     own-row-requires
+    cast-centre-weighs
+    mul-centre-weighs
+    array-read-centre-weighs
+    centre-weighs-requires
     ones-if-hollow-requires
     slice-aggregate-arrive
     arrive-requires-2

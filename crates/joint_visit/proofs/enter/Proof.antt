@@ -73,13 +73,16 @@ returns-2 c =
     guided-visited (at .pre .0 .0 .planned) (at .args .way) 0 0 (at .pre .1 .1) (sym (w .before .by-blocks .ensures) ∙ w .if2 .left)
     (k .build .ensures) (r .enter .ensures)
 
+start-requires : tie.Need-start-requires
+start-requires c κs = let f = begin (built (c .before)) .pre .0 .0 in (f .planned, (f .column, f .row))
+
 visit-requires : tie.Need-visit-requires
 visit-requires c κs =
-    let i = c .before .before .before in
+    let i = c .before .before .before .before in
     let k = built (i .before) in
     let at = begin k in
     let f = at .pre .0 .0 in (
-      (counted-of (f .planned) (f .column) (f .row) (k .build .ensures), at .pre .1 .0, kind-table (f .planned) (i .if1 .left)),
+      (counted-of (f .planned) (f .column) (f .row) (k .build .ensures), at .pre .1 .0, kind-table (f .planned) (i .if1 .left), c .before .before .before .start .ensures .count),
       (levels-some (f .planned), omega arith, k .build .ensures .box),
     )
 
@@ -91,11 +94,12 @@ same-length-8 c = search needs
 
 returns-3 : tie.Need-returns-3
 returns-3 c =
-    let i = c .before .before .before .before in
+    let i = c .before .before .before .before .before in
     let k = built (i .before) in
     let at = begin k in
     let f = at .pre .0 .0 .planned in
-    table-visited f (at .args .way) 0 0 (kind-table f (i .if1 .left)) (k .build .ensures) (c .visit .ensures)
+    table-visited f (at .args .way) 0 0 (kind-table f (i .if1 .left)) (c .before .before .before .before .start .ensures .count) (k .build .ensures)
+    (c .visit .ensures)
 
 pub enter-spec : {M : Type 1} → statement M
 enter-spec =
@@ -113,6 +117,7 @@ enter-spec =
     same-length-5
     same-length-6
     returns-2
+    start-requires
     visit-requires
     same-length-7
     same-length-8

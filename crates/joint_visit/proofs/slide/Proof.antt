@@ -3,9 +3,11 @@ use borrow.Author.Needs.{needs}
 use mathlib.Core.Path.{_≡_, sym, ap, subst, _∙_}
 use mathlib.Core.Bool.{Bool}
 use native.Mathlib.Omega.{arith}
-use Prim.Native.Nat.{ℕ, _-_}
-use lib.ListN.{take, drop}
+use Prim.Native.Nat.{ℕ, _+_, _-_, _/_, _≤_}
+use lib.ListN.{length, take, drop}
 use Rattle.spec.specs.Frame.{frameOf}
+use Rattle.spec.specs.Window.{pixelCount}
+use Rattle.spec.proofs.Bounds.{pixelCount-high}
 use Rattle.spec.specs.Joint.{balanceBox}
 use Rattle.spec.specs.Walk.{byBlocks}
 use Rattle.window.proofs.PixelLaws.{plan-limits}
@@ -17,7 +19,7 @@ use Rattle.joint.specs.Window.{JointAt, Held}
 use Rattle.joint.proofs.PixelLaws as joint
 use Rattle.histogram.proofs.PixelLaws as histogram
 use Rattle.levels.proofs.ListTallyLaws.{carries-step}
-use Rattle.spec.proofs.Plans.{kind-of, kind-table}
+use Rattle.spec.proofs.Plans.{kind-of, kind-table, pixel-of}
 use Rattle.window.specs.Sums.{SumsAt}
 use Rattle.histogram.specs.Histogram.{Histogram}
 use Rattle.joint_search.specs.Window.{Counted}
@@ -25,6 +27,8 @@ use Rattle.joint_guided.specs.Guided.{GuidedAt}
 use Rattle.joint_visit.specs.Visit.{boxCut}
 use Rattle.joint_visit.proofs.VisitLaws.{
   counted-of,
+  count-enough,
+  count-moved,
   box-cut-joint,
   box-cut-table,
   box-cut-guided,
@@ -347,13 +351,54 @@ returns-2 c =
     guided-visited (at .pre .0 .0 .planned) (at .args .way) (at .args .from .cut .0) (at .args .from .shifts) (at .pre .1 .2)
     (sym (kept x .before .before .by-blocks .ensures) ∙ w .if2 .left) (moved x) (c .arrive .ensures)
 
--- kind 1
+-- kind 1: the number of pixels
+abbrev told : tie.After-former → tie.After-exchange
+told f = f .before .before .before .before .before .before .before .before
+
+entering-long : (r : tie.After-read2) → first r .read .result ≤ length (first r .read .last .1 .1 .1 .0)
+entering-long r = omega (arith, first r .read .ensures .0, first r .read .kept .1 .1 .1 .0)
+
+leaving-long : (r : tie.After-read2) → r .read2 .result ≤ length (r .read2 .last .1 .1 .1 .0)
+leaving-long r = omega (arith, r .read2 .ensures .0, r .read2 .kept .1 .1 .1 .0)
+
+few : (f : tie.After-former) → opened (both (told f)) .args .from .running .sums .count ≤ 961
+few f =
+    let at = opened (both (told f)) in
+    let q = both-in (at .pre .0 .1) in
+    omega (arith, at .pre .0 .2 .count, pixelCount-high (pixel-of (at .pre .0 .0 .planned) (q .0) (q .1)))
+
+enough : (f : tie.After-former) → let r = both (told f) in
+    r .read2 .result / 2 ≤ opened r .args .from .running .sums .count + first r .read .result / 2
+enough f =
+    let r = both (told f) in
+    let d = step (first r) in
+    let at = begin d in
+    count-enough (at .pre .0 .0 .planned) (at .pre .0 .1) (d .step-to .ensures) (first r .read .last .1 .1 .1 .0) (r .read2 .last .1 .1 .1 .0)
+    (entering-long r) (leaving-long r) (enters r) (leaves r) (at .pre .0 .2 .count)
+
+pixels-are : (f : tie.After-former) → let r = both (told f) in let at = opened r in
+    at .args .from .running .sums .count + first r .read .result / 2 - r .read2 .result / 2
+    ≡ pixelCount (frameOf (at .args .file .now)) (at .args .column) (at .args .row)
+pixels-are f =
+    let r = both (told f) in
+    let d = step (first r) in
+    let at = begin d in
+    count-moved (at .pre .0 .0 .planned) (at .pre .0 .1) (d .step-to .ensures) (first r .read .last .1 .1 .1 .0) (r .read2 .last .1 .1 .1 .0)
+    (entering-long r) (leaving-long r) (enters r) (leaves r) (at .pre .0 .2 .count)
+
+add-count : tie.Need-add-count
+add-count c = omega (arith, few (c .before), first (both (told (c .before))) .read .ensures .0)
+
+sub-count : tie.Need-sub-count
+sub-count c = enough (c .before)
+
 visit-requires : tie.Need-visit-requires
 visit-requires c κs =
-    let x = c .before .before .before .before .before .before .before .before .before in
+    let f = c .before .before .before .before in
+    let x = told f in
     let at = opened (both x) in
-    let one = kind-table (at .pre .0 .0 .planned) (c .before .before .before .if1 .left) in (
-      (counted x, at .pre .1 .0, one),
+    let one = kind-table (at .pre .0 .0 .planned) (f .before .before .if1 .left) in (
+      (counted x, at .pre .1 .0, one, pixels-are f),
       (
         at .pre .1 .1 .cut,
         omega (arith, at .pre .1 .1 .shifts),
@@ -370,11 +415,12 @@ same-length-8 c = search needs
 
 returns-3 : tie.Need-returns-3
 returns-3 c =
-    let x = c .before .before .before .before .before .before .before .before .before .before in
+    let f = c .before .before .before .before .before in
+    let x = told f in
     let at = opened (both x) in
     let pl = at .pre .0 .0 .planned in
-    table-visited pl (at .args .way) (at .args .from .cut .0) (at .args .from .shifts) (kind-table pl (c .before .before .before .before .if1 .left))
-    (moved x) (c .visit .ensures)
+    table-visited pl (at .args .way) (at .args .from .cut .0) (at .args .from .shifts) (kind-table pl (f .before .before .if1 .left))
+    (pixels-are f) (moved x) (c .visit .ensures)
 
 pub slide-spec : {M : Type 1} → statement M
 slide-spec =
@@ -424,6 +470,8 @@ slide-spec =
     same-length-5
     same-length-6
     returns-2
+    add-count
+    sub-count
     visit-requires
     same-length-7
     same-length-8

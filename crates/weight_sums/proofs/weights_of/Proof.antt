@@ -13,7 +13,9 @@ use Rattle.weight_sums.proofs.weights_of.Statement.{statement}
 use Rattle.weight_sums.proofs.weights_of.Tie as tie
 
 guided-formula-requires : tie.Need-guided-formula-requires
-guided-formula-requires c κs = search needs
+guided-formula-requires c κs =
+    let at = c .before .before .before .before in
+    ((at .pre .0 .0, c .before .if1 .taken, at .pre .0 .1, at .pre .0 .2), (at .pre .1 .0, at .pre .0 .3))
 
 returns : tie.Need-returns
 returns c =
@@ -21,25 +23,25 @@ returns c =
     let e = c .guided-formula .ensures in
     record {
       weighs = e .0;
-      hollow = sym (guided-weighs (pixel-of (at .pre .0) (at .pre .1) (at .pre .2)) (kind-of (at .pre .0) (c .before .before .if1 .taken)));
+      hollow = sym (guided-weighs (pixel-of (at .pre .0 .0) (at .pre .0 .1) (at .pre .0 .2)) (kind-of (at .pre .0 .0) (c .before .before .if1 .taken)));
       long = e .1;
     }
 
 mul-guide-at : tie.Need-mul-guide-at
 mul-guide-at c = let at =
-    c .before .before .before .before in omega (arith, place-small (at .pre .0) (centre-place (at .pre .0) (at .pre .1) (at .pre .2)))
+    c .before .before .before .before in omega (arith, place-small (at .pre .0 .0) (centre-place (at .pre .0 .0) (at .pre .0 .1) (at .pre .0 .2)))
 
 add-guide-at : tie.Need-add-guide-at
 add-guide-at c = let at =
-    c .before .before .before .before in omega (arith, place-small (at .pre .0) (centre-place (at .pre .0) (at .pre .1) (at .pre .2)))
+    c .before .before .before .before in omega (arith, place-small (at .pre .0 .0) (centre-place (at .pre .0 .0) (at .pre .0 .1) (at .pre .0 .2)))
 
 guide-at-requires : tie.Need-guide-at-requires
-guide-at-requires c κs = let at = c .before .before .before .before in (at .pre .0, centre-place (at .pre .0) (at .pre .1) (at .pre .2))
+guide-at-requires c κs = let at = c .before .before .before .before in (at .pre .0 .0, centre-place (at .pre .0 .0) (at .pre .0 .1) (at .pre .0 .2))
 
 table-row-requires : tie.Need-table-row-requires
 table-row-requires c κs =
     let at = c .before .before .before .before .before .before in
-    (at .pre .0, centre-low (at .pre .0) (at .pre .1) (at .pre .2) (c .before .guide-at .ensures), at .pre .3)
+    (at .pre .0 .0, centre-low (at .pre .0 .0) (at .pre .0 .1) (at .pre .0 .2) (c .before .guide-at .ensures), at .pre .0 .3)
 
 -- the own weights are in the row
 own : (r : tie.After-table-row) → let at = r .before .before .before .before .before .before .before in
@@ -48,14 +50,14 @@ own r =
     let g = r .before .before in
     let i = g .before .before in
     let at = i .before .before .before in
-    row-weighs-own (at .pre .0) (at .pre .1) (at .pre .2) (g .guide-at .ensures) (kind-table (at .pre .0) (i .if1 .left)) (r .table-row .ensures)
+    row-weighs-own (at .pre .0 .0) (at .pre .0 .1) (at .pre .0 .2) (g .guide-at .ensures) (kind-table (at .pre .0 .0) (i .if1 .left)) (r .table-row .ensures)
 
 ones-if-hollow-requires : tie.Need-ones-if-hollow-requires
 ones-if-hollow-requires c κs =
     let r = c .before in
     let i = r .before .before .before .before in
     let at = i .before .before .before in
-    ((at .pre .0, kind-table (at .pre .0) (i .if1 .left), omega (arith, at .pre .1), at .pre .2), (own r, r .table-row .ensures .long))
+    ((at .pre .0 .0, kind-table (at .pre .0 .0) (i .if1 .left), omega (arith, at .pre .0 .1), at .pre .0 .2), (own r, r .table-row .ensures .long, at .pre .1 .1))
 
 returns-2 : tie.Need-returns-2
 returns-2 c =

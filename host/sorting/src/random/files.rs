@@ -1,6 +1,7 @@
 //! Files of accepted frames, their parts laid out in every way that document 01 allows.
 
-use super::{random_classes, random_dead, random_guides, random_table, random_values, Random};
+use super::planes::random_dead;
+use super::{random_classes, random_guides, random_table, random_values, Random};
 use crate::frame::{bytes_of, number16, trailer_bytes, Settings, KIND_GUIDED, KIND_TABLE, NO_READING};
 
 /// Width and height: a rectangle, a single row or column, or smaller than the window.

@@ -6,7 +6,7 @@ mod planes;
 
 pub use damage::{damage, damage_table};
 pub use files::{accepted_file, accepted_file_of, overlapping_file, settings};
-pub use planes::{random_classes, random_dead, random_guides, random_table, random_values};
+pub use planes::{kill, random_classes, random_guides, random_table, random_values};
 
 use crate::frame::Settings;
 use crate::walk::serpentine;

@@ -12,15 +12,20 @@ fn fill(length: usize, mut number: impl FnMut(usize) -> u16) -> Vec<u16> {
 pub fn random_values(random: &mut Random, settings: &Settings) -> Vec<u16> {
     let mut values = random_levels(random, settings);
     if random.once_in(2) {
-        let dead = random_dead(random, settings);
-        values.iter_mut().zip(dead).filter(|(_, dead)| *dead).for_each(|(value, _)| *value = NO_READING);
+        kill(random, settings, &mut values);
     }
     values
 }
 
+/// Makes pixels dead, nearly always one at least.
+pub fn kill(random: &mut Random, settings: &Settings, values: &mut [u16]) {
+    let dead = random_dead(random, settings);
+    values.iter_mut().zip(dead).filter(|(_, dead)| *dead).for_each(|(value, _)| *value = NO_READING);
+}
+
 /// Which pixels are dead: one, a few, half, most, all, all but one, stripes of columns or of rows that are wider or
 /// narrower than a window, or the rows from one on. Stripes leave windows without a reading beside others.
-pub fn random_dead(random: &mut Random, settings: &Settings) -> Vec<bool> {
+pub(super) fn random_dead(random: &mut Random, settings: &Settings) -> Vec<bool> {
     let (pixels, width) = (settings.pixels(), usize::from(settings.width));
     let one = random.below(pixels);
     let stripe = 1 + random.below(2 * usize::from(settings.radius) + 4);

@@ -1,223 +1,162 @@
--- `columns::store::count_pixel` meets its contract. Assumes nothing.
+-- `columns::store::count_pixel` meets its contract: a dead pixel is passed over, the count and the guide sum of any other change. Assumes nothing.
 use Prim.Native.Nat.{ℕ, _+_, _*_, _-_, _<_, _≤_}
 use mathlib.Core.Path.{_≡_, refl, sym, _∙_, subst}
+use mathlib.Core.Bool.{true, false}
 use native.Mathlib.Omega.{arith}
-use Rattle.spec.specs.Frame.{frameOf, level, guide}
+use borrow.Author.Needs.{needs}
+use borrow.Author.Tests.{eq-eqb, ne-eqb}
+use Rattle.spec.specs.Frame.{Frame, frameOf, noReading, level, dead, guide}
 use Rattle.spec.proofs.Plans.{facts, place-low}
 use Rattle.window.proofs.PixelLaws.{level-low, guide-low, guides-high, place-small}
 use Rattle.columns.specs.Blocks.{Put, Able, block, atLevel}
-use Rattle.columns.proofs.BlockLaws.{in-store, able-first, able-second, asks, count-put, put-pixel}
-use borrow.Author.Needs.{needs}
+use Rattle.columns.proofs.BlockLaws.{in-store, able-first, able-second, asks, count-put, put-dead, put-pixel}
 use Rattle.columns.proofs.store.count_pixel.Statement.{statement}
 use Rattle.columns.proofs.store.count_pixel.Tie as tie
 
-abbrev frame : (c : tie.Start) → Rattle.spec.specs.Frame.Frame
-frame c = frameOf (c .args .file .now)
+-- the places passed: the value, the guide, the count's change; and the start
+abbrev begin : tie.After-value-at → tie.Start
+begin v = v .before .before .before .before
 
-place : (c : tie.Start) → c .args .y * c .args .plan .width + c .args .x < c .args .plan .width * c .args .plan .height
-place c = place-low (c .args .plan) (c .args .x) (c .args .y) (c .pre .1 .0 .0) (c .pre .1 .0 .1)
+abbrev valued : tie.After-guide-at → tie.After-value-at
+valued g = g .before .before
 
-first-able : (c : tie.Start) →
-    Able (c .args .add) (c .args .plan .levels) (block (c .args .a) (atLevel (frame c) (λ u v. 1) (c .args .x) (c .args .y))) (c .args .blocks .now)
-first-able c = able-first (frame c) (c .args .x) (c .args .y) (c .args .add) (c .args .a) (c .args .b) (c .pre .1 .1 .1)
+abbrev guided : tie.After-change → tie.After-guide-at
+guided k = k .before .before
 
--- the pixel's level and guide
-lv : (c : tie.After-guide-at) →
-    c .before .level-at .result .0 ≡ level (frame (c .before .before .before .before .before)) (c .before .before .before .before .before .args .x)
-    (c .before .before .before .before .before .args .y)
-lv c =
-    c .before .level-at .ensures ∙ facts (c .before .before .before .before .before .pre .0) .level-at
-    (c .before .before .before .before .before .args .x) (c .before .before .before .before .before .args .y)
+abbrev counting : tie.After-struct-known2 → tie.After-change
+counting c = c .before .before .before .before
 
-gd : (c : tie.After-guide-at) →
-    c .guide-at .result .0 ≡ guide (frame (c .before .before .before .before .before)) (c .before .before .before .before .before .args .x)
-    (c .before .before .before .before .before .args .y)
-gd c =
-    c .guide-at .ensures ∙ facts (c .before .before .before .before .before .pre .0) .guide-at (c .before .before .before .before .before .args .x)
-    (c .before .before .before .before .before .args .y)
+abbrev frame : tie.Start → Frame
+frame st = frameOf (st .args .file .now)
 
-gd-low : (c : tie.After-guide-at) → c .guide-at .result .0 ≤ 255
-gd-low c =
-    omega (
-      arith,
-      c .guide-at .ensures,
-      guide-low (c .before .before .before .before .before .pre .0) (place (c .before .before .before .before .before)),
-      guides-high (c .before .before .before .before .before .pre .0),
-    )
+place : (st : tie.Start) → st .args .y * st .args .plan .width + st .args .x < st .args .plan .width * st .args .plan .height
+place st = place-low (st .args .plan) (st .args .x) (st .args .y) (st .pre .1 .0 .0) (st .pre .1 .0 .1)
 
-hi : (c : tie.After-guide-at) → c .before .level-at .result .0 < c .before .before .before .before .before .args .plan .levels
-hi c =
-    subst (λ (n : ℕ). n < c .before .before .before .before .before .args .plan .levels) (sym (c .before .level-at .ensures))
-    (level-low (c .before .before .before .before .before .pre .0) (place (c .before .before .before .before .before)))
+-- the pixel's value, whether it is a reading, and its guide
+value-is : (v : tie.After-value-at) → let st = begin v in v .value-at .result ≡ level (frame st) (st .args .x) (st .args .y)
+value-is v = let st = begin v in v .value-at .ensures ∙ facts (st .pre .0) .level-at (st .args .x) (st .args .y)
 
-first-in : (c : tie.After-guide-at) →
-    c .before .before .before .before .before .args .a * c .before .before .before .before .before .args .plan .levels + c .before .level-at .result
-    .0 < 2 * (c .before .before .before .before .before .args .plan .width * c .before .before .before .before .before .args .plan .levels) + 2 * c
-    .before .before .before .before .before .args .plan .levels
-first-in c =
-    in-store (c .before .before .before .before .before .args .plan .width) (c .before .before .before .before .before .pre .1 .1 .0 .0) (hi c)
+reads : (c : tie.Else1) → let st = begin (c .before) in dead (frame st) (st .args .x) (st .args .y) ≡ false
+reads c = ne-eqb _ noReading (λ e. c .if1 .left (value-is (c .before) ∙ e))
 
-second-in : (c : tie.After-guide-at) →
-    c .before .before .before .before .before .args .b * c .before .before .before .before .before .args .plan .levels + c .before .level-at .result
-    .0 < 2 * (c .before .before .before .before .before .args .plan .width * c .before .before .before .before .before .args .plan .levels) + 2 * c
-    .before .before .before .before .before .args .plan .levels
-second-in c =
-    in-store (c .before .before .before .before .before .args .plan .width) (c .before .before .before .before .before .pre .1 .1 .0 .1) (hi c)
+guide-is : (g : tie.After-guide-at) → let st = begin (valued g) in g .guide-at .result .0 ≡ guide (frame st) (st .args .x) (st .args .y)
+guide-is g = let st = begin (valued g) in g .guide-at .ensures ∙ facts (st .pre .0) .guide-at (st .args .x) (st .args .y)
 
--- after the count's change
-counted : (c : tie.After-change) →
-    Put (c .before .before .before .before .before .before .before .before .args .add)
-    (c .before .before .before .before .before .before .before .before .args .plan .levels)
-    (block (c .before .before .before .before .before .before .before .before .args .a)
-    (atLevel (frame (c .before .before .before .before .before .before .before .before)) (λ u v. 1)
-    (c .before .before .before .before .before .before .before .before .args .x)
-    (c .before .before .before .before .before .before .before .before .args .y)))
-    (c .before .before .before .before .before .before .before .before .args .blocks .now) (c .change .last .0)
-counted c =
-    count-put (frame (c .before .before .before .before .before .before .before .before))
-    (c .before .before .before .before .before .before .before .before .args .x)
-    (c .before .before .before .before .before .before .before .before .args .y) (λ u v. 1)
-    (c .before .before .before .before .before .before .before .before .args .add)
-    (c .before .before .before .before .before .before .before .before .args .a) _ 1 (lv (c .before .before .before)) refl
-    (hi (c .before .before .before))
-    (omega (arith, first-in (c .before .before .before), c .before .before .before .before .before .before .before .before .pre .1 .1 .0 .2))
-    (first-able (c .before .before .before .before .before .before .before .before)) (c .change .ensures)
+guide-small : (g : tie.After-guide-at) → g .guide-at .result .0 ≤ 255
+guide-small g =
+    let st = begin (valued g) in
+    omega (arith, g .guide-at .ensures, guide-low (st .pre .0) (place st), guides-high (st .pre .0))
 
-second-able : (c : tie.After-change) →
-    Able (c .before .before .before .before .before .before .before .before .args .add)
-    (c .before .before .before .before .before .before .before .before .args .plan .levels)
-    (block (c .before .before .before .before .before .before .before .before .args .b)
-    (atLevel (frame (c .before .before .before .before .before .before .before .before))
-    (guide (frame (c .before .before .before .before .before .before .before .before)))
-    (c .before .before .before .before .before .before .before .before .args .x)
-    (c .before .before .before .before .before .before .before .before .args .y))) (c .change .last .0)
-second-able c =
-    able-second (frame (c .before .before .before .before .before .before .before .before))
-    (c .before .before .before .before .before .before .before .before .args .x)
-    (c .before .before .before .before .before .before .before .before .args .y)
-    (c .before .before .before .before .before .before .before .before .args .add)
-    (c .before .before .before .before .before .before .before .before .args .a)
-    (c .before .before .before .before .before .before .before .before .args .b)
-    (c .before .before .before .before .before .before .before .before .pre .1 .1 .1) (counted c)
+low : (c : tie.Else1) → c .before .value-at .result < begin (c .before) .args .plan .levels
+low c =
+    let st = begin (c .before) in
+    let e = c .before .value-at .ensures in
+    subst (λ (n : ℕ). n < st .args .plan .levels) (sym e) (level-low (st .pre .0) (place st) (ne-eqb _ noReading (λ d. c .if1 .left (e ∙ d))))
+
+-- both places are in the store
+first-in : (g : tie.After-guide-at) → let st = begin (valued g) in let z = st .args .plan in
+    st .args .a * z .levels + valued g .value-at .result < 2 * (z .width * z .levels) + 2 * z .levels
+first-in g = let st = begin (valued g) in in-store (st .args .plan .width) (st .pre .1 .1 .0 .0) (low (g .before))
+
+second-in : (g : tie.After-guide-at) → let st = begin (valued g) in let z = st .args .plan in
+    st .args .b * z .levels + valued g .value-at .result < 2 * (z .width * z .levels) + 2 * z .levels
+second-in g = let st = begin (valued g) in in-store (st .args .plan .width) (st .pre .1 .1 .0 .1) (low (g .before))
+
+-- the count's change, and then the guide sum's
+first-able : (st : tie.Start) →
+    Able (st .args .add) (st .args .plan .levels) (block (st .args .a) (atLevel (frame st) (λ u v. 1) (st .args .x) (st .args .y)))
+    (st .args .blocks .now)
+first-able st = able-first (frame st) (st .args .x) (st .args .y) (st .args .add) (st .args .a) (st .args .b) (st .pre .1 .1 .1)
+
+counted : (k : tie.After-change) → let st = begin (valued (guided k)) in
+    Put (st .args .add) (st .args .plan .levels) (block (st .args .a) (atLevel (frame st) (λ u v. 1) (st .args .x) (st .args .y)))
+    (st .args .blocks .now) (k .change .last .0)
+counted k =
+    let g = guided k in
+    let st = begin (valued g) in
+    count-put (frame st) (st .args .x) (st .args .y) (reads (g .before)) (λ u v. 1) (st .args .add) (st .args .a) _ 1 (value-is (valued g)) refl
+    (low (g .before)) (omega (arith, first-in g, st .pre .1 .1 .0 .2)) (first-able st) (k .change .ensures)
+
+second-able : (k : tie.After-change) → let st = begin (valued (guided k)) in
+    Able (st .args .add) (st .args .plan .levels) (block (st .args .b) (atLevel (frame st) (guide (frame st)) (st .args .x) (st .args .y)))
+    (k .change .last .0)
+second-able k =
+    let st = begin (valued (guided k)) in
+    able-second (frame st) (st .args .x) (st .args .y) (st .args .add) (st .args .a) (st .args .b) (st .pre .1 .1 .1) (counted k)
 
 mul-q : tie.Need-mul-q
-mul-q c = omega (arith, place-small (c .before .before .before .pre .0) (place (c .before .before .before)))
+mul-q c = let st = c .before .before .before in omega (arith, place-small (st .pre .0) (place st))
 
 add-q : tie.Need-add-q
-add-q c = omega (arith, place-small (c .before .before .before .pre .0) (place (c .before .before .before)))
+add-q c = let st = c .before .before .before in omega (arith, place-small (st .pre .0) (place st))
 
-level-at-requires : tie.Need-level-at-requires
-level-at-requires c κs = (c .before .before .before .pre .0, place (c .before .before .before))
+value-at-requires : tie.Need-value-at-requires
+value-at-requires c κs = let st = c .before .before .before in (st .pre .0, place st)
+
+returns : tie.Need-returns
+returns c =
+    let st = begin (c .before) in
+    put-dead (frame st) (st .args .x) (st .args .y) (st .args .add) (st .args .a) (st .args .b) (st .args .plan .levels) (st .args .blocks .now)
+    (eq-eqb _ noReading (sym (value-is (c .before)) ∙ c .if1 .taken))
 
 guide-at-requires : tie.Need-guide-at-requires
-guide-at-requires c κs = (c .before .before .before .before .pre .0, place (c .before .before .before .before))
+guide-at-requires c κs = let st = begin (c .before) in (st .pre .0, place st)
 
 cast-at : tie.Need-cast-at
 cast-at c = search needs
 
 mul-change : tie.Need-mul-change
-mul-change c =
-    omega (
-      arith,
-      first-in (c .before .before),
-      c .before .before .before .before .before .before .before .pre .1 .1 .0 .2,
-      c .before .before .before
-          .before .before .before .before .good,
-    )
+mul-change c = let g = c .before in let st = begin (valued g) in omega (arith, first-in g, st .pre .1 .1 .0 .2, st .good)
 
 add-change : tie.Need-add-change
-add-change c =
-    omega (
-      arith,
-      first-in (c .before .before),
-      c .before .before .before .before .before .before .before .pre .1 .1 .0 .2,
-      c .before .before .before
-          .before .before .before .before .good,
-    )
+add-change c = let g = c .before in let st = begin (valued g) in omega (arith, first-in g, st .pre .1 .1 .0 .2, st .good)
 
 change-requires : tie.Need-change-requires
-change-requires c κs = (
-  omega (arith, first-in (c .before .before), c .before .before .before .before .before .before .before .pre .1 .1 .0 .2),
-  asks
-      (frame (c .before .before .before .before .before .before .before)) (c .before .before .before .before .before .before .before .args .x)
-      (c .before .before .before .before .before .before .before .args .y) (λ u v. 1)
-      (c .before .before .before .before .before .before .before .args .add) (c .before .before .before .before .before .before .before .args .a) _ 1
-      (lv (c .before .before)) refl (hi (c .before .before)) (first-able (c .before .before .before .before .before .before .before)),
-)
+change-requires c κs =
+    let g = c .before in
+    let st = begin (valued g) in (
+      omega (arith, first-in g, st .pre .1 .1 .0 .2),
+      asks (frame st) (st .args .x) (st .args .y) (reads (g .before)) (λ u v. 1) (st .args .add) (st .args .a) _ 1 (value-is (valued g)) refl
+          (low (g .before)) (first-able st),
+    )
 
 mul-change-2 : tie.Need-mul-change-2
 mul-change-2 c =
-    omega (
-      arith,
-      second-in (c .before .before .before .before .before .before),
-      c .before .before .before .before .before .before .before .before .before
-          .before .before .pre .1 .1 .0 .2,
-      c .before .before .before .before .before .before .before .before .before .before .before .good,
-    )
+    let g = guided (c .before .before .before) in
+    let st = begin (valued g) in
+    omega (arith, second-in g, st .pre .1 .1 .0 .2, st .good)
 
 add-change-2 : tie.Need-add-change-2
 add-change-2 c =
-    omega (
-      arith,
-      second-in (c .before .before .before .before .before .before),
-      c .before .before .before .before .before .before .before .before .before
-          .before .before .pre .1 .1 .0 .2,
-      c .before .before .before .before .before .before .before .before .before .before .before .good,
-    )
+    let g = guided (c .before .before .before) in
+    let st = begin (valued g) in
+    omega (arith, second-in g, st .pre .1 .1 .0 .2, st .good)
 
 cast-change : tie.Need-cast-change
-cast-change c = omega (arith, gd-low (c .before .before .before .before .before .before .before))
+cast-change c = omega (arith, guide-small (guided (counting c)))
 
 change-requires-2 : tie.Need-change-requires-2
-change-requires-2 c κs = (
-  omega (
-    arith,
-    second-in (c .before .before .before .before .before .before .before),
-    c .before .before .before .before .before .before .before .before
-        .before .before .before .before .pre .1 .1 .0 .2,
-    counted (c .before .before .before .before) .len,
-  ),
-  asks
-      (frame (c .before .before .before .before .before .before .before .before .before .before .before .before))
-      (c .before .before .before .before .before .before .before .before .before .before .before .before .args .x)
-      (c .before .before .before .before .before .before .before .before .before .before .before .before .args .y)
-      (guide (frame (c .before .before .before .before .before .before .before .before .before .before .before .before)))
-      (c .before .before .before .before .before .before .before .before .before .before .before .before .args .add)
-      (c .before .before .before .before .before .before .before .before .before .before .before .before .args .b) _ _
-      (lv (c .before .before .before .before .before .before .before)) (gd (c .before .before .before .before .before .before .before))
-      (hi (c .before .before .before .before .before .before .before)) (second-able (c .before .before .before .before)),
-)
+change-requires-2 c κs =
+    let k = counting c in
+    let g = guided k in
+    let st = begin (valued g) in (
+      omega (arith, second-in g, st .pre .1 .1 .0 .2, counted k .len),
+      asks (frame st) (st .args .x) (st .args .y) (reads (g .before)) (guide (frame st)) (st .args .add) (st .args .b) _ _ (value-is (valued g))
+          (guide-is g) (low (g .before)) (second-able k),
+    )
 
 same-length : tie.Need-same-length
-same-length c = c .before .before .change2 .kept .0 ∙ c .before .before .before .before .before .before .before .change .kept .0
+same-length c = let o = c .before .before in o .change2 .kept .0 ∙ counting (o .before) .change .kept .0
 
-returns : tie.Need-returns
-returns c =
-    put-pixel (frame (c .before .before .before .before .before .before .before .before .before .before .before .before .before .before .before))
-    (c .before .before .before .before .before .before .before .before .before .before .before .before .before .before .before .args .x)
-    (c .before .before .before .before .before .before .before .before .before .before .before .before .before .before .before .args .y)
-    (c .before .before .before .before .before .before .before .before .before .before .before .before .before .before .before .args .add)
-    (c .before .before .before .before .before .before .before .before .before .before .before .before .before .before .before .args .a)
-    (c .before .before .before .before .before .before .before .before .before .before .before .before .before .before .before .args .b)
-    (counted (c .before .before .before .before .before .before .before))
-    (count-put (frame (c .before .before .before .before .before .before .before .before .before .before .before .before .before .before .before))
-    (c .before .before .before .before .before .before .before .before .before .before .before .before .before .before .before .args .x)
-    (c .before .before .before .before .before .before .before .before .before .before .before .before .before .before .before .args .y)
-    (guide (frame (c .before .before .before .before .before .before .before .before .before .before .before .before .before .before .before)))
-    (c .before .before .before .before .before .before .before .before .before .before .before .before .before .before .before .args .add)
-    (c .before .before .before .before .before .before .before .before .before .before .before .before .before .before .before .args .b) _ _
-    (lv (c .before .before .before .before .before .before .before .before .before .before))
-    (gd (c .before .before .before .before .before .before .before .before .before .before))
-    (hi (c .before .before .before .before .before .before .before .before .before .before))
-    (omega (
-      arith,
-      second-in (c .before .before .before .before .before .before .before .before .before .before),
-      c .before .before .before .before .before
-          .before .before .before .before .before .before .before .before .before .before .pre .1 .1 .0 .2,
-      counted
-          (c .before .before .before .before .before .before .before) .len,
-    )) (second-able (c .before .before .before .before .before .before .before))
-    (c .before .before .change2 .ensures))
+returns-2 : tie.Need-returns-2
+returns-2 c =
+    let o = c .before .before in
+    let k = counting (o .before) in
+    let g = guided k in
+    let st = begin (valued g) in
+    put-pixel (frame st) (st .args .x) (st .args .y) (st .args .add) (st .args .a) (st .args .b) (counted k)
+    (count-put (frame st) (st .args .x) (st .args .y) (reads (g .before)) (guide (frame st)) (st .args .add) (st .args .b) _ _ (value-is (valued g))
+    (guide-is g) (low (g .before)) (omega (arith, second-in g, st .pre .1 .1 .0 .2, counted k .len)) (second-able k) (o .change2 .ensures))
 
 pub count-pixel-spec : {M : Type 1} → statement M
 count-pixel-spec =
@@ -225,7 +164,8 @@ count-pixel-spec =
     (tie.spec
     mul-q
     add-q
-    level-at-requires
+    value-at-requires
+    returns
     guide-at-requires
     cast-at
     mul-change
@@ -236,4 +176,4 @@ count-pixel-spec =
     cast-change
     change-requires-2
     same-length
-    returns)
+    returns-2)
