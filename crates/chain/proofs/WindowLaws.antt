@@ -10,9 +10,9 @@ use lib.Dec.{eqb, leb, ltb}
 use borrow.Author.Tests.{leb-true, ltb-true}
 use Rattle.spec.specs.declared.Plan.{Plan}
 use Rattle.spec.specs.Base.{if_then_else_, foldRect, sum}
-use Rattle.spec.specs.Frame.{Frame, level, guide, frameOf}
+use Rattle.spec.specs.Frame.{Frame, level, dead, guide, frameOf}
 use Rattle.spec.specs.Checks.{Planned}
-use Rattle.spec.specs.Window.{span, over, inRow, Σ, levelSum, InWindow}
+use Rattle.spec.specs.Window.{span, live, over, inRow, Σ, levelSum, InWindow}
 use Rattle.spec.proofs.Limits.{Pixel}
 use Rattle.spec.proofs.Plans.{facts}
 use Rattle.spec.proofs.Ranges.{natSums, foldRect-turn}
@@ -32,7 +32,8 @@ pub level-total : {p : Frame} {s t : ℕ} → Pixel p s t → (f : ℕ → ℕ �
 unfolding levelSum
 level-total {p} {s} {t} k f =
     sym (over-fold _+_ 0 natSums p s t (λ i x y. if eqb (level p x y) i then f x y else 0) (p .set .levels))
-    ∙ over-same _+_ 0 natSums p s t _ f (λ x y a b. fold-pick _+_ 0 natSums (λ i. f x y) (level p x y) (p .set .levels) (k .good .level-low x y a b))
+    ∙ over-same _+_ 0 natSums p s t _ f 
+    (λ x y a b e. fold-pick _+_ 0 natSums (λ i. f x y) (level p x y) (p .set .levels) (k .good .level-low x y a b e))
 
 -- ---- a window of an accepted file
 module _ {b : List ℕ} {z : Plan} (pl : Planned b z) where
@@ -40,12 +41,21 @@ module _ {b : List ℕ} {z : Plan} (pl : Planned b z) where
   window h s t = over _+_ 0 (frameOf b) s t (λ x y. h (level (frameOf b) x y) (guide (frameOf b) x y))
 
   pub window-mixed : (s t i : ℕ) → window (lacking i) s t + window (guided i) s t ≡ 255 * window (counted i) s t
-  unfolding over foldRect
+  unfolding over foldRect live
   window-mixed s t i =
-      let g = facts pl .limits in
-      sum-mixed _ _ _ _ _ (λ x a c. sum-mixed _ _ _ _ _ (λ y d e.
-      let w : InWindow (frameOf b) s t x y = in-window (frameOf b) s t x y a c d e in
-      mixed (eqb (level (frameOf b) x y) i) (guide (frameOf b) x y) (omega (arith, g .guide-low x y (w .wide) (w .high), g .sound .guides-high))))
+      sum-mixed _ _ _ _ _
+      (λ x a c. sum-mixed _ _ _ _ _ (λ y d e. go x y (λ q. in-window (frameOf b) s t x y a c d e q) (dead (frameOf b) x y) refl))
+    where
+      one : (h : ℕ → ℕ → ℕ) (x y : ℕ) → ℕ
+      one h x y = h (level (frameOf b) x y) (guide (frameOf b) x y)
+
+      go : (x y : ℕ) → (dead (frameOf b) x y ≡ false → InWindow (frameOf b) s t x y) → (v : Bool) → dead (frameOf b) x y ≡ v
+          → (if v then 0 else one (lacking i) x y) + (if v then 0 else one (guided i) x y) ≡ 255 * (if v then 0 else one (counted i) x y)
+      go x y w true q = refl
+      go x y w false q =
+          let g = facts pl .limits in
+          mixed (eqb (level (frameOf b) x y) i) (guide (frameOf b) x y)
+          (omega (arith, g .guide-low x y (w q .wide) (w q .high), g .sound .guides-high))
 
   -- ---- a column, a row of the window is a part of it
   module _ (h : ℕ → ℕ → ℕ) where
@@ -57,7 +67,7 @@ module _ {b : List ℕ} {z : Plan} (pl : Planned b z) where
         ≡ sum (inRow _+_ 0 (frameOf b) s (λ x y. h (level (frameOf b) x y) (guide (frameOf b) x y))) (t - frameOf b .set .radius)
         (span (frameOf b .set .radius) t (frameOf b .set .height))
     unfolding over foldRect inRow
-    rows-over s t = foldRect-turn _+_ 0 natSums (λ x y. h (level (frameOf b) x y) (guide (frameOf b) x y)) _ _ _ _
+    rows-over s t = foldRect-turn _+_ 0 natSums (live 0 (frameOf b) (λ x y. h (level (frameOf b) x y) (guide (frameOf b) x y))) _ _ _ _
 
     rows-law : (s t : ℕ) → window h s t ≡ sum (λ y. lineFold _+_ 0 b (rowLine z s y) h) (t - z .radius) (span (z .radius) t (z .height))
     rows-law s t =

@@ -37,7 +37,7 @@ pub fn added(monotone: bool, cut: Level, answer: Level) -> u64
     answer.0 as u64
 }
 
-// The answer at the window at (column, row), whose sums run along and whose list is in the numbers.
+// The answer at the window at (column, row), whose sums run along and whose list is in the numbers. One of no pixels has no reading.
 pub fn answer_at(
     file: &[u8],
     plan: Plan,
@@ -51,9 +51,14 @@ pub fn answer_at(
     requires { ⌜ (Planned (now file) plan) × (plan .kind ≡ 2) ⌝ }
     requires { ⌜ (column < plan .width) × (row < plan .height) × (shifts ≤ 4294967295) ⌝ }
     requires { ⌜ (SumsAt (frameOf (now file)) column row (running .sums)) × (Listed (now file) plan column row (running .free) (now numbers)) ⌝ }
-    ensures { λ r. ⌜ (stateOf Chain r ≡ arrive Chain (frameOf (now (file .entry))) column row (cut .0) shifts) × (r .running ≡ running) ⌝ }
+    ensures { λ r. ⌜ (stateOf Chain r ≡ arrive Chain (frameOf (now (file .entry))) column row (cut .0) shifts) × (r .running .sums ≡ running .sums)
+        × (r .running .free ≡ running .free) ⌝ }
 {
     let sums = running.sums;
+    if sums.count == 0 {
+        let free = running.free;
+        return visit::unread(column, row, cut, shifts, sums, free);
+    }
     let coefficients = coefficients::of_window(file, plan, sums, column, row);
     let level = climb::climb(numbers, coefficients);
     let monotone = coefficients::monotone(plan, coefficients);

@@ -11,6 +11,7 @@ use mir.Facts.{toZ-ofZ}
 use Rattle.spec.specs.Frame.{frameOf}
 use Rattle.spec.specs.Weight.{weightless}
 use Rattle.spec.specs.Median.{balance}
+use Rattle.spec.proofs.Limits.{Pixel}
 use Rattle.spec.proofs.Plans.{kind-of, pixel-of}
 use Rattle.window.proofs.PixelLaws.{place-small}
 use Rattle.joint_search.specs.Window.{RowOwn}
@@ -19,14 +20,17 @@ use Rattle.balance.proofs.BalanceLaws.{row-formula, by-balance, by-some
 use Rattle.balance.proofs.table_balance.Statement.{statement}
 use Rattle.balance.proofs.table_balance.Tie as tie
 
+pixel : (at : tie.Start) → Pixel (frameOf (at .args .file .now)) (at .args .s) (at .args .t)
+pixel at = let a = at .pre .0 in pixel-of (a .0) (a .2) (a .3)
+
 mul-guide-at : tie.Need-mul-guide-at
-mul-guide-at c = let at = c .before .before in omega (arith, place-small (at .pre .0 .0) (centre-place (at .pre .0 .0) (at .pre .0 .2) (at .pre .0 .3)))
+mul-guide-at c = let a = c .before .before .pre .0 in omega (arith, place-small (a .0) (centre-place (a .0) (a .2) (a .3)))
 
 add-guide-at : tie.Need-add-guide-at
-add-guide-at c = let at = c .before .before in omega (arith, place-small (at .pre .0 .0) (centre-place (at .pre .0 .0) (at .pre .0 .2) (at .pre .0 .3)))
+add-guide-at c = let a = c .before .before .pre .0 in omega (arith, place-small (a .0) (centre-place (a .0) (a .2) (a .3)))
 
 guide-at-requires : tie.Need-guide-at-requires
-guide-at-requires c κs = let at = c .before .before in (at .pre .0 .0, centre-place (at .pre .0 .0) (at .pre .0 .2) (at .pre .0 .3))
+guide-at-requires c κs = let a = c .before .before .pre .0 in (a .0, centre-place (a .0) (a .2) (a .3))
 
 table-row-requires : tie.Need-table-row-requires
 table-row-requires c κs =
@@ -55,7 +59,7 @@ by-them : (e : tie.After-window-balance) → let at = start (table e) in weightl
     → e .window-balance .result ≡ balance (frameOf (at .args .file .now)) (at .args .s) (at .args .t) (at .args .top .0)
 by-them e full =
     let at = start (table e) in
-    e .window-balance .ensures ∙ by-own (pixel-of (at .pre .0 .0) (at .pre .0 .2) (at .pre .0 .3)) (row-formula (own (table e))) full (at .args .top .0)
+    e .window-balance .ensures ∙ by-own (pixel at) (row-formula (own (table e))) full (at .args .top .0)
 
 window-balance-requires : tie.Need-window-balance-requires
 window-balance-requires c κs =
@@ -68,7 +72,7 @@ returns c =
     let e = c .before in
     let at = start (table e) in
     toZ-ofZ (record { sfits = e .window-balance .ok }) ∙ by-them e
-    (by-some (pixel-of (at .pre .0 .0) (at .pre .0 .2) (at .pre .0 .3)) (row-formula (own (table e))) (kind-of (at .pre .0 .0) (at .pre .0 .1)) (at .args .top .0)
+    (by-some (pixel at) (row-formula (own (table e))) (kind-of (at .pre .0 .0) (at .pre .0 .1)) (at .args .top .0)
     (λ z. let zero = ap (ofZ w64) (e .window-balance .ensures ∙ z) in omega (arith, zero, c .if1 .taken)))
 
 ones-if-hollow-requires : tie.Need-ones-if-hollow-requires
@@ -89,7 +93,7 @@ returns-2 c =
     let h = c .before .before .before in
     let at = start (table (h .before .before .before)) in
     toZ-ofZ (record { sfits = c .window-balance2 .ok }) ∙ c .window-balance2 .ensures
-    ∙ by-balance (pixel-of (at .pre .0 .0) (at .pre .0 .2) (at .pre .0 .3)) (row-formula (h .ones-if-hollow .ensures .1)) (at .args .top .0)
+    ∙ by-balance (pixel at) (row-formula (h .ones-if-hollow .ensures .1)) (at .args .top .0)
 
 returns-3 : tie.Need-returns-3
 returns-3 c =

@@ -37,7 +37,7 @@ returns c =
     let n = c .before .before .before .before in
     let a = n .before .before in
     let e = c .answer-at .ensures in
-    chain-visited _ _ _ _ _ _ _ _ _ _ (begins c) (e .1) (a .start .ensures) (n .start2 .ensures)
+    chain-visited _ _ _ _ _ _ _ _ _ _ _ (begins c) (e .1, e .2) (a .start .ensures) (n .start2 .ensures)
 
 pub enter-spec : {M : Type 1} → statement M
 enter-spec = tie.close (tie.spec start-requires start-requires-2 answer-at-requires same-length returns)

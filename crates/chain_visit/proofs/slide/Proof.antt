@@ -148,7 +148,7 @@ returns : tie.Need-returns
 returns c =
     let n = c .before .before .before .before in
     let e = c .answer-at .ensures in
-    chain-visited _ _ _ _ _ _ _ _ _ _ (e .0) (e .1) (summed (carried n)) (stored n)
+    chain-visited _ _ _ _ _ _ _ _ _ _ _ (e .0) (e .1, e .2) (summed (carried n)) (stored n)
 
 pub slide-spec : {M : Type 1} → statement M
 slide-spec =

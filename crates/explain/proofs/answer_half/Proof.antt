@@ -44,7 +44,8 @@ reach-half-requires : tie.Need-reach-half-requires
 reach-half-requires c κs =
     let w = c .before .before in
     let at = start w in
-    subst (HalfInReach _) (sym (total-is w)) (in-reach (pixel at) (at .pre .1) (w .add-window .ensures .0) (at .pre .0 .1) (length-replicate {A = ℤ} 1024 (pos 0)))
+    subst (HalfInReach _) (sym (total-is w))
+    (in-reach (pixel at) (at .pre .1) (w .add-window .ensures .0) (at .pre .0 .1) (length-replicate {A = ℤ} 1024 (pos 0)))
 
 returns : tie.Need-returns
 returns c =

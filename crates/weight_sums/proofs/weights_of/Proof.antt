@@ -19,29 +19,27 @@ guided-formula-requires c κs =
 
 returns : tie.Need-returns
 returns c =
-    let at = c .before .before .before .before .before in
+    let a = c .before .before .before .before .before .pre .0 in
     let e = c .guided-formula .ensures in
     record {
       weighs = e .0;
-      hollow = sym (guided-weighs (pixel-of (at .pre .0 .0) (at .pre .0 .1) (at .pre .0 .2)) (kind-of (at .pre .0 .0) (c .before .before .if1 .taken)));
+      hollow = sym (guided-weighs (pixel-of (a .0) (a .1) (a .2)) (kind-of (a .0) (c .before .before .if1 .taken)));
       long = e .1;
     }
 
 mul-guide-at : tie.Need-mul-guide-at
-mul-guide-at c = let at =
-    c .before .before .before .before in omega (arith, place-small (at .pre .0 .0) (centre-place (at .pre .0 .0) (at .pre .0 .1) (at .pre .0 .2)))
+mul-guide-at c = let a = c .before .before .before .before .pre .0 in omega (arith, place-small (a .0) (centre-place (a .0) (a .1) (a .2)))
 
 add-guide-at : tie.Need-add-guide-at
-add-guide-at c = let at =
-    c .before .before .before .before in omega (arith, place-small (at .pre .0 .0) (centre-place (at .pre .0 .0) (at .pre .0 .1) (at .pre .0 .2)))
+add-guide-at c = let a = c .before .before .before .before .pre .0 in omega (arith, place-small (a .0) (centre-place (a .0) (a .1) (a .2)))
 
 guide-at-requires : tie.Need-guide-at-requires
-guide-at-requires c κs = let at = c .before .before .before .before in (at .pre .0 .0, centre-place (at .pre .0 .0) (at .pre .0 .1) (at .pre .0 .2))
+guide-at-requires c κs = let a = c .before .before .before .before .pre .0 in (a .0, centre-place (a .0) (a .1) (a .2))
 
 table-row-requires : tie.Need-table-row-requires
 table-row-requires c κs =
-    let at = c .before .before .before .before .before .before in
-    (at .pre .0 .0, centre-low (at .pre .0 .0) (at .pre .0 .1) (at .pre .0 .2) (c .before .guide-at .ensures), at .pre .0 .3)
+    let a = c .before .before .before .before .before .before .pre .0 in
+    (a .0, centre-low (a .0) (a .1) (a .2) (c .before .guide-at .ensures), a .3)
 
 -- the own weights are in the row
 own : (r : tie.After-table-row) → let at = r .before .before .before .before .before .before .before in
@@ -49,15 +47,16 @@ own : (r : tie.After-table-row) → let at = r .before .before .before .before .
 own r =
     let g = r .before .before in
     let i = g .before .before in
-    let at = i .before .before .before in
-    row-weighs-own (at .pre .0 .0) (at .pre .0 .1) (at .pre .0 .2) (g .guide-at .ensures) (kind-table (at .pre .0 .0) (i .if1 .left)) (r .table-row .ensures)
+    let a = i .before .before .before .pre .0 in
+    row-weighs-own (a .0) (a .1) (a .2) (g .guide-at .ensures) (kind-table (a .0) (i .if1 .left)) (r .table-row .ensures)
 
 ones-if-hollow-requires : tie.Need-ones-if-hollow-requires
 ones-if-hollow-requires c κs =
     let r = c .before in
     let i = r .before .before .before .before in
     let at = i .before .before .before in
-    ((at .pre .0 .0, kind-table (at .pre .0 .0) (i .if1 .left), omega (arith, at .pre .0 .1), at .pre .0 .2), (own r, r .table-row .ensures .long, at .pre .1 .1))
+    let a = at .pre .0 in
+    ((a .0, kind-table (a .0) (i .if1 .left), omega (arith, a .1), a .2), (own r, r .table-row .ensures .long, at .pre .1 .1))
 
 returns-2 : tie.Need-returns-2
 returns-2 c =
