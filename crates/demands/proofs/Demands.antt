@@ -2,7 +2,7 @@
 -- Assumes nothing.
 use Prim.Native.Nat.{ℕ, zero, suc, _+_, _*_, _/_, _%_, _≤_, _<_}
 use mathlib.Core.Path.{_≡_, refl, sym, ap, ap₂, _∙_, subst}
-use mathlib.Core.Bool.{true}
+use mathlib.Core.Bool.{Bool, true, false}
 use mathlib.Core.Logic.{_⊎_, inl, inr}
 use mathlib.Core.List.{List, _++_}
 use native.Mathlib.Omega.{arith}
@@ -15,15 +15,15 @@ use lib.Signed.{_≤ℤ_, _<ℤ_}
 use Rattle.ints.specs.Linear.{ints}
 use Rattle.spec.specs.declared.Move.the-variants.{To}
 use Rattle.spec.specs.declared.Cause.{Cause}
-use Rattle.spec.specs.declared.Cause.the-variants.{Hollow}
+use Rattle.spec.specs.declared.Cause.the-variants.{Hollow, Empty}
 use Rattle.spec.specs.declared.Grounds.{Grounds}
 use Rattle.spec.specs.declared.Verdict.{Verdict}
 use Rattle.spec.specs.declared.Verdict.the-variants.{Accepted, Refused}
 use Rattle.spec.specs.Refusal.{Outcome, accepted, refused, numbered}
 use Rattle.spec.specs.Frame.{Frame, pixels, frameOf}
-use Rattle.spec.specs.Window.{pixelCount}
+use Rattle.spec.specs.Window.{InWindow, pixelCount, empty}
 use Rattle.spec.specs.Median.{totalWeight, cumulative, balance, median, answer}
-use Rattle.spec.specs.Walk.{State, move, step, walkEnd, walkAnswers}
+use Rattle.spec.specs.Walk.{answerNumber, State, move, step, walkEnd, walkAnswers}
 use Rattle.spec.specs.Filter.{filtered, filterEnd}
 use Rattle.spec.specs.Weight.{weightless}
 use Rattle.spec.specs.Explain.{cumulativeBelow, Applies, causeOf, Grounded}
@@ -32,8 +32,21 @@ use Rattle.spec.specs.Writer.{written, writtenSize, writerOutcome, stored}
 use Rattle.spec.proofs.Checks.{not-refused}
 use Rattle.spec.proofs.Limits.{FrameLimits, Pixel, limits-of, in-plane}
 use Rattle.spec.proofs.Calls.{walk-accepted, filter-accepted, explain-accepted}
-use Rattle.spec.proofs.Own.{weight-own, total-one, cumulative-one, total-weightless, total-weighs}
-use Rattle.spec.proofs.Totals.{median-low, median-at, median-before, balance-le, balance-lt, answer-median}
+use Rattle.spec.proofs.Ranges.{natSums}
+use Rattle.spec.proofs.Sums.{over-inWindow, over-none, over-term}
+use Rattle.spec.proofs.Own.{
+  weight-own,
+  total-one,
+  cumulative-one,
+  total-weightless,
+  total-weighs,
+  empty-count,
+  count-empty,
+  count-read,
+  total-empty,
+  cumulative-empty,
+}
+use Rattle.spec.proofs.Totals.{median-low, median-at, median-before, balance-le, balance-lt, answer-median, answer-empty}
 use Rattle.spec.proofs.Minimum.{minimum}
 use Rattle.spec.proofs.Climb.{cumulativeBelow-zero, cumulativeBelow-suc}
 use Rattle.spec.proofs.Causes.{never-both, applies, applies-once, below-half, reached-half}
@@ -71,6 +84,7 @@ use Rattle.demands.specs.Demands.{
   Demand1,
   pixelsUpTo,
   LowestLevel,
+  IsAnswer,
   EveryPixel,
   Demand2,
   Minimises,
@@ -177,21 +191,30 @@ demand-1 =
           record { walk = walk-table; filter = filter-table; balance = balance-table; explain = explain-table; writer = writer-table };
     }
 
--- ---- demand 2
-lowest-answer : {p : Frame} {s t : ℕ} → Pixel p s t → LowestLevel p s t (answer p s t)
-lowest-answer {p} {s} {t} k =
-    rw (answer-median p s t)
+-- ---- demand 2: by whether the window has a pixel
+pixel-read : (p : Frame) (s t x y : ℕ) → InWindow p s t x y → empty p s t ≡ false
+unfolding pixelCount
+pixel-read p s t x y h = count-read p s t (over-term p s t (λ u v. 1) x y h)
+
+no-pixel : (p : Frame) (s t : ℕ) → ((x y : ℕ) → InWindow p s t x y → ⊥) → empty p s t ≡ true
+unfolding pixelCount
+no-pixel p s t none =
+    count-empty p s t (over-inWindow _+_ 0 natSums p s t (λ x y. 1) (λ x y. 0) (λ x y h. absurd (none x y h)) ∙ over-none _+_ 0 natSums p s t)
+
+lowest-answer : {p : Frame} {s t : ℕ} → Pixel p s t → empty p s t ≡ false → LowestLevel p s t (answer p s t)
+lowest-answer {p} {s} {t} k read =
+    rw (answer-median p s t read)
     (record {
       is-level = median-low k;
       reaches = reaches;
       lowest = lowest;
       own = λ n g. weight-own p s t g (total-weighs p s t n);
-      hollow-reaches = λ z. let e = total-weightless p s t z in
+      hollow-reaches = λ z. let e = total-weightless p s t read z in
           let h : pos (pixelCount p s t) ≤ℤ (pos 2 *ℤ pos (pixelsUpTo p s t (median p s t))) =
           subst (λ (u : ℤ). pos (pixelCount p s t) ≤ℤ (pos 2 *ℤ u)) (cumulative-one p s t (median p s t) e)
           (subst (λ (u : ℤ). u ≤ℤ (pos 2 *ℤ cumulative p s t (median p s t))) (total-one p s t e) reaches) in
           omega (arith, ints, h);
-      hollow-lowest = λ z i l. let e = total-weightless p s t z in
+      hollow-lowest = λ z i l. let e = total-weightless p s t read z in
           let h : (pos 2 *ℤ pos (pixelsUpTo p s t i)) <ℤ pos (pixelCount p s t) =
           subst (λ (u : ℤ). (pos 2 *ℤ u) <ℤ pos (pixelCount p s t)) (cumulative-one p s t i e)
           (subst (λ (u : ℤ). (pos 2 *ℤ cumulative p s t i) <ℤ u) (total-one p s t e) (lowest i l)) in
@@ -203,6 +226,12 @@ lowest-answer {p} {s} {t} k =
 
     lowest : (i : ℕ) → i < median p s t → (pos 2 *ℤ cumulative p s t i) <ℤ totalWeight p s t
     lowest i l = balance-lt p s t i (median-before p s t i l)
+
+is-answer : {p : Frame} {s t : ℕ} → Pixel p s t → IsAnswer p s t (answer p s t)
+is-answer {p} {s} {t} k = record {
+  read = λ x y h. lowest-answer k (pixel-read p s t x y h);
+  none = λ h. answer-empty p s t (no-pixel p s t h);
+}
 
 module _ (b : List ℕ) (way : ℕ) (a z : Lent) (before after : List ℕ) (r : Walked) (h : Filters b way a z before after r)
     (ok : r .verdict ≡ Accepted) where
@@ -226,8 +255,8 @@ module _ (b : List ℕ) (way : ℕ) (a z : Lent) (before after : List ℕ) (r : 
 
 every-pixel : EveryPixel
 every-pixel b way a z before after r h ok s t hs ht =
-    subst (LowestLevel (frameOf b) s t) (sym (plane-at b way a z before after r h ok s t hs ht))
-    (lowest-answer (record { good = filter-limits b way a z before after r h ok; in-column = hs; in-row = ht }))
+    subst (IsAnswer (frameOf b) s t) (sym (plane-at b way a z before after r h ok s t hs ht))
+    (is-answer (record { good = filter-limits b way a z before after r h ok; in-column = hs; in-row = ht }))
 
 pub demand-2 : Demand2
 demand-2 = record { filter = every-pixel; writer = λ k v g a old n new w. wrote-returned k v g a old n new w }
@@ -263,13 +292,13 @@ module _ (b : List ℕ) (s t : ℕ) (moves : List ℕ) (way : ℕ) (a z : Lent) 
 least-answer : {p : Frame} {s t : ℕ} → Pixel p s t → Minimises p s t (answer p s t)
 least-answer k = record { least = λ light some i. minimum k light some i .0; lower = λ light some i. minimum k light some i .1 }
 
-both-answer : {p : Frame} {s t : ℕ} → Pixel p s t → LowestLevel p s t (answer p s t) × Minimises p s t (answer p s t)
-both-answer k = (lowest-answer k, least-answer k)
+both-answer : {p : Frame} {s t : ℕ} → Pixel p s t → IsAnswer p s t (answer p s t) × Minimises p s t (answer p s t)
+both-answer k = (is-answer k, least-answer k)
 
 answered : {p : Frame} {x : State} {n : ℕ} → StateBounded p x n → (byte : ℕ) → ByteAnswered p x byte (step p x byte .answer)
 answered {p} {x} {n} k byte =
     record {
-      moved = λ s t e. subst (λ (m : ℕ). LowestLevel p s t m × Minimises p s t m) (sym (step-level p x byte s t e)) (both-answer (pixel-to s t e));
+      moved = λ s t e. subst (λ (m : ℕ). IsAnswer p s t m × Minimises p s t m) (sym (step-level p x byte s t e)) (both-answer (pixel-to s t e));
       off = marks k byte .off;
       unknown = marks k byte .other;
       made = marks k byte .level;
@@ -295,7 +324,7 @@ all-ways-agree b s t moves way way′ a z a′ z′ before after before′ after
     let count′ = shifts-are b s t moves way′ a′ z′ before′ after′ r′ h′ ok′ in
     record {
       answers = answers-are b s t moves way a z before after r h ok ∙ sym (answers-are b s t moves way′ a′ z′ before′ after′ r′ h′ ok′);
-      first = subst (λ (m : ℕ). LowestLevel p s t m × Minimises p s t m) (sym (one 0 (omega arith) ∙ walk-first p s t moves)) (both-answer w);
+      first = subst (λ (m : ℕ). IsAnswer p s t m × Minimises p s t m) (sym (one 0 (omega arith) ∙ walk-first p s t moves)) (both-answer w);
       next = λ j l. subst (ByteAnswered p (walkEnd y p s t (take j moves)) (getD moves j 0))
           (sym (ap (λ (q : ℕ). getD after q 0) (add-one j) ∙ one (suc j) l ∙ walk-next y p s t moves j l))
           (answered (walk-bounded w y (take j moves)) (getD moves j 0));
@@ -324,21 +353,32 @@ demand-3 = record { agree = all-ways-agree; rule = one-rule; minimum = filter-mi
 justified : {p : Frame} {s t : ℕ} → Pixel p s t → (g : Grounds) → Grounded p s t g → Justified p s t g
 justified {p} {s} {t} k g h =
     record {
-      lowest = subst (LowestLevel p s t) (sym (h .level)) (lowest-answer k);
-      below-half = subst (λ (u : ℤ). (pos 2 *ℤ u) <ℤ g .total) (sym (h .below))
-          (subst (λ (u : ℤ). (pos 2 *ℤ cumulativeBelow p s t (answer p s t)) <ℤ u) (sym (h .total)) (below-half k));
-      reaches-half = subst (λ (u : ℤ). g .total ≤ℤ (pos 2 *ℤ u)) (sym (h .reached))
-          (subst (λ (u : ℤ). u ≤ℤ (pos 2 *ℤ cumulative p s t (answer p s t))) (sym (h .total)) (reached-half k));
-      none-below = λ z. h .below ∙ ap (cumulativeBelow p s t) (sym (h .level) ∙ z) ∙ cumulativeBelow-zero p s t;
+      answered = subst (IsAnswer p s t) (sym (h .answered)) (is-answer k);
+      below-half = λ x y q. subst (λ (u : ℤ). (pos 2 *ℤ u) <ℤ g .total) (sym (h .below))
+          (subst (λ (u : ℤ). (pos 2 *ℤ cumulativeBelow p s t (answer p s t)) <ℤ u) (sym (h .total)) (below-half k (pixel-read p s t x y q)));
+      reaches-half = λ x y q. subst (λ (u : ℤ). g .total ≤ℤ (pos 2 *ℤ u)) (sym (h .reached))
+          (subst (λ (u : ℤ). u ≤ℤ (pos 2 *ℤ cumulative p s t (answer p s t))) (sym (h .total)) (reached-half k (pixel-read p s t x y q)));
+      none-below = λ z. h .below ∙ ap (cumulativeBelow p s t) (sym (h .answered) ∙ z) ∙ cumulativeBelow-zero p s t;
+      empty-zeros = λ none. let e = no-pixel p s t none in (
+        h .pixels ∙ empty-count p s t e,
+        h .total ∙ total-empty p s t e,
+        h .below ∙ none-up-to (answer p s t) e,
+        h .reached ∙ cumulative-empty p s t (answer p s t) e,
+        h .cause ∙ applies-once k (causeOf p s t) Empty (applies k) e,
+      );
       applies = subst (Applies p s t) (sym (h .cause)) (applies k);
       only = λ c a. applies-once k c (causeOf p s t) a (applies k) ∙ sym (h .cause);
       one-end = never-both k;
       hollow-total = λ e. h .total ∙ total-one p s t (hollow e) ∙ ap pos (sym (h .pixels));
-      hollow-below = λ e i l. h .below ∙ ap (cumulativeBelow p s t) (sym (h .level) ∙ l) ∙ cumulativeBelow-suc p s t i
+      hollow-below = λ e i l. h .below ∙ ap (cumulativeBelow p s t) (sym (h .answered) ∙ l) ∙ cumulativeBelow-suc p s t i
           ∙ cumulative-one p s t i (hollow e);
-      hollow-reached = λ e. h .reached ∙ ap (cumulative p s t) (sym (h .level)) ∙ cumulative-one p s t (g .level .0) (hollow e);
+      hollow-reached = λ e. h .reached ∙ ap (cumulative p s t) (sym (h .answered)) ∙ cumulative-one p s t (answerNumber (g .answer)) (hollow e);
     }
   where
+    none-up-to : (m : ℕ) → empty p s t ≡ true → cumulativeBelow p s t m ≡ pos 0
+    none-up-to zero e = cumulativeBelow-zero p s t
+    none-up-to (suc m) e = cumulativeBelow-suc p s t m ∙ cumulative-empty p s t m e
+
     hollow : g .cause ≡ Hollow → weightless p s t ≡ true
     hollow e = subst (Applies p s t) (sym (h .cause) ∙ e) (applies k)
 
@@ -349,8 +389,8 @@ module _ (b : List ℕ) (s t : ℕ) (r : Explained) (h : Explains b s t r) (ok :
   explained-pixel : Pixel (frameOf b) s t
   explained-pixel = explain-accepted b s t explain-passes .pixel
 
-  explained-level : r .grounds .level .0 ≡ answer (frameOf b) s t
-  explained-level = h .explained explain-passes .level
+  explained-answer : answerNumber (r .grounds .answer) ≡ answer (frameOf b) s t
+  explained-answer = h .explained explain-passes .answered
 
 every-explanation : EveryExplanation
 every-explanation b s t r h ok = justified (explained-pixel b s t r h ok) (r .grounds) (h .explained (explain-passes b s t r h ok))
@@ -359,14 +399,14 @@ explains-the-answer : ExplainsTheAnswer
 explains-the-answer b s t r h ok =
     let p = frameOf b in
     let k = explained-pixel b s t r h ok in
-    let level = sym (explained-level b s t r h ok) in
+    let said = sym (explained-answer b s t r h ok) in
     record {
-      filtered = λ way a z old new w f o. plane-at b way a z old new w f o s t (k .in-column) (k .in-row) ∙ level;
-      started = λ way moves a z old new w f o. answer-is b s t moves way a z old new w f o 0 (omega arith) ∙ walk-first p s t moves ∙ level;
+      filtered = λ way a z old new w f o. plane-at b way a z old new w f o s t (k .in-column) (k .in-row) ∙ said;
+      started = λ way moves a z old new w f o. answer-is b s t moves way a z old new w f o 0 (omega arith) ∙ walk-first p s t moves ∙ said;
       led = λ way u v moves a z old new w f o j l e. ap (λ (q : ℕ). getD new q 0) (add-one j)
           ∙ answer-is b u v moves way a z old new w f o (suc j) l ∙ walk-next (wayOf way) p u v moves j l
-          ∙ step-level p (walkEnd (wayOf way) p u v (take j moves)) (getD moves j 0) s t e ∙ level;
+          ∙ step-level p (walkEnd (wayOf way) p u v (take j moves)) (getD moves j 0) s t e ∙ said;
     }
 
 pub request-4 : Request4
-request-4 = record { grounds = every-explanation; level = explains-the-answer }
+request-4 = record { grounds = every-explanation; answer = explains-the-answer }

@@ -22,6 +22,7 @@ use Rattle.spec.specs.Checks.{
   badRadius,
   badDistance,
   scan,
+  judged,
   scanFile,
   valueScan,
   guideScan,
@@ -227,9 +228,9 @@ explain-table b s t =
     by-table (fileRows b own) (explainOutcome b s t) (file-numbered b own (refuses-accepted 8, (refuses-refuse 9 x, tt)))
     (file-first b (explainChecks k s t) own (last (refuse 9 x)))
 
-refuses-list : (l : List ℕ) (limit offset : ℕ) → RefusesAs 7 (scanList l limit offset)
+refuses-list : (l : List ℕ) (values : Bool) (limit offset : ℕ) → RefusesAs 7 (scanList l values limit offset)
 unfolding scanList
-refuses-list l limit offset = refuses-scan (λ j. getD l j 0) (length l) limit offset
+refuses-list l values limit offset = refuses-scan (λ j. judged values (getD l j 0)) (length l) limit offset
 
 flat-writer : (b c d e f x y w : Outcome) → ((b ▷ c ▷ d ▷ e) ▷ f ▷ x ▷ y ▷ w) ≡ (b ▷ c ▷ d ▷ e ▷ f ▷ (x ▷ y) ▷ w)
 flat-writer (refused n l) c d e f x y w = refl
@@ -244,10 +245,10 @@ pub writer-table : (k : Settings) (v g a : List ℕ) (room : ℕ) → ByTable (w
 unfolding writerOutcome settingsOutcome
 writer-table k v g a room =
     let six = badLength k (length v) (length g) (length a) in
-    let x = scanList v (k .levels) 0 in
-    let y = scanList g (k .guides) (2 * pixels k) in
+    let x = scanList v true (k .levels) 0 in
+    let y = scanList g false (k .guides) (2 * pixels k) in
     let r = ltb room (writtenSize k (length a)) in
-    let seven : RefusesAs 7 (x ▷ y) = refuses-either 7 x y (refuses-list v (k .levels) 0) (refuses-list g (k .guides) (2 * pixels k)) in
+    let seven : RefusesAs 7 (x ▷ y) = refuses-either 7 x y (refuses-list v true (k .levels) 0) (refuses-list g false (k .guides) (2 * pixels k)) in
     by-table (writerRows k v g a room) (writerOutcome k v g a room) (
       refuses-accepted 1,
       (

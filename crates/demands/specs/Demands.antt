@@ -1,4 +1,4 @@
--- The three demands, and document 02's request 4, as statements about the promises of the calls. A reader starts here; proofs/Demands.antt proves
+-- The three demands, and document 02's request 4, over windows without their dead pixels (request 6), as statements about the promises of the calls. A reader starts here; proofs/Demands.antt proves
 -- each.
 -- b are a file's bytes, before and after the stores around a call, old and new its answers or output, r its result.
 -- Assumes nothing.
@@ -16,16 +16,16 @@ use Rattle.spec.specs.declared.Room.{Room}
 use Rattle.spec.specs.declared.Way.{Way}
 use Rattle.spec.specs.declared.Move.the-variants.{To, Nowhere}
 use Rattle.spec.specs.declared.Cause.{Cause}
-use Rattle.spec.specs.declared.Cause.the-variants.{Hollow}
+use Rattle.spec.specs.declared.Cause.the-variants.{Hollow, Empty}
 use Rattle.spec.specs.declared.Grounds.{Grounds}
 use Rattle.spec.specs.declared.Verdict.the-variants.{Accepted}
 use Rattle.spec.specs.Base.{if_then_else_, sum}
 use Rattle.spec.specs.Refusal.{accepted, refused, numbered}
-use Rattle.spec.specs.Frame.{Frame, level, pixels, frameOf}
-use Rattle.spec.specs.Window.{Σ, pixelCount}
+use Rattle.spec.specs.Frame.{Frame, level, noReading, pixels, frameOf}
+use Rattle.spec.specs.Window.{InWindow, Σ, pixelCount}
 use Rattle.spec.specs.Weight.{ownWeight, ownTotal, weight}
-use Rattle.spec.specs.Median.{totalWeight, cumulative, balance, differences, NoneNegative, NotAllZero}
-use Rattle.spec.specs.Walk.{State, byBlocks, adds, move, start, walkEnd, walkAnswers, addedAt}
+use Rattle.spec.specs.Median.{totalWeight, cumulative, balance, LevelOrNone, differences, NoneNegative, NotAllZero}
+use Rattle.spec.specs.Walk.{answerNumber, State, byBlocks, adds, move, start, walkEnd, walkAnswers, addedAt}
 use Rattle.spec.specs.Filter.{filtered, filterEnd}
 use Rattle.spec.specs.Explain.{Applies, Grounded}
 use Rattle.spec.specs.Calls.{wayOf, walkOutcome, filterOutcome, balanceOutcome, explainOutcome}
@@ -116,6 +116,11 @@ pub record LowestLevel (p : Frame) (s t m : ℕ) : Type 0 where
   pub hollow-reaches : ownTotal p s t ≡ pos 0 → pixelCount p s t ≤ 2 * pixelsUpTo p s t m
   pub hollow-lowest : ownTotal p s t ≡ pos 0 → (i : ℕ) → i < m → 2 * pixelsUpTo p s t i < pixelCount p s t
 
+-- what the window at (s, t) answers: that level where it has a pixel, and a dead pixel is none of its pixels; else no reading (document 02)
+pub record IsAnswer (p : Frame) (s t m : ℕ) : Type 0 where
+  pub read : (x y : ℕ) → InWindow p s t x y → LowestLevel p s t m
+  pub none : ((x y : ℕ) → InWindow p s t x y → ⊥) → m ≡ noReading
+
 -- the number at a pixel's place of a plane
 abbrev pub atPixel : Frame → List ℕ → ℕ → ℕ → ℕ
 atPixel p plane s t = getD plane (t * p .set .width + s) 0
@@ -125,7 +130,7 @@ abbrev pub EveryPixel : Type 0
 EveryPixel =
     (b : List ℕ) (way : ℕ) (before after : Lent) (old new : List ℕ) (r : Walked) → Filters b way before after old new r
     → r .verdict ≡ Accepted
-    → (s t : ℕ) → s < frameOf b .set .width → t < frameOf b .set .height → LowestLevel (frameOf b) s t (atPixel (frameOf b) new s t)
+    → (s t : ℕ) → s < frameOf b .set .width → t < frameOf b .set .height → IsAnswer (frameOf b) s t (atPixel (frameOf b) new s t)
 
 -- the first n bytes of the output of a writer that answers n: accepted, and the settings, planes and table as given
 abbrev pub ReadsBack : Type 0
@@ -138,25 +143,26 @@ pub record Demand2 : Type 0 where
 
 -- ---- demand 3
 
--- where none of the window's own weights is negative and not all are 0: no level has a smaller weighted sum of absolute differences than m, and every
+-- where none of the window's own weights is negative and not all are 0, so that it has a pixel: no level has a smaller weighted sum of absolute differences than m, and every
 -- lower one has a larger
 pub record Minimises (p : Frame) (s t m : ℕ) : Type 0 where
   pub least : NoneNegative p s t → NotAllZero p s t → (i : ℕ) → differences p s t m ≤ℤ differences p s t i
   pub lower : NoneNegative p s t → NotAllZero p s t → (i : ℕ) → i < m → differences p s t m <ℤ differences p s t i
 
--- the answer to a byte, in the state before it: demand 2's level at the pixel that it leads to, which minimises there; or the mark of a byte that
--- moves nothing. 65,534 exactly for a move that would leave the picture, 65,533 exactly for another byte, a level exactly for a move that is made
+-- the answer to a byte, in the state before it: demand 2's at the pixel that it leads to, which minimises there; or the mark of a byte that moves
+-- nothing. 65,534 exactly for a move that would leave the picture, 65,533 exactly for another byte, a level or no reading exactly for a move that is
+-- made
 pub record ByteAnswered (p : Frame) (x : State) (byte m : ℕ) : Type 0 where
-  pub moved : (s t : ℕ) → move (p .set) (x .column) (x .row) byte ≡ To s t → LowestLevel p s t m × Minimises p s t m
+  pub moved : (s t : ℕ) → move (p .set) (x .column) (x .row) byte ≡ To s t → IsAnswer p s t m × Minimises p s t m
   pub off : (m ≡ 65534) ↔ (move (p .set) (x .column) (x .row) byte ≡ Nowhere 65534)
   pub unknown : (m ≡ 65533) ↔ (3 < byte)
-  pub made : (m < 1024) ↔ ((s : ℕ) × (t : ℕ) × (move (p .set) (x .column) (x .row) byte ≡ To s t))
+  pub made : LevelOrNone m ↔ ((s : ℕ) × (t : ℕ) × (move (p .set) (x .column) (x .row) byte ≡ To s t))
 
 -- what two walks on the same file, start and list have, whatever their ways and stores: one answer for the start and one for each byte, the same
 -- in both; and shift counts, each the sum of what the start window and each byte add by the rule of its way
 pub record Agreed (way way′ : Way) (p : Frame) (s t : ℕ) (moves new new′ : List ℕ) (r r′ : Walked) : Type 0 where
   pub answers : take (length moves + 1) new ≡ take (length moves + 1) new′
-  pub first : LowestLevel p s t (getD new 0 0) × Minimises p s t (getD new 0 0)
+  pub first : IsAnswer p s t (getD new 0 0) × Minimises p s t (getD new 0 0)
   pub next : (j : ℕ) → j < length moves → ByteAnswered p (walkEnd way p s t (take j moves)) (getD moves j 0) (getD new (j + 1) 0)
   -- ways 1 to 3 count by one rule, and two walks by way 4 by another
   pub shifts : byBlocks way ≡ byBlocks way′ → r .shifts ≡ r′ .shifts
@@ -187,27 +193,30 @@ pub record Demand3 : Type 0 where
   pub rule : OneRule
   pub minimum : FilterMinimises
 
--- ---- document 02's request 4: why this level
+-- ---- document 02's request 4: why this level, or no reading
 
--- the grounds g of the level at (s, t): it is demand 2's, the sums lie on either side of half, and the cause is the one that applies
+-- the grounds g of the answer at (s, t): it is demand 2's; where there is a reading the sums lie on either side of half, else all are 0; and the
+-- cause is the one that applies
 pub record Justified (p : Frame) (s t : ℕ) (g : Grounds) : Type 0 where
-  pub lowest : LowestLevel p s t (g .level .0)
-  pub below-half : (pos 2 *ℤ g .below) <ℤ g .total
-  pub reaches-half : g .total ≤ℤ (pos 2 *ℤ g .reached)
-  pub none-below : g .level .0 ≡ 0 → g .below ≡ pos 0
+  pub answered : IsAnswer p s t (answerNumber (g .answer))
+  pub below-half : (x y : ℕ) → InWindow p s t x y → (pos 2 *ℤ g .below) <ℤ g .total
+  pub reaches-half : (x y : ℕ) → InWindow p s t x y → g .total ≤ℤ (pos 2 *ℤ g .reached)
+  pub none-below : answerNumber (g .answer) ≡ 0 → g .below ≡ pos 0
+  pub empty-zeros : ((x y : ℕ) → InWindow p s t x y → ⊥)
+      → (g .pixels ≡ 0) × (g .total ≡ pos 0) × (g .below ≡ pos 0) × (g .reached ≡ pos 0) × (g .cause ≡ Empty)
   pub applies : Applies p s t (g .cause)
   pub only : (c : Cause) → Applies p s t c → c ≡ g .cause
   -- the formula is not negative at both ends of the guides
   pub one-end : ownWeight p s t 0 <ℤ pos 0 → ownWeight p s t (p .set .guides - 1) <ℤ pos 0 → ⊥
   -- the sums of a hollow window are of weight 1 for each pixel
   pub hollow-total : g .cause ≡ Hollow → g .total ≡ pos (g .pixels)
-  pub hollow-below : g .cause ≡ Hollow → (i : ℕ) → g .level .0 ≡ suc i → g .below ≡ pos (pixelsUpTo p s t i)
-  pub hollow-reached : g .cause ≡ Hollow → g .reached ≡ pos (pixelsUpTo p s t (g .level .0))
+  pub hollow-below : g .cause ≡ Hollow → (i : ℕ) → answerNumber (g .answer) ≡ suc i → g .below ≡ pos (pixelsUpTo p s t i)
+  pub hollow-reached : g .cause ≡ Hollow → g .reached ≡ pos (pixelsUpTo p s t (answerNumber (g .answer)))
 
 abbrev pub EveryExplanation : Type 0
 EveryExplanation = (b : List ℕ) (s t : ℕ) (r : Explained) → Explains b s t r → r .verdict ≡ Accepted → Justified (frameOf b) s t (r .grounds)
 
--- its level m is what the filter gives at that pixel, a walk that starts there, and a walk that a byte leads there
+-- its answer m is what the filter gives at that pixel, a walk that starts there, and a walk that a byte leads there
 pub record AnsweredSo (b : List ℕ) (s t m : ℕ) : Type 0 where
   pub filtered : (way : ℕ) (before after : Lent) (old new : List ℕ) (r : Walked) → Filters b way before after old new r → r .verdict ≡ Accepted
       → atPixel (frameOf b) new s t ≡ m
@@ -220,8 +229,8 @@ pub record AnsweredSo (b : List ℕ) (s t m : ℕ) : Type 0 where
       → getD new (j + 1) 0 ≡ m
 
 abbrev pub ExplainsTheAnswer : Type 0
-ExplainsTheAnswer = (b : List ℕ) (s t : ℕ) (r : Explained) → Explains b s t r → r .verdict ≡ Accepted → AnsweredSo b s t (r .grounds .level .0)
+ExplainsTheAnswer = (b : List ℕ) (s t : ℕ) (r : Explained) → Explains b s t r → r .verdict ≡ Accepted → AnsweredSo b s t (answerNumber (r .grounds .answer))
 
 pub record Request4 : Type 0 where
   pub grounds : EveryExplanation
-  pub level : ExplainsTheAnswer
+  pub answer : ExplainsTheAnswer

@@ -3,7 +3,7 @@
 use Prim.Native.Nat.{ℕ, suc, _+_, _*_, _≤_, _<_}
 use mathlib.Core.Path.{_≡_}
 use mathlib.Core.Logic.{_↔_}
-use mathlib.Core.Bool.{_||_, not}
+use mathlib.Core.Bool.{true, false, _||_, not}
 use mathlib.Core.List.{List, [], _∷_}
 use lib.Dec.{ltb}
 use lib.ListN.{length, getD}
@@ -43,7 +43,7 @@ abbrev pub writerRows : Settings → List ℕ → List ℕ → List ℕ → ℕ 
 writerRows settings v g a room =
     accepted ∷ refuse 2 (badSize settings) ∷ refuse 3 (badCounts settings) ∷ refuse 4 (badKind settings) ∷ refuse 5 (badRadius settings)
     ∷ refuse 6 (badLength settings (length v) (length g) (length a))
-    ∷ (scanList v (settings .levels) 0 ▷ scanList g (settings .guides) (2 * pixels settings))
+    ∷ (scanList v true (settings .levels) 0 ▷ scanList g false (settings .guides) (2 * pixels settings))
     ∷ accepted ∷ accepted ∷ accepted ∷ refuse 11 (ltb room (writtenSize settings (length a))) ∷ []
 
 -- a number is given, with its values, exactly if its row fires and no row before it does; there is no number 0; and the outcome is accepted exactly

@@ -18,7 +18,6 @@ use Rattle.spec.specs.Base.{if_then_else_}
 use Rattle.spec.specs.declared.Settings.{Settings}
 use Rattle.spec.specs.declared.Answer.{Answer}
 use Rattle.spec.specs.declared.Cause.{Cause}
-use Rattle.spec.specs.declared.Grounds.{Grounds}
 use Rattle.spec.specs.Frame.{Frame, level, guide}
 use Rattle.spec.specs.Window.{empty}
 use Rattle.spec.specs.Weight.{weight}

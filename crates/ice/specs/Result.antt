@@ -3,6 +3,7 @@
 use mathlib.Core.Path.{_≡_}
 use lib.IntN.{pos}
 use Rattle.spec.specs.declared.Verdict.{Verdict}
+use Rattle.spec.specs.declared.Answer.{Answer}
 use Rattle.spec.specs.declared.Grounds.{Grounds}
 use Rattle.spec.specs.declared.Cause.the-variants.{Ordinary}
 use Rattle.spec.specs.Calls.{zeros}
@@ -16,9 +17,9 @@ pub record Zeroed (v : Verdict) (r : Walked) : Type 0 where
   pub cut : r .cut .0 ≡ 0
   pub balance-box : r .«balance_box» ≡ zeros
 
--- the grounds of nothing: a cause has to be there, and the verdict says that it means nothing
+-- the grounds of nothing: an answer and a cause have to be there, and the verdict says that they mean nothing
 abbrev pub noGrounds : Grounds
-noGrounds = record { pixels = 0; total = pos 0; level = record { 0 = 0 }; below = pos 0; reached = pos 0; cause = Ordinary }
+noGrounds = record { pixels = 0; total = pos 0; answer = Answer.Level (record { 0 = 0 }); below = pos 0; reached = pos 0; cause = Ordinary }
 
 -- the result of a refused explanation
 pub record Unexplained (v : Verdict) (r : Explained) : Type 0 where

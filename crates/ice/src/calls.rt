@@ -8,6 +8,7 @@ use frame::plan::open_plan;
 use ice_filter::sweep;
 use ice_step::Walked;
 use ice_walk::travel;
+use spec::Answer;
 use spec::Cause;
 use spec::Grounds;
 use spec::Level;
@@ -150,7 +151,7 @@ fn unexplained(verdict: Verdict) -> Explained
     let none = Grounds {
         pixels: 0,
         total: 0,
-        level: Level(0),
+        answer: Answer::Level(Level(0)),
         below: 0,
         reached: 0,
         cause: Cause::Ordinary,
@@ -161,7 +162,7 @@ fn unexplained(verdict: Verdict) -> Explained
     }
 }
 
-// Why the window at a pixel has its level.
+// Why the window at a pixel has its level, or no reading.
 pub fn explain(file: &[u8], column: usize, row: usize) -> Explained
     ensures { λ r. ⌜ Explains (now (file .entry)) column row r ⌝ }
 {

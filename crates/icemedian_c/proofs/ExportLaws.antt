@@ -143,7 +143,7 @@ explain-called {w = w} h q g =
       reported = reported (w .verdict) (h .verdict) q;
       pixels-is = lends _ (h .verdict) (g .pixels) (λ e. h .explained e .pixels);
       total-is = lends _ (h .verdict) (g .total) (λ e. h .explained e .total);
-      level-is = lends _ (h .verdict) (g .level) (λ e. h .explained e .level);
+      level-is = lends _ (h .verdict) (g .level) (λ e. h .explained e .answered);
       below-is = lends _ (h .verdict) (g .below) (λ e. h .explained e .below);
       reached-is = lends _ (h .verdict) (g .reached) (λ e. h .explained e .reached);
       cause-is = lends _ (h .verdict) (g .cause) (λ e. ap causeNumber (h .explained e .cause));

@@ -3,6 +3,7 @@
 use Prim.Native.Nat.{ℕ, _+_, _*_, _≤_, _<_}
 use mathlib.Core.Path.{_≡_, refl, sym, ap, _∙_}
 use mathlib.Core.Bool.{Bool, true, false, true≢false}
+use mathlib.Core.Logic.{⊎-elim}
 use mathlib.Core.List.{List, [], _∷_, _++_, append-assoc}
 use native.Mathlib.Nat.{mul-comm}
 use native.Mathlib.Omega.{arith}
@@ -108,9 +109,10 @@ text-short {b} {z} a =
     let f = facts (a .planned) in
     let n = shiftCount Joint b in
     let m = shiftCount Coarse b in
-    let low : (s t : ℕ) → s < k .width → t < k .height → answer p s t < 100 =
-    λ s t hs ht. let h = answer-low (record { good = f .limits; in-column = hs; in-row = ht }) in omega (arith, h, f .levels, a .levels) in
-    let r : length (rows p (k .height)) ≤ 3 * (k .height * k .width) = rows-short p (k .height) (f .limits .sound .width-low) low in
+    let low : (s t : ℕ) → s < k .width → t < k .height → answer p s t < 100000 =
+    λ s t hs ht. ⊎-elim (λ h. omega (arith, h, f .limits .sound .levels-high)) (λ h. omega (arith, h))
+    (answer-low (record { good = f .limits; in-column = hs; in-row = ht })) in
+    let r : length (rows p (k .height)) ≤ 6 * (k .height * k .width) = rows-short p (k .height) (f .limits .sound .width-low) low in
     let c : k .height * k .width ≡ pixels k = mul-comm (k .height) (k .width) in
     let x = ap length (whole-of b) in
     let s1 = sizeText (k .width) (k .height) in

@@ -15,9 +15,9 @@ use Rattle.spec.specs.Program.{columnsWord, chainWord}
 use Rattle.text.specs.Text.{wayText}
 use Rattle.program_checks.specs.Admitted.{Admitted}
 
--- the longest text: the pixels of 16,384 bytes less a trailer at three bytes each, and the lines of size and ways
+-- the longest text: the pixels of 16,384 bytes less a trailer at six bytes each, and the lines of size and ways
 abbrev pub longest : ℕ
-longest = 24704
+longest = 49280
 
 -- a way that serves a kind
 abbrev pub Serving : ℕ → ℕ → Type 0

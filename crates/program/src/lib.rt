@@ -20,7 +20,7 @@ ghost use Rattle.text.specs.Text.{Puts, refusalText};
 ghost use Rattle.program.specs.Answer.{longest};
 
 // The longest text, in bytes: the buffer's length.
-pub const ROOM: usize = 24704;
+pub const ROOM: usize = 49280;
 
 // The line of a refusal.
 fn put_refused(out: &mut [u8], e: Refusal) -> usize

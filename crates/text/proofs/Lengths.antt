@@ -31,21 +31,28 @@ digits-long (suc k) n = by (ltb n 10) (digits-long k (n / 10))
 pub decimal-long : (n : ℕ) → length (decimal n) ≤ 20
 decimal-long n = digits-long 19 n
 
--- two digits below 100
-pub decimal-short : (n : ℕ) → n < 100 → length (decimal n) ≤ 2
-decimal-short n h = by (ltb n 10) refl
+-- one digit more below ten times the limit
+decimal-more : (limit k : ℕ) → limit ≤ 10000 → ((n : ℕ) → n < limit → length (decimal n) ≤ k) → (n : ℕ) → n < 10 * limit → length (decimal n) ≤ suc k
+decimal-more limit k few low n h = by (ltb n 10) refl
   where
-    by : (b : Bool) → ltb n 10 ≡ b → length (decimal n) ≤ 2
+    by : (b : Bool) → ltb n 10 ≡ b → length (decimal n) ≤ suc k
     by true e = let z = ap length (decimal-low n (ltb-true n 10 e)) in omega (arith, z)
     by false e =
         let l : 10 ≤ n = ltb-false n 10 e in
         let z = ap length (decimal-high n l (omega arith)) in
         let y = length-append (decimal (n / 10)) ((48 + n % 10) ∷ []) in
-        let x = ap length (decimal-low (n / 10) (omega arith)) in
-        omega (arith, z, y, x)
+        omega (arith, z, y, low (n / 10) (omega arith))
 
--- ---- a line of levels below 100: three bytes each at most
-spaced-short : (k : ℕ) (f : ℕ → ℕ) → ((s : ℕ) → s ≤ k → f s < 100) → length (spaced k f) ≤ 3 * k + 2
+-- five digits: a level, or no reading
+pub decimal-short : (n : ℕ) → n < 100000 → length (decimal n) ≤ 5
+decimal-short =
+    decimal-more 10000 4 (omega arith)
+    (decimal-more 1000 3 (omega arith)
+    (decimal-more 100 2 (omega arith)
+    (decimal-more 10 1 (omega arith) (λ n h. let z = ap length (decimal-low n h) in omega (arith, z)))))
+
+-- ---- a line of answers: six bytes each at most
+spaced-short : (k : ℕ) (f : ℕ → ℕ) → ((s : ℕ) → s ≤ k → f s < 100000) → length (spaced k f) ≤ 6 * k + 5
 unfolding spaced
 spaced-short zero f low = omega (arith, decimal-short (f 0) (low 0 (omega arith)))
 spaced-short (suc k) f low =
@@ -55,15 +62,15 @@ spaced-short (suc k) f low =
     omega (arith, h, d, e)
 
 -- the rows of a frame
-pub rows-short : (p : Frame) (n : ℕ) → 1 ≤ p .set .width → ((s t : ℕ) → s < p .set .width → t < n → answer p s t < 100) →
-    length (rows p n) ≤ 3 * (n * p .set .width)
+pub rows-short : (p : Frame) (n : ℕ) → 1 ≤ p .set .width → ((s t : ℕ) → s < p .set .width → t < n → answer p s t < 100000) →
+    length (rows p n) ≤ 6 * (n * p .set .width)
 unfolding rows
 rows-short p zero w low = omega arith
 rows-short p (suc n) w low =
     let k = p .set .width in
     let row = spaced (k - 1) (λ s. answer p s n) in
     let h = rows-short p n w (λ s t a b. low s t a (omega arith)) in
-    let d : length row ≤ 3 * (k - 1) + 2 = spaced-short (k - 1) (λ s. answer p s n) (λ s l. low s n (omega arith) (omega arith)) in
+    let d : length row ≤ 6 * (k - 1) + 5 = spaced-short (k - 1) (λ s. answer p s n) (λ s l. low s n (omega arith) (omega arith)) in
     let e = length-append (rows p n) (line row) in
     let f = length-append row (10 ∷ []) in
     let g = suc-mul n k in

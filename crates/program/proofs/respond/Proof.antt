@@ -58,7 +58,7 @@ returns-2 c =
     let b = d .before .before .before .before .args .input .now in
     let e = outcome d in
     let t = printed-as b (sym e) in
-    let f : length (printed b) ≤ 24704 = rw t at (text-short (admits d)) in
+    let f : length (printed b) ≤ 49280 = rw t at (text-short (admits d)) in
     from-start (omega (arith, f)) (called t (c .put-answer .ensures))
 
 pub respond-spec : {M : Type 1} → statement M
