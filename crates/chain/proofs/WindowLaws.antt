@@ -32,7 +32,7 @@ pub level-total : {p : Frame} {s t : ℕ} → Pixel p s t → (f : ℕ → ℕ �
 unfolding levelSum
 level-total {p} {s} {t} k f =
     sym (over-fold _+_ 0 natSums p s t (λ i x y. if eqb (level p x y) i then f x y else 0) (p .set .levels))
-    ∙ over-same _+_ 0 natSums p s t _ f 
+    ∙ over-same _+_ 0 natSums p s t _ f
     (λ x y a b e. fold-pick _+_ 0 natSums (λ i. f x y) (level p x y) (p .set .levels) (k .good .level-low x y a b e))
 
 -- ---- a window of an accepted file

@@ -6,7 +6,9 @@ use mathlib.Core.List.{List}
 use Prim.Native.Nat.{ℕ, _+_, _-_, _*_, _≤_, _<_}
 use native.Mathlib.Nat.{mul-le-mul}
 use native.Mathlib.Omega.{arith}
+use native.Mathlib.Decide.{ℕ-discrete}
 use lib.Dec.{eqb}
+use borrow.Author.Tests.{ne-eqb}
 use Rattle.spec.specs.declared.Plan.{Plan}
 use Rattle.spec.specs.Base.{if_then_else_}
 use Rattle.spec.specs.Frame.{noReading, level, guide, pixelLevel, pixelGuide, frameOf}
@@ -75,6 +77,47 @@ module _ {b : List ℕ} {z : Plan} (pl : Planned b z) (d : Line) (ins : InPlanes
         sum-high = omega (arith, a .sum-high, share-small .1);
         squares-high = omega (arith, a .squares-high, share-small .2);
       }
+
+-- ---- all pixels of a line: where none of them is dead, these are its sums; and no value is above the total
+pub record AddedTo (b : List ℕ) (d : Line) (k total s q : ℕ) : Type 0 where
+  pub low : total ≤ 65535 * k
+  pub sum-high : s ≤ 255 * k
+  pub squares-high : q ≤ 65025 * k
+  pub most : (j : ℕ) → j < k → pixelLevel b (pixelOf d j) ≤ total
+  pub sums-are : ((j : ℕ) → j < k → eqb (pixelLevel b (pixelOf d j)) noReading ≡ false) → LineSums b d k (sums k s q)
+
+pub added-none : (b : List ℕ) (d : Line) → AddedTo b d 0 0 0 0
+added-none b d = record {
+  low = omega arith;
+  sum-high = omega arith;
+  squares-high = omega arith;
+  most = λ j h. absurd (omega arith);
+  sums-are = λ live. line-start b d;
+}
+
+module _ {b : List ℕ} {z : Plan} (pl : Planned b z) (d : Line) (ins : InPlanes z d) (k i f : ℕ) (h : k < d .count)
+    (ei : i ≡ pixelLevel b (pixelOf d k)) (ef : f ≡ pixelGuide b (pixelOf d k)) (small : i ≤ 65535) where
+  pub guide-small : (f ≤ 255) × (f * f ≤ 65025)
+  guide-small =
+      let l : f ≤ 255 = omega (arith, ef, guide-low pl (ins .inside k h), guides-high pl) in
+      (l, mul-le-mul {n₂ = 255} l l)
+
+  pub added-next : (total s q : ℕ) → AddedTo b d k total s q → AddedTo b d (k + 1) (total + i) (s + f) (q + f * f)
+  added-next total s q a = record {
+    low = omega (arith, a .low, small);
+    sum-high = omega (arith, a .sum-high, guide-small .0);
+    squares-high = omega (arith, a .squares-high, guide-small .1);
+    most = λ j l. above j (ℕ-discrete j k) l;
+    sums-are = λ live. let here = live k (omega arith) in
+        line-next pl d ins k 1 f h (rw here refl) (rw here ef) k s q (a .sums-are (λ j l. live j (omega arith)));
+  }
+    where
+      above : (j : ℕ) → Dec (j ≡ k) → j < k + 1 → pixelLevel b (pixelOf d j) ≤ total + i
+      above j (yes e) l = rw e (omega (arith, ei))
+      above j (no n) l = omega (arith, a .most j (omega arith))
+
+pub added-whole : (b : List ℕ) (d : Line) (k total s q : ℕ) → AddedTo b d k total s q → total < noReading → LineSums b d k (sums k s q)
+added-whole b d k total s q a few = a .sums-are (λ j h. ne-eqb (pixelLevel b (pixelOf d j)) noReading (λ e. omega (arith, a .most j h)))
 
 -- ---- a step
 step-sum : {b : List ℕ} {z : Plan} → Planned b z → {s t s′ t′ : ℕ} → Adjacent z s t s′ t′ → {d : Step} → d ≡ stepOf z s t s′ t′ → (h : ℕ → ℕ → ℕ)

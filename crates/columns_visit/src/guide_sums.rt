@@ -24,8 +24,8 @@ pub fn share(value: u16, n: usize) -> usize
     n
 }
 
-// Of the live pixels of a line. A dead one adds 0, so that no branch goes by the reading.
-pub fn line_sums(file: &[u8], plan: Plan, line: Line) -> Sums
+// Of the live pixels of a line, one after the other. A dead one adds 0, so that no branch goes by the reading.
+fn live_sums(file: &[u8], plan: Plan, line: Line) -> Sums
     requires { ⌜ Planned (now file) plan ⌝ }
     requires { ⌜ InPlanes plan line ⌝ }
     ensures { λ r. ⌜ LineSums (now (file .entry)) line (line .count) r ⌝ }
@@ -52,6 +52,40 @@ pub fn line_sums(file: &[u8], plan: Plan, line: Line) -> Sums
         sum: sum,
         squares: squares,
     }
+}
+
+// Of the live pixels of a line. First all are added up, and their values beside them: a sum of values below that of one dead pixel says that there is
+// none, as in most lines.
+pub fn line_sums(file: &[u8], plan: Plan, line: Line) -> Sums
+    requires { ⌜ Planned (now file) plan ⌝ }
+    requires { ⌜ InPlanes plan line ⌝ }
+    ensures { λ r. ⌜ LineSums (now (file .entry)) line (line .count) r ⌝ }
+{
+    let first = line.first;
+    let stride = line.stride;
+    let count = line.count;
+    let mut total: usize = 0;
+    let mut sum: usize = 0;
+    let mut squares: usize = 0;
+    let mut k: usize = 0;
+    while k < count {
+        let q = first + k * stride;
+        let value = pixel::value_at(file, plan, q);
+        let g = pixel::guide_at(file, plan, q);
+        let f = g.0 as usize;
+        total += value as usize;
+        sum += f;
+        squares += f * f;
+        k += 1;
+    }
+    if total < NO_READING as usize {
+        return Sums {
+            count: k,
+            sum: sum,
+            squares: squares,
+        };
+    }
+    live_sums(file, plan, line)
 }
 
 // After a step: one line out, one line in.

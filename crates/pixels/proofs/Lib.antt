@@ -1,3 +1,4 @@
 pub mod Laws
+pub mod WholeLaws
 pub mod AdditiveLaws
 pub mod SumLaws

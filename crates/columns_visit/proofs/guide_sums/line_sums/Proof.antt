@@ -1,66 +1,48 @@
--- `columns_visit::guide_sums::line_sums` meets its contract. Assumes nothing.
+-- `columns_visit::guide_sums::line_sums` meets its contract: where a pixel is dead, the line is read again. Assumes nothing.
 use Prim.Native.Nat.{ℕ, _+_, _*_, _-_, _<_, _≤_}
-use mathlib.Core.Path.{_≡_, ap₂, _∙_, subst}
+use mathlib.Core.Path.{_≡_, subst}
 use native.Mathlib.Omega.{arith}
 use borrow.Author.Needs.{needs}
-use Rattle.spec.specs.Frame.{pixelLevel, pixelGuide}
 use Rattle.window.specs.declared.line.Line.{Line}
 use Rattle.window.specs.declared.sums.Sums.{Sums}
-use Rattle.window.specs.Line.{pixelOf, reading}
-use Rattle.window.specs.Sums.{one, itself}
 use Rattle.columns_visit.specs.GuideSums.{LineSums}
 use Rattle.window.proofs.PixelLaws.{place-small}
-use Rattle.columns_visit.proofs.GuideSumLaws.{line-start, line-next, share-small}
+use Rattle.columns_visit.proofs.GuideSumLaws.{AddedTo, added-none, added-next, added-whole, guide-small}
 use Rattle.columns_visit.proofs.guide_sums.line_sums.Statement.{statement}
 use Rattle.columns_visit.proofs.guide_sums.line_sums.Tie as tie
 
-abbrev line : ℕ → ℕ → ℕ → Line
-line first stride count = record { first = first; stride = stride; count = count }
+abbrev record-of : ℕ → ℕ → ℕ → Line
+record-of first stride count = record { first = first; stride = stride; count = count }
 
 abbrev sums : ℕ → ℕ → ℕ → Sums
 sums n s q = record { count = n; sum = s; squares = q }
 
 abbrev Inv-loop : tie.InvT-loop
-Inv-loop file z first stride count n₀ sum₀ squares₀ k₀ n sum squares k =
-    (k ≤ count) × LineSums file (line first stride count) k (sums n sum squares)
+Inv-loop file z line first stride count total₀ sum₀ squares₀ k₀ total sum squares k =
+    (k ≤ count) × AddedTo file (record-of first stride count) k total sum squares
 
 abbrev μ-loop : tie.MeasureT-loop
-μ-loop file z first stride count n₀ sum₀ squares₀ k₀ n sum squares k = count - k
+μ-loop file z line first stride count total₀ sum₀ squares₀ k₀ total sum squares k = count - k
 
--- the places passed: the turn, its value, its guide, its shares; and the start
 abbrev start : tie.At-loop Inv-loop μ-loop → tie.Start Inv-loop μ-loop
 start h = h .before .before
 
 abbrev turn : tie.After-guide-at Inv-loop μ-loop → tie.In-loop Inv-loop μ-loop
 turn g = g .before .before
 
-abbrev guided : tie.After-share2 Inv-loop μ-loop → tie.After-guide-at Inv-loop μ-loop
-guided c = c .before .before .before
-
 in-plane : (t : tie.In-loop Inv-loop μ-loop) → let st = start (t .before) in
     st .args .line .first + t .before .loop .k * st .args .line .stride < 262144
 in-plane t = let st = start (t .before) in place-small (st .pre .0) (st .pre .1 .inside (t .before .loop .k) (t .loop-test .taken))
 
--- what the turn's pixel adds
-adds-one : (c : tie.After-share2 Inv-loop μ-loop) → let t = turn (guided c) in let st = start (t .before) in
-    let q = pixelOf (st .args .line) (t .before .loop .k) in
-    c .share2 .result ≡ reading 0 one (pixelLevel (st .args .file .now) q) (pixelGuide (st .args .file .now) q)
-adds-one c = let g = guided c in c .share2 .ensures ∙ ap₂ (reading 0 one) (g .before .value-at .ensures) (g .guide-at .ensures)
-
-adds-guide : (c : tie.After-share2 Inv-loop μ-loop) → let t = turn (guided c) in let st = start (t .before) in
-    let q = pixelOf (st .args .line) (t .before .loop .k) in
-    c .before .share .result ≡ reading 0 itself (pixelLevel (st .args .file .now) q) (pixelGuide (st .args .file .now) q)
-adds-guide c = let g = guided c in c .before .share .ensures ∙ ap₂ (reading 0 itself) (g .before .value-at .ensures) (g .guide-at .ensures)
-
-small : (c : tie.After-share2 Inv-loop μ-loop) →
-    (c .share2 .result ≤ 1) × (c .before .share .result ≤ 255) × (c .before .share .result * c .before .share .result ≤ 65025)
+small : (c : tie.After-guide-at Inv-loop μ-loop) → (c .guide-at .result .0 ≤ 255) × (c .guide-at .result .0 * c .guide-at .result .0 ≤ 65025)
 small c =
-    let t = turn (guided c) in
+    let t = turn c in
     let st = start (t .before) in
-    share-small (st .pre .0) (st .args .line) (st .pre .1) (t .before .loop .k) _ _ (t .loop-test .taken) (adds-one c) (adds-guide c)
+    guide-small (st .pre .0) (st .args .line) (st .pre .1) (t .before .loop .k) _ _ (t .loop-test .taken) (c .before .value-at .ensures)
+    (c .guide-at .ensures) (omega (arith, c .before .value-at .ok))
 
 loop-holds : tie.Need-loop-holds Inv-loop μ-loop
-loop-holds c = (omega arith, line-start _ _)
+loop-holds c = (omega arith, added-none _ _)
 
 mul-q : tie.Need-mul-q Inv-loop μ-loop
 mul-q c = omega (arith, in-plane c)
@@ -77,54 +59,59 @@ guide-at-requires c κs =
     let st = start (t .before) in
     (st .pre .0, st .pre .1 .inside (t .before .loop .k) (t .loop-test .taken))
 
-cast-share : tie.Need-cast-share Inv-loop μ-loop
-cast-share c = search needs
+cast-f : tie.Need-cast-f Inv-loop μ-loop
+cast-f c = search needs
 
-share-requires : tie.Need-share-requires Inv-loop μ-loop
-share-requires c κs = search needs
+cast-total : tie.Need-cast-total Inv-loop μ-loop
+cast-total c = search needs
 
-share-requires-2 : tie.Need-share-requires-2 Inv-loop μ-loop
-share-requires-2 c κs = search needs
-
-add-n : tie.Need-add-n Inv-loop μ-loop
-add-n c =
-    let t = turn (guided c) in
-    omega (arith, small c .0, t .before .loop .inv .1 .count-high, t .loop-test .taken, start (t .before) .pre .1 .few)
+add-total : tie.Need-add-total Inv-loop μ-loop
+add-total d =
+    let c = d .before in
+    let t = turn c in
+    omega (arith, c .before .value-at .ok, t .before .loop .inv .1 .low, t .loop-test .taken, start (t .before) .pre .1 .few)
 
 add-sum : tie.Need-add-sum Inv-loop μ-loop
-add-sum c =
-    let t = turn (guided c) in
-    omega (arith, small c .1, t .before .loop .inv .1 .sum-high, t .loop-test .taken, start (t .before) .pre .1 .few)
+add-sum d = let c = d .before in let t = turn c in omega (arith, small c .0, t .before .loop .inv .1 .sum-high, t .loop-test .taken, start (t .before) .pre .1 .few)
 
 mul-squares : tie.Need-mul-squares Inv-loop μ-loop
-mul-squares c = omega (arith, small c .2)
+mul-squares c = omega (arith, small (c .before) .1)
 
 add-squares : tie.Need-add-squares Inv-loop μ-loop
-add-squares c =
-    let t = turn (guided c) in
-    omega (arith, small c .2, t .before .loop .inv .1 .squares-high, t .loop-test .taken, start (t .before) .pre .1 .few)
+add-squares d = let c = d .before in let t = turn c in omega (arith, small c .1, t .before .loop .inv .1 .squares-high, t .loop-test .taken, start (t .before) .pre .1 .few)
 
 add-k : tie.Need-add-k Inv-loop μ-loop
-add-k c = let t = turn (guided c) in omega (arith, t .loop-test .taken, start (t .before) .pre .1 .few)
+add-k d = let c = d .before in let t = turn c in omega (arith, t .loop-test .taken, start (t .before) .pre .1 .few)
 
 loop-less : tie.Need-loop-less Inv-loop μ-loop
-loop-less c = omega (arith, turn (guided c) .loop-test .taken)
+loop-less c = omega (arith, turn (c .before) .loop-test .taken)
 
 loop-again : tie.Need-loop-again Inv-loop μ-loop
-loop-again c =
-    let t = turn (guided c) in
+loop-again d =
+    let c = d .before in
+    let t = turn c in
     let st = start (t .before) in (
       omega (arith, t .loop-test .taken),
-      line-next (st .pre .0) (st .args .line) (st .pre .1) (t .before .loop .k) _ _ (t .loop-test .taken) (adds-one c) (adds-guide c) _ _ _
-          (t .before .loop .inv .1),
+      added-next (st .pre .0) (st .args .line) (st .pre .1) (t .before .loop .k) _ _ (t .loop-test .taken) (c .before .value-at .ensures)
+          (c .guide-at .ensures) (omega (arith, c .before .value-at .ok)) _ _ _ (t .before .loop .inv .1),
     )
+
+cast-if1 : tie.Need-cast-if1 Inv-loop μ-loop
+cast-if1 c = search needs
 
 returns : tie.Need-returns Inv-loop μ-loop
 returns c =
-    let h = c .before in
+    let h = c .before .before in
     let st = start h in
-    let done : h .loop .k ≡ st .args .line .count = omega (arith, h .loop .inv .0, c .loop-test .left) in
-    subst (λ (n : ℕ). LineSums (st .args .file .now) (st .args .line) n (sums (h .loop .n) (h .loop .sum) (h .loop .squares))) done (h .loop .inv .1)
+    let done : h .loop .k ≡ st .args .line .count = omega (arith, h .loop .inv .0, c .before .loop-test .left) in
+    subst (λ (n : ℕ). LineSums (st .args .file .now) (st .args .line) n (sums (h .loop .k) (h .loop .sum) (h .loop .squares))) done
+    (added-whole _ _ _ _ _ _ (h .loop .inv .1) (c .if1 .taken))
+
+live-sums-requires : tie.Need-live-sums-requires Inv-loop μ-loop
+live-sums-requires c κs = search needs
+
+returns-2 : tie.Need-returns-2 Inv-loop μ-loop
+returns-2 c = c .live-sums .ensures
 
 pub line-sums-spec : {M : Type 1} → statement M
 line-sums-spec =
@@ -137,14 +124,16 @@ line-sums-spec =
     add-q
     value-at-requires
     guide-at-requires
-    cast-share
-    share-requires
-    share-requires-2
-    add-n
+    cast-f
+    cast-total
+    add-total
     add-sum
     mul-squares
     add-squares
     add-k
     loop-less
     loop-again
-    returns)
+    cast-if1
+    returns
+    live-sums-requires
+    returns-2)
