@@ -96,13 +96,15 @@ module _ {b : List ℕ} {z : Plan} (pl : Planned b z) where
       arrive-is read c n = rw read refl
 
       -- a visit whose level is the median, with what it adds to the shift count
-      pub answers : empty (frameOf b) s t ≡ false → (c n : ℕ) (v : Visit) (r more : ℕ) (q : Bool) → v .column ≡ s → v .row ≡ t → v .cut .0 ≡ r → answerNumber (v .answer) ≡ r
+      pub answers : empty (frameOf b) s t ≡ false → (c n : ℕ) (v : Visit) (r more : ℕ) (q : Bool) → v .column ≡ s → v .row ≡ t
+          → v .cut .0 ≡ r → answerNumber (v .answer) ≡ r
           → v .shifts ≡ n + more → r ≡ median (frameOf b) s t → q ≡ monotone (frameOf b) s t → more ≡ (if q then distance r c else r)
           → stateOf Chain v ≡ arrive Chain (frameOf b) s t c n
       answers read c n v r more q ec er eu ea eh em eq ek =
           let added : v .shifts ≡ n + (if monotone (frameOf b) s t then distance (median (frameOf b) s t) c else median (frameOf b) s t) =
           eh ∙ ap (λ (x : ℕ). n + x) (ek ∙ ap₂ (λ (y : Bool) (x : ℕ). if y then distance x c else x) eq em) in
-          (λ i. record { way = Chain; column = ec i; row = er i; cut = (eu ∙ em) i; shifts = added i; answer = (ea ∙ em) i }) ∙ sym (arrive-is read c n)
+          (λ i. record { way = Chain; column = ec i; row = er i; cut = (eu ∙ em) i; shifts = added i; answer = (ea ∙ em) i })
+          ∙ sym (arrive-is read c n)
 
 -- the visit's window is the one that it came to, and what ran along was handed in
 pub chain-visited : (b : List ℕ) (z : Plan) (s t c n : ℕ) (v : Visit) (a : Sums) (free : FreeList) (m m′ : List ℕ)

@@ -94,8 +94,8 @@ pub fn carried(
     earlier
 }
 
-// A walk comes to its first window, whatever the store held. From cut point 0 a monotone window is searched like any other. One with no reading is not
-// searched at all.
+// A walk comes to its first window, whatever the store held. From cut point 0 a monotone window is searched like any other, and one with no reading
+// not at all.
 pub fn enter(file: &[u8], plan: Plan, column: usize, row: usize, blocks: &mut [u32]) -> Visit
     requires { ⌜ (Planned (now file) plan) × (plan .kind ≡ 2) ⌝ }
     requires { ⌜ (column < plan .width) × (row < plan .height) ⌝ }

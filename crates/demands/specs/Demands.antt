@@ -1,5 +1,5 @@
--- The three demands, and document 02's request 4, over windows without their dead pixels (request 6), as statements about the promises of the calls. A reader starts here; proofs/Demands.antt proves
--- each.
+-- The three demands, and document 02's request 4, over windows without their dead pixels (request 6), as statements about the promises of the calls.
+-- A reader starts here; proofs/Demands.antt proves each.
 -- b are a file's bytes, before and after the stores around a call, old and new its answers or output, r its result.
 -- Assumes nothing.
 use Prim.Native.Nat.{ℕ, suc, _+_, _-_, _*_, _≤_, _<_}
@@ -143,8 +143,8 @@ pub record Demand2 : Type 0 where
 
 -- ---- demand 3
 
--- where none of the window's own weights is negative and not all are 0, so that it has a pixel: no level has a smaller weighted sum of absolute differences than m, and every
--- lower one has a larger
+-- where none of the window's own weights is negative and not all are 0, so that it has a pixel: no level has a smaller weighted sum of absolute
+-- differences than m, and every lower one has a larger
 pub record Minimises (p : Frame) (s t m : ℕ) : Type 0 where
   pub least : NoneNegative p s t → NotAllZero p s t → (i : ℕ) → differences p s t m ≤ℤ differences p s t i
   pub lower : NoneNegative p s t → NotAllZero p s t → (i : ℕ) → i < m → differences p s t m <ℤ differences p s t i
@@ -229,7 +229,8 @@ pub record AnsweredSo (b : List ℕ) (s t m : ℕ) : Type 0 where
       → getD new (j + 1) 0 ≡ m
 
 abbrev pub ExplainsTheAnswer : Type 0
-ExplainsTheAnswer = (b : List ℕ) (s t : ℕ) (r : Explained) → Explains b s t r → r .verdict ≡ Accepted → AnsweredSo b s t (answerNumber (r .grounds .answer))
+ExplainsTheAnswer = (b : List ℕ) (s t : ℕ) (r : Explained) → Explains b s t r → r .verdict ≡ Accepted
+    → AnsweredSo b s t (answerNumber (r .grounds .answer))
 
 pub record Request4 : Type 0 where
   pub grounds : EveryExplanation

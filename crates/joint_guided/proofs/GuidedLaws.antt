@@ -68,7 +68,8 @@ module _ {b : List ℕ} {z : Plan} (pl : Planned b z) where
   module _ {s t c n : ℕ} (hs : s < z .width) (ht : t < z .height) (read : empty (frameOf b) s t ≡ false) {way : Way} {f : Found}
       (h : Answered way (frameOf b) s t c n f) where
     pub answer-low : f .level .0 < z .levels
-    answer-low = omega (arith, h .cut, arrive-cut way (frameOf b) s t c n, cut-read (frameOf b) s t c read, median-low (pixel-of pl hs ht), facts pl .levels)
+    answer-low =
+        omega (arith, h .cut, arrive-cut way (frameOf b) s t c n, cut-read (frameOf b) s t c read, median-low (pixel-of pl hs ht), facts pl .levels)
 
 -- ---- by the number of pixels: a window with a reading, and one without
 module _ (p : Frame) (s t : ℕ) {a : Sums} (v : SumsAt p s t a) where

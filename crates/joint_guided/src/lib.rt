@@ -38,8 +38,8 @@ pub fn tally_below(histogram: &[u32], levels: usize, end: usize) -> Tally
     search::gather(&histogram[0..levels], &histogram[levels..last], end)
 }
 
-// Way 1: the window's answer, and the box moved to it, which stays where there is no reading; before is the tally of the window that the two lists lead from. Only a monotone window
-// needs it, and it is carried there alone.
+// Way 1: the window's answer, and the box moved to it; both stay where there is no reading. before is the tally of the window that the two lists
+// lead from. Only a monotone window needs it, and it is carried there alone.
 pub fn arrive(
     file: &[u8],
     plan: Plan,

@@ -189,7 +189,8 @@ module _ {b : List ℕ} {plan : Plan} {s t : ℕ} {cs ws : List ℕ} (st : Count
         ap₂ (λ (n : ℕ) (x : ℤ). pos n *ℤ x) (rep .cells i f h′ l) (sym (gives .is f l)))
 
   -- its own weights: the hollow test, where there is a reading
-  pub weightless-is : {row : List ℕ} → empty (frameOf b) s t ≡ false → RowOwn (frameOf b) s t row → weightlessIn (sizesOf plan) cs row ≡ weightless (frameOf b) s t
+  pub weightless-is : {row : List ℕ} → empty (frameOf b) s t ≡ false → RowOwn (frameOf b) s t row
+      → weightlessIn (sizesOf plan) cs row ≡ weightless (frameOf b) s t
   unfolding weightlessOf weightless totalOf ownTotal
   weightless-is {row} r own =
       let p = frameOf b in

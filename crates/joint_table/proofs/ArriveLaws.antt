@@ -38,7 +38,8 @@ unfolding monotone
 table-monotone {b} pl s t e = rw (eq-eqb (frameOf b .set .kind) 1 (kind-of pl e)) refl
 
 pub arrives-of : {b : List ℕ} {plan : Plan} {s t : ℕ} {cs ws row : List ℕ} → Counted b plan s t cs ws → empty (frameOf b) s t ≡ false
-    → RowWeighs (frameOf b) s t row → plan .kind ≡ 1 → (way : Way) {c n : ℕ} {r : SearchEnd} {bx : List ℤ} → AnsweredBy (byBlocks way) (sizesOf plan) cs row c n r bx
+    → RowWeighs (frameOf b) s t row → plan .kind ≡ 1 → (way : Way) {c n : ℕ} {r : SearchEnd} {bx : List ℤ}
+    → AnsweredBy (byBlocks way) (sizesOf plan) cs row c n r bx
     → Arrives way (frameOf b) s t c n r bx
 arrives-of {b} {plan} {s} {t} st read weighs one way {c} {n} {r} a =
     let p = frameOf b in
@@ -85,7 +86,15 @@ centre-some {b} {plan} {s} {t} {cs} {row = row} st read own one {f} ef e = go (w
 
     centre : InWindow p s t s t
     centre =
-        record { left = omega arith; right = omega arith; wide = k .in-column; top = omega arith; bottom = omega arith; high = k .in-row; read = live }
+        record {
+          left = omega arith;
+          right = omega arith;
+          wide = k .in-column;
+          top = omega arith;
+          bottom = omega arith;
+          high = k .in-row;
+          read = live;
+        }
 
     low : guide p s t < p .set .guides
     low = k .good .guide-low s t (k .in-column) (k .in-row)

@@ -180,7 +180,8 @@ module _ {p : Frame} {s t : ℕ} (q : Pixel p s t) {counts sums : List ℕ} (c :
 -- ---- what is answered, where there is a reading
 pub answered : {p : Frame} {s t : ℕ} → Pixel p s t → {counts sums : List ℕ} → Profiled p s t counts sums → p .set .kind ≡ 2 → {k : Coefficients} →
     WeighsAt p s t k → (way : Way) {c n : ℕ} {f : Found} {m : Bool}
-    → m ≡ monotone p s t → empty p s t ≡ false → FoundAt k counts sums f → f .shifts ≡ n + (if m then shiftsTo (byBlocks way) (f .level .0) c else f .level .0)
+    → m ≡ monotone p s t → empty p s t ≡ false → FoundAt k counts sums f
+    → f .shifts ≡ n + (if m then shiftsTo (byBlocks way) (f .level .0) c else f .level .0)
     → Answered way p s t c n f
 unfolding arrive adds nextCut answer
 answered {p} {s} {t} q cells two w way {c} {n} {f} {m} em r e sh =

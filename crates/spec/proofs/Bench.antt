@@ -116,12 +116,12 @@ settings w h l m k r e = record { width = w; height = h; levels = l; guides = m;
 unfoldable pub reply : Question → Reply
 unfolding fold foldRect first tabulateFrom tabulate be16 be32 to16 to32 all16 trailerAt settingsOf trailerOf ownWeights valuePart guidePart tablePart
     builtIn planOf pixelLevel pixelGuide frameOf badMark badSize badCounts badKind badRadius settingsOutcome badDistance scan scanFile valueScan
-    guideScan contents trailerOutcome verdict span live over inColumn pixelCount empty guideSum squareSum count levelSum scaledVariance guidedWeight ownWeight
-    ownTotal isZero weightless weight monotone totalWeight cumulative balance median answer differences adds nextCut arrive move follow step after answers
-    walkEnd walkAnswers turn serpentine filtered filterEnd jointCounts occupancyWord occupancyWords balanceBox columnSum columnStore entryOf entries
-    blockWeight summary wayOf badWay roomOf badPixel lacks short walkChecks walkOutcome filterChecks filterOutcome balanceChecks balanceOutcome
-    explainChecks explainOutcome cumulativeBelow causeOf fieldBytes distanceBytes written writtenSize badLength scanList writerOutcome digits spaced
-    rows ways tooLarge programOutcome beside outputText printed
+    guideScan contents trailerOutcome verdict span live over inColumn pixelCount empty guideSum squareSum count levelSum scaledVariance guidedWeight
+    ownWeight ownTotal isZero weightless weight monotone totalWeight cumulative balance median answer differences adds nextCut arrive move follow
+    step after answers walkEnd walkAnswers turn serpentine filtered filterEnd jointCounts occupancyWord occupancyWords balanceBox columnSum
+    columnStore entryOf entries blockWeight summary wayOf badWay roomOf badPixel lacks short walkChecks walkOutcome filterChecks filterOutcome
+    balanceChecks balanceOutcome explainChecks explainOutcome cumulativeBelow causeOf fieldBytes distanceBytes written writtenSize badLength scanList
+    writerOutcome digits spaced rows ways tooLarge programOutcome beside outputText printed
 reply (accept b) = says (verdict b)
 reply (walk b s t l) = let p = frameOf b in closed (walkEnd Joint p s t l) (walkAnswers p s t l)
 reply (filter b) = let p = frameOf b in closed (filterEnd Joint p) (filtered p)

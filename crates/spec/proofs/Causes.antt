@@ -1,5 +1,5 @@
--- Why a window has its answer: the formula is not negative at one end of the guides, so exactly one cause applies; and the answer's sums are on either
--- side of half.
+-- Why a window has its answer: the formula is not negative at one end of the guides, so exactly one cause applies; and the answer's sums are on
+-- either side of half.
 -- Assumes nothing.
 use mathlib.Core.Path.{_≡_, refl, sym, ap, _∙_, subst}
 use mathlib.Core.Bool.{Bool, true, false, true≢false, _&&_, _||_}

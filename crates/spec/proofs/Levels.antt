@@ -65,7 +65,8 @@ module _ (p : Frame) (s t : ℕ) where
   cumulative-all i h = over-inWindow _+ℤ_ (pos 0) intSums p s t _ _ (λ x y k. rw (le-leb (level p x y) i (h x y k)) refl)
 
 pub cumulative-last : {p : Frame} {s t : ℕ} → Pixel p s t → cumulative p s t (p .set .levels - 1) ≡ totalWeight p s t
-cumulative-last {p} {s} {t} k = cumulative-all p s t (p .set .levels - 1) (λ x y h. omega (arith, k .good .level-low x y (h .wide) (h .high) (h .read)))
+cumulative-last {p} {s} {t} k =
+    cumulative-all p s t (p .set .levels - 1) (λ x y h. omega (arith, k .good .level-low x y (h .wide) (h .high) (h .read)))
 
 -- ---- by guides: the joint way
 pub times-is : (n : ℕ) (x : ℤ) → times _+ℤ_ (pos 0) n x ≡ pos n *ℤ x

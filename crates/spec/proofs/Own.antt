@@ -10,7 +10,7 @@ use lib.Dec.{leb, eqb}
 use lib.IntN.{ℤ, pos, negsuc, negℤ, _+ℤ_, _-ℤ_, _*ℤ_, *ℤ-zero}
 use lib.Signed.{_≤ℤ_, _<ℤ_, nonNeg, ≤ℤ-refl, clashℤ}
 use borrow.Author.Tests.{eq-eqb, ne-eqb, eqb-true, eqb-false}
-use Rattle.ints.specs.Order.{add-parts, ≤-or->, <-to-≤, <-≤-trans, ≤-of-eq, ≤-antisymm, mul-nonneg, mul-pos, mul-cancel-≤, square-nonneg, 0≤pos, pos-<}
+use Rattle.ints.specs.Order.{add-parts, ≤-or->, <-to-≤, ≤-of-eq, ≤-antisymm, mul-pos, mul-cancel-≤, square-nonneg, 0≤pos, pos-<}
 use Rattle.ints.specs.Linear.{ints}
 use Rattle.ints.specs.Ring.{mul-one}
 use Rattle.ints.specs.Polynomial.{_⊕_, _⊖_, _⊗_, opposite, #_, _≐_, solve3, solve4, solve5}

@@ -126,7 +126,8 @@ module _ {A : Type 0} (_⊕_ : A → A → A) (z : A) (laws : AdditionLaws _⊕_
       ≡ over _⊕_ z p s t f ⊕ gained _⊕_ z (inColumn _⊕_ z p t f) (p .set .radius) s (p .set .width)
   unfolding over foldRect inColumn
   over-right p s t f h =
-      window-right (λ x. fold _⊕_ z (live z p f x) (t - p .set .radius) (span (p .set .radius) t (p .set .height))) (p .set .radius) s (p .set .width) h
+      window-right (λ x. fold _⊕_ z (live z p f x) (t - p .set .radius) (span (p .set .radius) t (p .set .height))) (p .set .radius) s
+      (p .set .width) h
 
   pub over-down : (p : Frame) (s t : ℕ) (f : ℕ → ℕ → A) → t + 1 < p .set .height
       → over _⊕_ z p s (t + 1) f ⊕ lost _⊕_ z (inRow _⊕_ z p s f) (p .set .radius) t

@@ -149,7 +149,8 @@ module _ {A : Type 0} (_⊕_ : A → A → A) (z : A) (laws : AdditionLaws _⊕_
   pub over-both : (f g : ℕ → ℕ → A) → over _⊕_ z p s t (λ x y. f x y ⊕ g x y) ≡ over _⊕_ z p s t f ⊕ over _⊕_ z p s t g
   unfolding over foldRect
   over-both f g =
-      fold-same _⊕_ z laws _ _ _ _ (λ x a b. fold-same _⊕_ z laws _ _ _ _ (λ y c d. both f g x y) ∙ fold-both _⊕_ z laws (live z p f x) (live z p g x) _ _)
+      fold-same _⊕_ z laws _ _ _ _
+      (λ x a b. fold-same _⊕_ z laws _ _ _ _ (λ y c d. both f g x y) ∙ fold-both _⊕_ z laws (live z p f x) (live z p g x) _ _)
       ∙ fold-both _⊕_ z laws _ _ _ _
 
   pub over-none : over _⊕_ z p s t (λ x y. z) ≡ z

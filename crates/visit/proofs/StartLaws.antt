@@ -48,7 +48,8 @@ module _ {b : List ℕ} {z : Plan} (pl : Planned b z) (two : z .kind ≡ 2) {s t
   start-from a = record { cut = omega (arith, v .count-long, facts pl .levels, levels-some pl); tally = λ e. absurd (true≢false (sym e)) }
 
   -- by a way that counts levels from the cut point
-  pub start-answered : (way : Way) → byBlocks way ≡ false → empty (frameOf b) s t ≡ false → {f : Found} → FoundAt k counts sums f → f .shifts ≡ 0 + f .level .0
+  pub start-answered : (way : Way) → byBlocks way ≡ false → empty (frameOf b) s t ≡ false → {f : Found} → FoundAt k counts sums f
+      → f .shifts ≡ 0 + f .level .0
       → Answered way (frameOf b) s t 0 0 f
   start-answered way eb r {f} e sh =
       answered-at pl two hs ht w v {m = endsNotNegative k (z .guides)} refl way r e

@@ -87,7 +87,9 @@ module _ {A : Type 0} (_⊕_ : A → A → A) (e : A) where
   pub line-more : (b : List ℕ) (d : Line) (h : ℕ → ℕ → A) (n : ℕ)
       → lineFoldTo _⊕_ e b d h (n + 1) ≡ lineFoldTo _⊕_ e b d h n ⊕ reading e h (pixelLevel b (pixelOf d n)) (pixelGuide b (pixelOf d n))
   unfolding lineFoldTo
-  line-more b d h n = fold-more _ 0 n ∙ ap (λ (k : ℕ). lineFoldTo _⊕_ e b d h n ⊕ reading e h (pixelLevel b (pixelOf d k)) (pixelGuide b (pixelOf d k))) (zero-add n)
+  line-more b d h n =
+      fold-more _ 0 n
+      ∙ ap (λ (k : ℕ). lineFoldTo _⊕_ e b d h n ⊕ reading e h (pixelLevel b (pixelOf d k)) (pixelGuide b (pixelOf d k))) (zero-add n)
 
   shift-fold : (b : List ℕ) (h : ℕ → ℕ → A) (d : Line) (by : ℕ) (on : Bool)
       → lineFold _⊕_ e b (shift d by on) h ≡ (if on then lineFold _⊕_ e b (shift d by true) h else e)

@@ -1,6 +1,6 @@
 -- `chain_visit::answer_at` meets its contract. Assumes nothing.
 use Prim.Native.Nat.{_+_}
-use mathlib.Core.Path.{_≡_, refl, sym, ap, _∙_}
+use mathlib.Core.Path.{_≡_, refl, ap, _∙_}
 use mathlib.Core.Bool.{false}
 use native.Mathlib.Omega.{arith}
 use borrow.Author.Needs.{needs}
@@ -36,7 +36,7 @@ returns : tie.Need-returns
 returns c =
     let at = c .before .before .before .before .before .before .before in
     let p = frameOf (at .args .file .now) in
-    let none = count-empty p (at .args .column) (at .args .row) (sym (at .pre .1 .1 .0 .count) ∙ c .before .before .if1 .taken) in
+    let none = count-empty p (at .args .column) (at .args .row) (omega (arith, at .pre .1 .1 .0 .count, c .before .before .if1 .taken)) in
     rw (c .unread .ensures) (
       unread-state Chain p (at .args .column) (at .args .row) (at .args .cut) (at .args .shifts) (at .args .running .sums) (at .args .running .free)
           none,
@@ -104,7 +104,8 @@ returns-2 c =
     let s = at .pre .1 .0 .0 in
     let t = at .pre .1 .0 .1 in
     let two = at .pre .0 .1 in (
-      answers pl s t two (read k) _ _ (c .answered .result) (r .climb .result .0) _ (m .monotone .result) (column-is c) (row-is c) (cut-is c) (answer-is c)
+      answers pl s t two (read k) _ _ (c .answered .result) (r .climb .result .0) _ (m .monotone .result) (column-is c) (row-is c) (cut-is c)
+          (answer-is c)
           (shifts-are c)
           (climbed pl s t two _ (k .of-window .ensures .0) _ _ (at .pre .1 .1 .1) _ (r .climb .ensures))
           (m .monotone .ensures ∙ ends-monotone pl two (k .of-window .ensures .0) s t) (d .added .ensures .0),

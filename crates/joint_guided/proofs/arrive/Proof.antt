@@ -25,7 +25,9 @@ start w = w .before .before .before .before .before .before .before .before .bef
 
 -- there is a reading
 read : (w : tie.After-carried-where) → let at = start w in empty (frameOf (at .args .file .now)) (at .args .s) (at .args .t) ≡ false
-read w = let at = start w in has-reading (frameOf (at .args .file .now)) (at .args .s) (at .args .t) (at .pre .1 .0 .0) (w .before .before .before .before .if1 .left)
+read w =
+    let at = start w in
+    has-reading (frameOf (at .args .file .now)) (at .args .s) (at .args .t) (at .pre .1 .0 .0) (w .before .before .before .before .if1 .left)
 
 unread-requires : tie.Need-unread-requires
 unread-requires c κs = search needs
@@ -71,8 +73,9 @@ add-carried-where : tie.Need-add-carried-where
 add-carried-where c = search needs
 
 carried-where-requires : tie.Need-carried-where-requires
-carried-where-requires c κs = let v =
-    c .before .before .before .before .before .before .before .before .before .before .before .pre .1 .0 .1 in ((v .entering, v .leaving), v .carriable)
+carried-where-requires c κs =
+    let v = c .before .before .before .before .before .before .before .before .before .before .before .pre .1 .0 .1 in
+    ((v .entering, v .leaving), v .carriable)
 
 sub-answer : tie.Need-sub-answer
 sub-answer c = search needs
@@ -115,7 +118,11 @@ move-to-requires c κs =
     let k = at .pre .0 .0 in
     let g = at .pre .1 .1 in (
       searchable k,
-      (g .0, omega (arith, g .0, answer-low (k .planned) (k .column) (k .row) (read (r .before .before .before)) (says r)), g .2 ∙ box-of k (at .args .cut .0) (g .0)),
+      (
+        g .0,
+        omega (arith, g .0, answer-low (k .planned) (k .column) (k .row) (read (r .before .before .before)) (says r)),
+        g .2 ∙ box-of k (at .args .cut .0) (g .0),
+      ),
     )
 
 answered-requires : tie.Need-answered-requires

@@ -93,7 +93,8 @@ returns-2 c =
     rw (c .answered .ensures)
     (record {
       state =
-          state-is Coarse (frameOf (at .args .file .now)) (at .args .s) (at .args .t) (at .args .cut .0) (at .args .shifts) (f .level) (f .shifts) (f .level)
+          state-is Coarse (frameOf (at .args .file .now)) (at .args .s) (at .args .t) (at .args .cut .0) (at .args .shifts) (f .level) (f .shifts)
+          (f .level)
           (record { sums = at .args .a; below = f .tally; free = record { head = 0; count = 0 } })
           (says r .cut) (says r .shifts) (says r .answer);
       guided = record { sums = at .pre .1 .0; below = says r .below; histogram = at .pre .1 .1 };

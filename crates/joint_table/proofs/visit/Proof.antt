@@ -1,6 +1,6 @@
 -- `visit` meets its contract: the answer is the new cut point; a window with no reading keeps the old one. Assumes nothing.
 use borrow.Author.Needs.{needs}
-use mathlib.Core.Path.{_≡_, refl, sym, _∙_}
+use mathlib.Core.Path.{_≡_, refl, _∙_}
 use mathlib.Core.Bool.{false}
 use Prim.Native.Nat.{ℕ}
 use native.Mathlib.Omega.{arith}
@@ -24,7 +24,7 @@ returns : tie.Need-returns
 returns c =
     let at = c .before .before .before .before .before .before in
     let p = frameOf (at .args .file .now) in
-    let none = count-empty p (at .args .column) (at .args .row) (sym (at .pre .0 .3) ∙ c .before .if1 .taken) in
+    let none = count-empty p (at .args .column) (at .args .row) (omega (arith, at .pre .0 .3, c .before .if1 .taken)) in
     rw (c .unread .ensures) (
       unread-state (at .args .way) p (at .args .column) (at .args .row) (at .args .cut) (at .args .shifts)
           (record { count = at .args .count; sum = 0; squares = 0 }) (record { head = 0; count = 0 }) none,

@@ -82,7 +82,12 @@ visit-requires c κs =
     let k = built (i .before) in
     let at = begin k in
     let f = at .pre .0 .0 in (
-      (counted-of (f .planned) (f .column) (f .row) (k .build .ensures), at .pre .1 .0, kind-table (f .planned) (i .if1 .left), c .before .before .before .start .ensures .count),
+      (
+        counted-of (f .planned) (f .column) (f .row) (k .build .ensures),
+        at .pre .1 .0,
+        kind-table (f .planned) (i .if1 .left),
+        c .before .before .before .start .ensures .count,
+      ),
       (levels-some (f .planned), omega arith, k .build .ensures .box),
     )
 

@@ -77,7 +77,8 @@ loop-again : tie.Need-loop-again Inv-loop μ-loop
 loop-again c =
     let t = c .before .before in (
       omega (arith, t .loop-test .taken),
-      copied-next (turn-low c) (t .before .loop .inv .1) (c .before .value-at .ensures) (c .guide-at .ensures) (omega (arith, c .before .value-at .ok)),
+      copied-next (turn-low c) (t .before .loop .inv .1) (c .before .value-at .ensures) (c .guide-at .ensures)
+          (omega (arith, c .before .value-at .ok)),
       put-long (t .before .loop .places) (t .before .loop .k) (c .before .value-at .result) (c .guide-at .result .0) ∙ t .before .loop .inv .2,
     )
 

@@ -72,16 +72,25 @@ add-total d =
     omega (arith, c .before .value-at .ok, t .before .loop .inv .1 .low, t .loop-test .taken, start (t .before) .pre .1 .few)
 
 add-sum : tie.Need-add-sum Inv-loop μ-loop
-add-sum d = let c = d .before in let t = turn c in omega (arith, small c .0, t .before .loop .inv .1 .sum-high, t .loop-test .taken, start (t .before) .pre .1 .few)
+add-sum d =
+    let c = d .before in
+    let t = turn c in
+    omega (arith, small c .0, t .before .loop .inv .1 .sum-high, t .loop-test .taken, start (t .before) .pre .1 .few)
 
 mul-squares : tie.Need-mul-squares Inv-loop μ-loop
 mul-squares c = omega (arith, small (c .before) .1)
 
 add-squares : tie.Need-add-squares Inv-loop μ-loop
-add-squares d = let c = d .before in let t = turn c in omega (arith, small c .1, t .before .loop .inv .1 .squares-high, t .loop-test .taken, start (t .before) .pre .1 .few)
+add-squares d =
+    let c = d .before in
+    let t = turn c in
+    omega (arith, small c .1, t .before .loop .inv .1 .squares-high, t .loop-test .taken, start (t .before) .pre .1 .few)
 
 add-k : tie.Need-add-k Inv-loop μ-loop
-add-k d = let c = d .before in let t = turn c in omega (arith, t .loop-test .taken, start (t .before) .pre .1 .few)
+add-k d =
+    let c = d .before in
+    let t = turn c in
+    omega (arith, t .loop-test .taken, start (t .before) .pre .1 .few)
 
 loop-less : tie.Need-loop-less Inv-loop μ-loop
 loop-less c = omega (arith, turn (c .before) .loop-test .taken)
