@@ -1,2 +1,1 @@
-pub mod GuideSumLaws
 pub mod VisitLaws

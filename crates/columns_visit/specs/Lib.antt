@@ -1,2 +1,1 @@
-pub mod GuideSums
 pub mod Visit

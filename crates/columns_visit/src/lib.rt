@@ -1,6 +1,4 @@
 // Way 2 at a window of a walk: its store and its sums made or moved, its answer, the cut point after it, and the shift count.
-pub mod guide_sums;
-
 use chain_nodes::FreeList;
 use columns::store;
 use level_search::Tally;
@@ -16,7 +14,6 @@ use window::line;
 use window_weights::coefficients;
 use window_weights::coefficients::Coefficients;
 ghost use mathlib.Core.Path.{_≡_};
-ghost use mathlib.Core.Bool.{true};
 ghost use Prim.Native.Nat.{_+_, _*_, _<_, _≤_};
 ghost use lib.ListN.{length};
 ghost use Rattle.spec.specs.declared.Way.the-variants.{Columns};
@@ -28,7 +25,6 @@ ghost use Rattle.spec.specs.declared.Way.the-variants.{Columns};
 ghost use Rattle.spec.specs.Walk.{arrive};
 ghost use Rattle.window.specs.Line.{Adjacent};
 ghost use Rattle.levels.specs.Answer.{Answerable, FromCut};
-ghost use Rattle.levels.specs.Tally.{BelowAt};
 ghost use Rattle.level_search.specs.Search.{FoundAt};
 ghost use Rattle.visit.specs.Visit.{Within};
 ghost use Rattle.columns_visit.specs.Visit.{windowCounts, windowGuides, ColumnsAt, ColumnsVisited};
@@ -64,34 +60,6 @@ pub fn answer_from(
         cut,
         shifts,
     )
-}
-
-// The tally of the levels up to the cut point, carried to the neighbouring window at (column, row) where that is asked for: the two lines are read
-// only there.
-pub fn carried(
-    file: &[u8],
-    plan: Plan,
-    asked: bool,
-    from: Visit,
-    column: usize,
-    row: usize,
-) -> Tally
-    requires { ⌜ (Planned (now file) plan) × (Adjacent plan (from .column) (from .row) column row)
-        × (BelowAt (frameOf (now file)) (from .column) (from .row) (from .cut .0 + 1) (from .running .below)) ⌝ }
-    ensures { λ r. ⌜ (asked ≡ true → BelowAt (frameOf (now (file .entry))) column row (from .cut .0 + 1) r) ⌝ }
-{
-    let known = from.running;
-    let earlier = known.below;
-    if asked {
-        let cut = from.cut;
-        let step = line::step_to(plan, from.column, from.row, column, row);
-        let mut entering = [0u16; 62];
-        let mut leaving = [0u16; 62];
-        let n = pixels::read(file, plan, step.entering, &mut entering);
-        let m = pixels::read(file, plan, step.leaving, &mut leaving);
-        return tally::carried(earlier, &entering[0..n], &leaving[0..m], cut.0 as usize + 1);
-    }
-    earlier
 }
 
 // A walk comes to its first window, whatever the store held. From cut point 0 a monotone window is searched like any other, and one with no reading
@@ -134,18 +102,24 @@ pub fn slide(
         (arrive Columns (frameOf (now (file .entry))) column row (from .cut .0) (from .shifts)) (now (blocks .entry)) r (now (blocks .exit)) ⌝ }
 {
     let step = line::step_to(plan, from.column, from.row, column, row);
+    let mut entering = [0u16; 62];
+    let mut leaving = [0u16; 62];
+    let n = pixels::read(file, plan, step.entering, &mut entering);
+    let k = pixels::read(file, plan, step.leaving, &mut leaving);
     let known = from.running;
     let former = known.sums;
-    let present = guide_sums::moved(file, plan, former, step);
-    store::slide(file, plan, blocks, from.column, from.row, column, row);
+    let earlier = known.below;
     let cut = from.cut;
+    let present = sums::moved(former, &entering[0..n], &leaving[0..k]);
+    store::slide(file, plan, blocks, from.column, from.row, column, row);
     let free = FreeList { head: 0, count: 0 };
     if present.count == 0 {
         return visit::unread(column, row, cut, from.shifts, present, free);
     }
     let coefficients = coefficients::of_window(file, plan, present, column, row);
     let monotone = coefficients::monotone(plan, coefficients);
-    let tally = carried(file, plan, monotone, from, column, row);
+    let end = cut.0 as usize + 1;
+    let tally = tally::carried_where(monotone, earlier, &entering[0..n], &leaving[0..k], end);
     let found = answer_from(
         plan,
         blocks,

@@ -1,7 +1,8 @@
--- A line without a dead pixel, copied whole: every value is at most their sum, so a sum below 65,535 has none that says there is no reading.
+-- A line copied whole: every value is at most their sum, so a sum below 65,535 has none that says there is no reading; and the largest sum that there
+-- can be has no other.
 -- Assumes nothing.
-use mathlib.Core.Path.{_≡_, refl, ap, ap₂, _∙_}
-use mathlib.Core.Bool.{false}
+use mathlib.Core.Path.{_≡_, refl, sym, ap, ap₂, _∙_}
+use mathlib.Core.Bool.{true, false}
 use mathlib.Core.Logic.{⊎-elim}
 use mathlib.Core.List.{List}
 use Prim.Native.Nat.{ℕ, _+_, _*_, _≤_, _<_}
@@ -10,24 +11,27 @@ use lib.Dec.{eqb}
 use lib.ListN.{length, set, take, length-set}
 use lib.IntN.{pos, _+ℤ_}
 use lib.Seq.{getD-set-same, getD-set-other, getD-take, length-take-le}
-use borrow.Author.Tests.{ne-eqb}
+use borrow.Author.Tests.{eq-eqb, ne-eqb}
 use Rattle.ints.specs.Order.{eq-or-ne}
 use Rattle.spec.specs.declared.Plan.{Plan}
 use Rattle.spec.specs.Base.{if_then_else_}
 use Rattle.spec.specs.Frame.{noReading, pixelLevel, pixelGuide}
 use Rattle.spec.specs.Checks.{Planned}
-use Rattle.spec.proofs.Ranges.{AdditionLaws, natSums, intSums, fold-same}
+use Rattle.spec.proofs.Ranges.{AdditionLaws, natSums, intSums, fold-none, fold-same}
 use Rattle.window.specs.declared.line.Line.{Line}
 use Rattle.window.specs.Line.{InPlanes, pixelOf, reading, lineFoldTo}
 use Rattle.window.proofs.PixelLaws.{level-low, guide-low}
 use Rattle.pixels.specs.Pixels.{countOf, levelIn, guideIn, pixelFoldTo, LinePixels}
 use Rattle.pixels.proofs.Laws.{put-long}
+use Rattle.pixels.proofs.AdditiveLaws.{pixels-none}
 
 -- the list has the line's first n pixels, and no value is above the total
 pub record CopiedTo (b : List ℕ) (d : Line) (n total : ℕ) (p : List ℕ) : Type 0 where
   pub long : 62 ≤ length p
   pub low : total ≤ 65535 * n
   pub most : (k : ℕ) → k < n → pixelLevel b (pixelOf d k) ≤ total
+  pub small : (k : ℕ) → k < n → pixelLevel b (pixelOf d k) ≤ 65535
+  pub least : (k : ℕ) → k < n → total + 65535 ≤ 65535 * n + pixelLevel b (pixelOf d k)
   pub level : (k : ℕ) → k < n → levelIn p k ≡ pixelLevel b (pixelOf d k)
   pub guide : (k : ℕ) → k < n → guideIn p k ≡ pixelGuide b (pixelOf d k)
 
@@ -36,20 +40,24 @@ copied-none b d p e = record {
   long = e;
   low = omega arith;
   most = λ k h. absurd (omega arith);
+  small = λ k h. absurd (omega arith);
+  least = λ k h. absurd (omega arith);
   level = λ k h. absurd (omega arith);
   guide = λ k h. absurd (omega arith);
 }
 
 module _ {b : List ℕ} {d : Line} {k total i f : ℕ} {p : List ℕ} (h : k < 31) (v : CopiedTo b d k total p) (ei : i ≡ pixelLevel b (pixelOf d k))
-    (ef : f ≡ pixelGuide b (pixelOf d k)) (small : i ≤ 65535) where
+    (ef : f ≡ pixelGuide b (pixelOf d k)) (li : i ≤ 65535) where
   inside : 2 * k + 1 < length p
   inside = omega (arith, v .long)
 
   pub copied-next : CopiedTo b d (k + 1) (total + i) (set (set p (2 * k) i) (2 * k + 1) f)
   copied-next = record {
     long = rw (put-long p k i f) (v .long);
-    low = omega (arith, v .low, small);
+    low = omega (arith, v .low, li);
     most = λ j l. ⊎-elim (λ q. rw q (omega (arith, ei))) (λ n. omega (arith, v .most j (omega arith))) (eq-or-ne j k);
+    small = λ j l. ⊎-elim (λ q. rw q (omega (arith, ei, li))) (λ n. v .small j (omega arith)) (eq-or-ne j k);
+    least = λ j l. ⊎-elim (λ q. rw q (omega (arith, ei, v .low))) (λ n. omega (arith, li, v .least j (omega arith))) (eq-or-ne j k);
     level = λ j l. getD-set-other (set p (2 * k) i) (2 * k + 1) (2 * j) f 0 (λ e. absurd (omega arith))
         ∙ ⊎-elim (λ q. rw q (getD-set-same p (2 * k) i 0 (omega (arith, inside)) ∙ ei))
         (λ n. getD-set-other p (2 * k) (2 * j) i 0 (λ e. n (omega arith)) ∙ v .level j (omega arith)) (eq-or-ne j k);
@@ -99,3 +107,21 @@ module _ {b : List ℕ} {z : Plan} {d : Line} {total : ℕ} {p : List ℕ} (pl :
     sum = λ h. ap (pixelFoldTo _+_ 0 part h) many ∙ whole-fold _+_ 0 natSums b d n part live level guide h;
     sumℤ = λ h. ap (pixelFoldTo _+ℤ_ (pos 0) part h) many ∙ whole-fold _+ℤ_ (pos 0) intSums b d n part live level guide h;
   }
+
+-- ---- and where all of them are dead, nothing is left
+dead-fold : {A : Type 0} (_⊕_ : A → A → A) (o : A) → AdditionLaws _⊕_ o → (b : List ℕ) (d : Line) (n : ℕ)
+    → ((k : ℕ) → k < n → eqb (pixelLevel b (pixelOf d k)) noReading ≡ true) → (h : ℕ → ℕ → A) → lineFoldTo _⊕_ o b d h n ≡ o
+unfolding lineFoldTo
+dead-fold _⊕_ o laws b d n dead h = fold-same _⊕_ o laws _ (λ k. o) 0 _ (λ k x y. rw (dead k (omega arith)) refl) ∙ fold-none _⊕_ o laws 0 n
+
+all-dead : {b : List ℕ} {d : Line} {total : ℕ} {p : List ℕ} → CopiedTo b d (d .count) total p → total ≡ d .count * noReading
+    → (k : ℕ) → k < d .count → eqb (pixelLevel b (pixelOf d k)) noReading ≡ true
+all-dead {b} {d} v full k h = eq-eqb (pixelLevel b (pixelOf d k)) noReading (omega (arith, full, v .least k h, v .small k h))
+
+pub none-left : {b : List ℕ} {z : Plan} {d : Line} {total : ℕ} {p : List ℕ} → CopiedTo b d (d .count) total p → total ≡ d .count * noReading
+    → LinePixels b z d (take 0 p)
+none-left {b} {z} {d} {total} {p} v full = record {
+  below = record { few = omega arith; level = λ k h. absurd (omega arith); guide = λ k h. absurd (omega arith) };
+  sum = λ h. pixels-none _+_ 0 (take 0 p) h ∙ sym (dead-fold _+_ 0 natSums b d (d .count) (all-dead v full) h);
+  sumℤ = λ h. pixels-none _+ℤ_ (pos 0) (take 0 p) h ∙ sym (dead-fold _+ℤ_ (pos 0) intSums b d (d .count) (all-dead v full) h);
+}

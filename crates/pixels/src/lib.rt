@@ -40,7 +40,7 @@ fn read_live(file: &[u8], plan: Plan, line: Line, places: &mut [u16]) -> usize
 }
 
 // The line's live pixels into the first places; how many places they take. First all pixels are copied and their values added up: a sum below that of
-// one dead pixel says that there is none, as in most lines, and then they stand as they should.
+// one dead pixel says that there is none, as in most lines, and then they stand as they should; the largest sum that they can have says that all are.
 pub fn read(file: &[u8], plan: Plan, line: Line, places: &mut [u16]) -> usize
     requires { ⌜ (Planned (now file) plan) × (InPlanes plan line) × (62 ≤ length (now places)) ⌝ }
     ensures { λ r. ⌜ (r ≤ 62) × (LinePixels (now (file .entry)) plan line (take r (now (places .exit)))) ⌝ }
@@ -63,6 +63,9 @@ pub fn read(file: &[u8], plan: Plan, line: Line, places: &mut [u16]) -> usize
     }
     if total < NO_READING as usize {
         return 2 * n;
+    }
+    if total == n * NO_READING as usize {
+        return 0;
     }
     read_live(file, plan, line, places)
 }

@@ -6,7 +6,7 @@ use Prim.Native.Nat.{_-_, _*_, _≤_, _<_}
 use lib.ListN.{length, length-set}
 use Rattle.window.proofs.PixelLaws.{place-small}
 use Rattle.pixels.proofs.Laws.{put-long}
-use Rattle.pixels.proofs.WholeLaws.{CopiedTo, copied-none, copied-next, whole-pixels}
+use Rattle.pixels.proofs.WholeLaws.{CopiedTo, copied-none, copied-next, whole-pixels, none-left}
 use Rattle.pixels.proofs.read.Statement.{statement}
 use Rattle.pixels.proofs.read.Tie as tie
 
@@ -98,17 +98,33 @@ returns c =
     let done : h .loop .k ≡ at .args .line .count = omega (arith, h .loop .inv .0, c .before .loop-test .left) in
     (omega (arith, at .pre .1 .few), whole-pixels (at .pre .0) (at .pre .1) (rw done at (h .loop .inv .1)) (c .if1 .taken))
 
+cast-if2 : tie.Need-cast-if2 Inv-loop μ-loop
+cast-if2 c = search needs
+
+mul-if2 : tie.Need-mul-if2 Inv-loop μ-loop
+mul-if2 c = omega (arith, start (c .before .before) .pre .1 .few)
+
+same-length-2 : tie.Need-same-length-2 Inv-loop μ-loop
+same-length-2 c = c .before .before .before .loop .inv .2
+
+returns-2 : tie.Need-returns-2 Inv-loop μ-loop
+returns-2 c =
+    let h = c .before .before .before in
+    let at = start h in
+    let done : h .loop .k ≡ at .args .line .count = omega (arith, h .loop .inv .0, c .before .before .loop-test .left) in
+    (omega arith, none-left (rw done at (h .loop .inv .1)) (c .if2 .taken))
+
 read-live-requires : tie.Need-read-live-requires Inv-loop μ-loop
 read-live-requires c κs =
-    let h = c .before .before .before in
+    let h = c .before .before .before .before in
     let at = start h in
     (at .pre .0, at .pre .1, omega (arith, h .loop .inv .1 .long))
 
-same-length-2 : tie.Need-same-length-2 Inv-loop μ-loop
-same-length-2 c = search needs
+same-length-3 : tie.Need-same-length-3 Inv-loop μ-loop
+same-length-3 c = search needs
 
-returns-2 : tie.Need-returns-2 Inv-loop μ-loop
-returns-2 c = c .before .before .read-live .ensures
+returns-3 : tie.Need-returns-3 Inv-loop μ-loop
+returns-3 c = c .before .before .read-live .ensures
 
 pub read-spec : {M : Type 1} → statement M
 read-spec =
@@ -136,6 +152,10 @@ read-spec =
     mul-result
     same-length
     returns
-    read-live-requires
+    cast-if2
+    mul-if2
     same-length-2
-    returns-2)
+    returns-2
+    read-live-requires
+    same-length-3
+    returns-3)
