@@ -1,12 +1,11 @@
 //! Small frames with dead pixels, from one to all, and of both kinds: every window as a walk's only one, walks from every
 //! window and through all of them in every serving way, and balances at every level that tells two answers apart.
 
-use crate::frames::{place, test_accepted, test_walk_from, try_balance};
+use crate::every_window;
 use crate::tally::Tally;
 use crate::Check;
-use sorting_filter::frame::{Settings, KIND_GUIDED, KIND_TABLE, NO_READING};
-use sorting_filter::random::{kill, moves, random_classes, random_guides, random_table, random_values, Random};
-use sorting_filter::store::Way;
+use sorting_filter::frame::{Settings, KIND_GUIDED, KIND_TABLE};
+use sorting_filter::random::{kill, random_classes, random_guides, random_table, random_values, Random};
 use sorting_filter::writer;
 
 /// Width, height, level count, guide count and radius: single pixels, rows, columns, windows clipped on all sides
@@ -26,7 +25,6 @@ const SHAPES: [(u16, u16, u16, u16, u8); 10] = [
 
 /// Frames of each shape and kind.
 const FRAMES: usize = 6;
-const MOVES: usize = 30;
 
 pub fn test(random: &mut Random, tally: &mut Tally) -> Check {
     for (width, height, levels, guides, radius) in SHAPES {
@@ -57,28 +55,5 @@ pub fn file(random: &mut Random, settings: &Settings) -> Result<(Vec<u8>, Vec<u1
 
 fn test_frame(random: &mut Random, settings: &Settings, tally: &mut Tally) -> Check {
     let (file, values) = file(random, settings)?;
-    test_accepted(random, &file, tally)?;
-    let levels = levels_about(&values, settings);
-    for pixel in 0..settings.pixels() {
-        let place = place(settings, pixel);
-        for way in Way::ALL.into_iter().filter(|way| way.serves(settings.kind)) {
-            test_walk_from(random, &file, way, place, &[], tally)?;
-            let moves = moves(random, settings, MOVES);
-            test_walk_from(random, &file, way, place, &moves, tally)?;
-        }
-        for &level in &levels {
-            try_balance(&file, place, u32::from(level), tally)?;
-        }
-    }
-    Ok(())
-}
-
-/// Balances change at the levels that occur and nowhere else: these, those below them, and both ends.
-pub fn levels_about(values: &[u16], settings: &Settings) -> Vec<u16> {
-    let live = values.iter().filter(|&&value| value != NO_READING);
-    let mut levels: Vec<u16> = live.flat_map(|&value| [value.saturating_sub(1), value]).collect();
-    levels.extend([0, settings.levels - 1]);
-    levels.sort_unstable();
-    levels.dedup();
-    levels
+    every_window::test(random, settings, &file, &values, tally)
 }

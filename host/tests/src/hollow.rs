@@ -1,13 +1,11 @@
 //! Small frames in which hollow windows lie beside others: every window as a walk's only one, walks from every window
 //! and through all of them, and balances at every level that tells two answers apart.
 
-use crate::dead::levels_about;
-use crate::frames::{place, test_accepted, test_walk_from, try_balance};
+use crate::every_window;
 use crate::tally::Tally;
 use crate::Check;
 use sorting_filter::frame::{Settings, KIND_TABLE};
-use sorting_filter::random::{moves, random_classes, random_values, Random};
-use sorting_filter::store::Way;
+use sorting_filter::random::{random_classes, random_values, Random};
 use sorting_filter::writer;
 
 /// Width, height, level count, guide count and radius: single pixels, rows, columns, windows clipped on all sides
@@ -27,7 +25,6 @@ const SHAPES: [(u16, u16, u16, u16, u8); 10] = [
 
 /// Frames of each shape.
 const FRAMES: usize = 8;
-const MOVES: usize = 30;
 
 pub fn test(random: &mut Random, tally: &mut Tally) -> Check {
     for (width, height, levels, guides, radius) in SHAPES {
@@ -49,18 +46,5 @@ pub fn file(random: &mut Random, settings: &Settings) -> Result<(Vec<u8>, Vec<u1
 
 fn test_frame(random: &mut Random, settings: &Settings, tally: &mut Tally) -> Check {
     let (file, values) = file(random, settings)?;
-    test_accepted(random, &file, tally)?;
-    let levels = levels_about(&values, settings);
-    for pixel in 0..settings.pixels() {
-        let place = place(settings, pixel);
-        for way in [Way::Joint, Way::Coarse] {
-            test_walk_from(random, &file, way, place, &[], tally)?;
-            let moves = moves(random, settings, MOVES);
-            test_walk_from(random, &file, way, place, &moves, tally)?;
-        }
-        for &level in &levels {
-            try_balance(&file, place, u32::from(level), tally)?;
-        }
-    }
-    Ok(())
+    every_window::test(random, settings, &file, &values, tally)
 }

@@ -8,6 +8,7 @@
 mod buffers;
 mod damaged;
 mod dead;
+mod every_window;
 mod explain;
 mod frames;
 mod hollow;
