@@ -35,7 +35,7 @@ use Rattle.spec.specs.Frame.{
   frameWith,
   valueOf,
 }
-use Rattle.spec.specs.Checks.{verdict, PlaneFits, Pictured, SettingsLimits}
+use Rattle.spec.specs.Checks.{verdict, PlaneFits, Pictured, Planned, SettingsLimits}
 use Rattle.spec.proofs.Checks.{Near, FilePassed, passed}
 use Rattle.spec.proofs.Limits.{FrameLimits, Pixel, limits-of, limits-with}
 
@@ -81,6 +81,10 @@ own b u ok fit =
 
 pub facts : {b u : List ℕ} {z : Plan} → Pictured b u z → Facts b u z
 facts {b} {u} {z} k = subst (λ (q : Plan). Facts b u q) (sym (k .plan)) (own b u (k .accepts) (k .fits))
+
+-- the file by itself
+pub with-own : {b u : List ℕ} {z : Plan} → Pictured b u z → Planned b z
+with-own k = record { accepts = k .accepts; plan = k .plan; fits = tt }
 
 -- a pixel of the plan is a pixel of the frame
 pub pixel-of : {b u : List ℕ} {z : Plan} → Pictured b u z → {s t : ℕ} → s < z .width → t < z .height → Pixel (frameWith b u) s t
