@@ -145,22 +145,22 @@ module _ (b : List ℕ) (ok : verdict b ≡ accepted) where
   guide-below q h = scan-accepted _ _ _ _ (passed b ok .guides) q h
 
   -- the same of a plane in place of the file's own
-  pub value-live : (u : List ℕ) → PlaneFits b u → (q : ℕ) → q < pixels (settingsOf b)
-      → eqb (valueOf b u q) noReading ≡ false → valueOf b u q < settingsOf b .levels
+  pub value-live : (vs : List ℕ) → PlaneFits b vs → (q : ℕ) → q < pixels (settingsOf b)
+      → eqb (valueOf b vs q) noReading ≡ false → valueOf b vs q < settingsOf b .levels
   value-live [] fit q h e = level-live q h e
   value-live (v ∷ vs) fit q h e = fit .low q h e
 
-  pub value-dead : (u : List ℕ) → PlaneFits b u → (q : ℕ) → q < pixels (settingsOf b)
-      → eqb (valueOf b u q) noReading ≡ eqb (pixelLevel b q) noReading
+  pub value-dead : (vs : List ℕ) → PlaneFits b vs → (q : ℕ) → q < pixels (settingsOf b)
+      → eqb (valueOf b vs q) noReading ≡ eqb (pixelLevel b q) noReading
   value-dead [] fit q h = refl
   value-dead (v ∷ vs) fit q h = fit .dead q h
 
-  pub limits-with : (u : List ℕ) → PlaneFits b u → FrameLimits (frameWith b u)
+  pub limits-with : (vs : List ℕ) → PlaneFits b vs → FrameLimits (frameWith b vs)
   unfolding frameOf
-  limits-with u fit =
+  limits-with vs fit =
       record {
         sound = settings-limits (settingsOf b) (passed b ok .settings);
-        level-low = λ x y hx hy. value-live u fit _ (in-plane (settingsOf b) x y hx hy);
+        level-low = λ x y hx hy. value-live vs fit _ (in-plane (settingsOf b) x y hx hy);
         guide-low = λ x y hx hy. guide-below _ (in-plane (settingsOf b) x y hx hy);
       }
 

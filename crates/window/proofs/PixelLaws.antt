@@ -14,7 +14,7 @@ use Rattle.spec.proofs.Limits.{value-live, guide-below}
 use Rattle.spec.proofs.Plans.{facts, plane-small}
 use Rattle.window.specs.Line.{PlanLimits}
 
-module _ {b u : List ℕ} {z : Plan} (pl : Pictured b u z) where
+module _ {b vs : List ℕ} {z : Plan} (pl : Pictured b vs z) where
   pub plan-limits : PlanLimits z
   plan-limits =
       let f = facts pl in
@@ -40,21 +40,21 @@ module _ {b u : List ℕ} {z : Plan} (pl : Pictured b u z) where
     unfolding frameOf
     in-pixels = let f = facts pl in rw (f .width, f .height) at h
 
-    pub level-low : eqb (valueOf b u q) noReading ≡ false → valueOf b u q < z .levels
+    pub level-low : eqb (valueOf b vs q) noReading ≡ false → valueOf b vs q < z .levels
     unfolding frameOf
-    level-low e = rw (facts pl .levels) (value-live b (pl .accepts) u (pl .fits) q in-pixels e)
+    level-low e = rw (facts pl .levels) (value-live b (pl .accepts) vs (pl .fits) q in-pixels e)
 
     -- of a plane that is there: its number, and that it has it
-    pub plane-in : (length u ≡ 0 → ⊥) → (q < length u) × (getD u q 0 ≡ valueOf b u q)
-    plane-in = go u (pl .fits)
+    pub plane-in : (length vs ≡ 0 → ⊥) → (q < length vs) × (getD vs q 0 ≡ valueOf b vs q)
+    plane-in = go vs (pl .fits)
       where
         go : (v : List ℕ) → PlaneFits b v → (length v ≡ 0 → ⊥) → (q < length v) × (getD v q 0 ≡ valueOf b v q)
         go [] fit n = absurd (n refl)
         go (v ∷ vs) fit n = (rw (fit .long) in-pixels, refl)
 
     -- of none
-    pub plane-none : length u ≡ 0 → pixelLevel b q ≡ valueOf b u q
-    plane-none = go u
+    pub plane-none : length vs ≡ 0 → pixelLevel b q ≡ valueOf b vs q
+    plane-none = go vs
       where
         go : (v : List ℕ) → length v ≡ 0 → pixelLevel b q ≡ valueOf b v q
         go [] e = refl

@@ -79,7 +79,7 @@ reading e h i f = if eqb i noReading then e else h i f
 -- the sum over a line of h at each live pixel's level and guide, in a file with its own values or those of a plane; of its first n pixels
 module _ {A : Type 0} (_⊕_ : A → A → A) (e : A) where
   unfoldable pub lineFoldTo : (file plane : List ℕ) → Line → (ℕ → ℕ → A) → ℕ → A
-  lineFoldTo b u d h n = fold _⊕_ e (λ k. reading e h (valueOf b u (pixelOf d k)) (pixelGuide b (pixelOf d k))) 0 n
+  lineFoldTo b vs d h n = fold _⊕_ e (λ k. reading e h (valueOf b vs (pixelOf d k)) (pixelGuide b (pixelOf d k))) 0 n
 
   abbrev pub lineFold : (file plane : List ℕ) → Line → (ℕ → ℕ → A) → A
-  lineFold b u d h = lineFoldTo b u d h (d .count)
+  lineFold b vs d h = lineFoldTo b vs d h (d .count)
