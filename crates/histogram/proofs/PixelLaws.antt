@@ -2,7 +2,7 @@
 -- Assumes nothing.
 use mathlib.Core.Path.{_≡_, sym, _∙_, subst}
 use mathlib.Core.Bool.{Bool, true}
-use mathlib.Core.List.{List}
+use mathlib.Core.List.{List, []}
 use Prim.Native.Nat.{ℕ, _+_, _-_, _≤_, _<_}
 use native.Mathlib.Omega.{arith}
 use lib.ListN.{length, getD}
@@ -65,11 +65,11 @@ module _ {b : List ℕ} {z : Plan} (pl : Planned b z) where
   filled-start x t o = record {
     long = o .long;
     low = λ q l. omega (arith, o .zeros q l);
-    cells = λ q l. o .zeros q l ∙ sym (columns-none _+_ 0 b z x t (share (z .levels) q));
+    cells = λ q l. o .zeros q l ∙ sym (columns-none _+_ 0 b [] z x t (share (z .levels) q));
   }
 
   module _ {x t n : ℕ} {xs : List ℕ} (v : HistogramFilled b z x t n xs) {d : Line} (ed : d ≡ columnLine z (x + n) t)
-      {p : List ℕ} (r : LinePixels b z d p)
+      {p : List ℕ} (r : LinePixels b [] z d p)
     where
       pub fill-asks : n < 31 →
           ((z .levels ≤ 1024) × (z .levels + z .levels ≤ length xs) × PixelsBelow (z .levels) 256 p) × RoomFor true (z .levels) p xs
@@ -88,16 +88,16 @@ module _ {b : List ℕ} {z : Plan} (pl : Planned b z) where
             let a : HistogramPlace (z .levels) = record { at = q; low = l } in
             omega (arith, g .cells a, v .low q l, list-high (below pl (r .below)) a);
         cells = λ q l. let h =
-            share (z .levels) q in omega (arith, g .cells (record { at = q; low = l }), v .cells q l, columns-more _+_ 0 b z x t h n p ed (r .sum h));
+            share (z .levels) q in omega (arith, g .cells (record { at = q; low = l }), v .cells q l, columns-more _+_ 0 b [] z x t h n p ed (r .sum h));
       }
 
   pub filled-end : {s t n x : ℕ} {xs : List ℕ} → x ≡ s - z .radius → n ≡ span (z .radius) s (z .width) → HistogramFilled b z x t n xs →
       Histogram (frameOf b) s t xs
-  filled-end {s} {t} {x = x} ex en v = histogram-of pl (v .long) (λ q l. v .cells q l ∙ columns-window _+_ 0 b z x t (share (z .levels) q) pl s ex en)
+  filled-end {s} {t} {x = x} ex en v = histogram-of pl (v .long) (λ q l. v .cells q l ∙ columns-window _+_ 0 b [] z x t (share (z .levels) q) pl s ex en)
 
 -- ---- a step of the window
 module _ {b : List ℕ} {z : Plan} (pl : Planned b z) {s t s′ t′ : ℕ} (adj : Adjacent z s t s′ t′) {d : Step} (ed : d ≡ stepOf z s t s′ t′)
-    {e l : List ℕ} (re : LinePixels b z (d .entering) e) (rl : LinePixels b z (d .leaving) l) {xs : List ℕ} (v : Histogram (frameOf b) s t xs) where
+    {e l : List ℕ} (re : LinePixels b [] z (d .entering) e) (rl : LinePixels b [] z (d .leaving) l) {xs : List ℕ} (v : Histogram (frameOf b) s t xs) where
   abbrev L : ℕ
   L = z .levels
 

@@ -1,7 +1,7 @@
 -- Tallies of lists, and over a step of the window.
 -- Assumes nothing.
 use mathlib.Core.Path.{_≡_, sym, ap₂, _∙_}
-use mathlib.Core.List.{List}
+use mathlib.Core.List.{List, []}
 use Prim.Native.Nat.{ℕ, _+_, _-_, _≤_, _<_}
 use native.Mathlib.Nat.{le-trans, le-of-eq}
 use native.Mathlib.Omega.{arith}
@@ -57,7 +57,7 @@ module _ {p : List ℕ} (v : PixelsBelow 1024 256 p) (n : ℕ) {k : ℕ} (h : k 
 
 -- ---- a step of the window
 module _ {b : List ℕ} {z : Plan} (pl : Planned b z) {s t s′ t′ : ℕ} (adj : Adjacent z s t s′ t′) {d : Step} (ed : d ≡ stepOf z s t s′ t′)
-    {e l : List ℕ} (re : LinePixels b z (d .entering) e) (rl : LinePixels b z (d .leaving) l) {n : ℕ} {a : Tally} (v : BelowAt (frameOf b) s t n a)
+    {e l : List ℕ} (re : LinePixels b [] z (d .entering) e) (rl : LinePixels b [] z (d .leaving) l) {n : ℕ} {a : Tally} (v : BelowAt (frameOf b) s t n a)
   where
     pub carriable : Carriable e l n a
     unfolding belowSum
