@@ -16,8 +16,8 @@ use Rattle.spec.specs.declared.Plan.{Plan}
 use Rattle.spec.specs.declared.Way.{Way}
 use Rattle.spec.specs.declared.Way.the-variants.{Joint, Coarse}
 use Rattle.spec.specs.Base.{if_then_else_}
-use Rattle.spec.specs.Frame.{Frame, frameOf}
-use Rattle.spec.specs.Checks.{Planned}
+use Rattle.spec.specs.Frame.{Frame, frameWith}
+use Rattle.spec.specs.Checks.{Pictured}
 use Rattle.spec.specs.Window.{pixelCount}
 use Rattle.spec.specs.Joint.{balanceBox}
 use Rattle.spec.specs.Walk.{byBlocks, arrive}
@@ -38,16 +38,16 @@ use Rattle.visit.proofs.Laws.{at-visit}
 use Rattle.joint_guided.specs.Guided.{GuidedVisited, BlocksVisited}
 use Rattle.joint_visit.specs.Visit.{JointWay, boxCut, JointCarried, JointVisited}
 
-module _ {b : List ℕ} {z : Plan} (pl : Planned b z) where
-  pub counted-of : {s t c : ℕ} {xs ws xs′ ws′ : List ℕ} {bx′ : List ℤ} → s < z .width → t < z .height → JointAt (frameOf b) s t c xs ws xs′ ws′ bx′ →
-      Counted b z s t xs′ ws′
+module _ {b vs : List ℕ} {z : Plan} (pl : Pictured b vs z) where
+  pub counted-of : {s t c : ℕ} {xs ws xs′ ws′ : List ℕ} {bx′ : List ℤ} → s < z .width → t < z .height → JointAt (frameWith b vs) s t c xs ws xs′ ws′ bx′ →
+      Counted b vs z s t xs′ ws′
   counted-of hs ht j =
       let k = settled (pixel-of pl hs ht) j in
-      record { planned = pl; column = hs; row = ht; counts = k .counts; words = k .words }
+      record { pictured = pl; column = hs; row = ht; counts = k .counts; words = k .words }
 
   -- kind 1 carries the number of pixels alone
-  pub carried-count : {s t c : ℕ} {a : Sums} {w : Tally} {ns : List ℕ} → z .kind ≡ 1 → a .count ≡ pixelCount (frameOf b) s t
-      → JointCarried (frameOf b) s t c a w ns
+  pub carried-count : {s t c : ℕ} {a : Sums} {w : Tally} {ns : List ℕ} → z .kind ≡ 1 → a .count ≡ pixelCount (frameWith b vs) s t
+      → JointCarried (frameWith b vs) s t c a w ns
   carried-count one e = record { count = e; guided = λ two. absurd (omega (arith, one, facts pl .kind, two)) }
 
 -- ---- the number of pixels over a step, by the numbers of places of the two lists
@@ -60,17 +60,17 @@ places n p h =
     let e : n - 0 ≡ n = omega arith in
     ones (take (n - 0) (drop 0 p)) (countOf (take (n - 0) (drop 0 p))) ∙ ap (λ (m : ℕ). m / 2) (rw e (length-take-le n p h))
 
-module _ {b : List ℕ} {z : Plan} (pl : Planned b z) {s t s′ t′ : ℕ} (adj : Adjacent z s t s′ t′) {d : Step} (ed : d ≡ stepOf z s t s′ t′)
-    {n k : ℕ} (e l : List ℕ) (he : n ≤ length e) (hl : k ≤ length l) (re : LinePixels b z (d .entering) (take (n - 0) (drop 0 e)))
-    (rl : LinePixels b z (d .leaving) (take (k - 0) (drop 0 l))) {m : ℕ} (v : m ≡ pixelCount (frameOf b) s t) where
-  count-stepped : pixelCount (frameOf b) s′ t′ + k / 2 ≡ m + n / 2
+module _ {b vs : List ℕ} {z : Plan} (pl : Pictured b vs z) {s t s′ t′ : ℕ} (adj : Adjacent z s t s′ t′) {d : Step} (ed : d ≡ stepOf z s t s′ t′)
+    {n k : ℕ} (e l : List ℕ) (he : n ≤ length e) (hl : k ≤ length l) (re : LinePixels b vs z (d .entering) (take (n - 0) (drop 0 e)))
+    (rl : LinePixels b vs z (d .leaving) (take (k - 0) (drop 0 l))) {m : ℕ} (v : m ≡ pixelCount (frameWith b vs) s t) where
+  count-stepped : pixelCount (frameWith b vs) s′ t′ + k / 2 ≡ m + n / 2
   unfolding pixelCount
   count-stepped = omega (arith, stepped (λ (g : ℕ → ℕ → ℕ). g) pl adj ed re rl one, places n e he, places k l hl, v)
 
   pub count-enough : k / 2 ≤ m + n / 2
   count-enough = omega (arith, count-stepped)
 
-  pub count-moved : m + n / 2 - k / 2 ≡ pixelCount (frameOf b) s′ t′
+  pub count-moved : m + n / 2 - k / 2 ≡ pixelCount (frameWith b vs) s′ t′
   count-moved = omega (arith, count-stepped)
 
 -- ---- the level of the box
@@ -111,43 +111,43 @@ joint-visited way p s t c n v xs ws xs′ ws′ bx ns e j k =
     }
 
 -- ---- by kind and way, from stores that were made or moved with the box at the kept level
-module _ {b : List ℕ} {z : Plan} (pl : Planned b z) (way : Way) (c n : ℕ) {s t : ℕ} {v : Visit}
+module _ {b vs : List ℕ} {z : Plan} (pl : Pictured b vs z) (way : Way) (c n : ℕ) {s t : ℕ} {v : Visit}
     {xs ws xs′ ws′ : List ℕ} {bx : List ℤ} {ns : List ℕ} where
   -- kind 1
-  pub table-visited : {d m : ℕ} {bx₀ : List ℤ} → z .kind ≡ 1 → m ≡ pixelCount (frameOf b) s t → JointAt (frameOf b) s t d xs ws xs′ ws′ bx₀
-      → (stateOf way v ≡ arrive way (frameOf b) s t c n) × (bx ≡ balanceBox (frameOf b) s t (v .cut .0)) × (v .running .sums .count ≡ m)
-      → JointVisited way (frameOf b) (arrive way (frameOf b) s t c n) v xs ws xs′ ws′ bx ns
+  pub table-visited : {d m : ℕ} {bx₀ : List ℤ} → z .kind ≡ 1 → m ≡ pixelCount (frameWith b vs) s t → JointAt (frameWith b vs) s t d xs ws xs′ ws′ bx₀
+      → (stateOf way v ≡ arrive way (frameWith b vs) s t c n) × (bx ≡ balanceBox (frameWith b vs) s t (v .cut .0)) × (v .running .sums .count ≡ m)
+      → JointVisited way (frameWith b vs) (arrive way (frameWith b vs) s t c n) v xs ws xs′ ws′ bx ns
   table-visited one em j e =
-      joint-visited way (frameOf b) s t c n v xs ws xs′ ws′ bx ns (e .0)
+      joint-visited way (frameWith b vs) s t c n v xs ws xs′ ws′ bx ns (e .0)
       (record {
         counts = j .counts;
         words = j .words;
-        box = e .1 ∙ ap (balanceBox (frameOf b) s t) (sym (box-cut-table (byBlocks way) (frameOf b .set .kind) (v .cut .0) (kind-of pl one)));
+        box = e .1 ∙ ap (balanceBox (frameWith b vs) s t) (sym (box-cut-table (byBlocks way) (frameWith b vs .set .kind) (v .cut .0) (kind-of pl one)));
       })
       (carried-count pl one (e .2 ∙ em))
 
   -- kind 2, way 1
-  pub guided-visited : {d : ℕ} {bx₀ : List ℤ} → JointWay way → byBlocks way ≡ false → JointAt (frameOf b) s t d xs ws xs′ ws′ bx₀
-      → GuidedVisited (frameOf b) s t c n v bx ns → JointVisited way (frameOf b) (arrive way (frameOf b) s t c n) v xs ws xs′ ws′ bx ns
+  pub guided-visited : {d : ℕ} {bx₀ : List ℤ} → JointWay way → byBlocks way ≡ false → JointAt (frameWith b vs) s t d xs ws xs′ ws′ bx₀
+      → GuidedVisited (frameWith b vs) s t c n v bx ns → JointVisited way (frameWith b vs) (arrive way (frameWith b vs) s t c n) v xs ws xs′ ws′ bx ns
   guided-visited w e j g =
       rw (joint-way way w e)
-      (joint-visited Joint (frameOf b) s t c n v xs ws xs′ ws′ bx ns (g .state)
+      (joint-visited Joint (frameWith b vs) s t c n v xs ws xs′ ws′ bx ns (g .state)
       (record {
         counts = j .counts;
         words = j .words;
-        box = g .box ∙ ap (balanceBox (frameOf b) s t) (sym (box-cut-joint (frameOf b .set .kind) (v .cut .0)));
+        box = g .box ∙ ap (balanceBox (frameWith b vs) s t) (sym (box-cut-joint (frameWith b vs .set .kind) (v .cut .0)));
       })
       (record { count = g .guided .sums .count; guided = λ _. g .guided }))
 
   -- kind 2, way 4: the box has not been touched since
-  pub blocks-visited : JointWay way → byBlocks way ≡ true → z .kind ≡ 2 → JointAt (frameOf b) s t 0 xs ws xs′ ws′ bx
-      → BlocksVisited (frameOf b) s t c n v ns → JointVisited way (frameOf b) (arrive way (frameOf b) s t c n) v xs ws xs′ ws′ bx ns
+  pub blocks-visited : JointWay way → byBlocks way ≡ true → z .kind ≡ 2 → JointAt (frameWith b vs) s t 0 xs ws xs′ ws′ bx
+      → BlocksVisited (frameWith b vs) s t c n v ns → JointVisited way (frameWith b vs) (arrive way (frameWith b vs) s t c n) v xs ws xs′ ws′ bx ns
   blocks-visited w e two j g =
       rw (coarse-way way w e)
-      (joint-visited Coarse (frameOf b) s t c n v xs ws xs′ ws′ bx ns (g .state)
+      (joint-visited Coarse (frameWith b vs) s t c n v xs ws xs′ ws′ bx ns (g .state)
       (record {
         counts = j .counts;
         words = j .words;
-        box = j .box ∙ ap (balanceBox (frameOf b) s t) (sym (box-cut-guided (frameOf b .set .kind) (v .cut .0) (kind-of pl two)));
+        box = j .box ∙ ap (balanceBox (frameWith b vs) s t) (sym (box-cut-guided (frameWith b vs .set .kind) (v .cut .0) (kind-of pl two)));
       })
       (record { count = g .guided .sums .count; guided = λ _. g .guided }))

@@ -15,7 +15,7 @@ use Rattle.histogram.proofs.start.Statement.{statement}
 use Rattle.histogram.proofs.start.Tie as tie
 
 abbrev Inv-loop : tie.InvT-loop
-Inv-loop file plan s t histogram₀ x n k₀ histogram k = (k ≤ n) × HistogramFilled file plan x t k histogram × (length histogram ≡ length histogram₀)
+Inv-loop file plan s t histogram₀ x n k₀ histogram k = (k ≤ n) × HistogramFilled file [] plan x t k histogram × (length histogram ≡ length histogram₀)
 
 abbrev μ-loop : tie.MeasureT-loop
 μ-loop file plan s t histogram₀ x n k₀ histogram k = n - k
