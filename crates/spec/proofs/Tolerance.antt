@@ -66,7 +66,7 @@ pub span-high : (l a u : ℕ) → (a ≡ noReading → ⊥) → a ≤ u → leb 
 unfolding badSpan
 span-high l a u e h = rw (ne-eqb a noReading e, le-ltb u a h) refl
 
--- what it lets pass: both dead; or neither, in order, and both levels
+-- what it lets pass: both dead; or neither, in order, and the upper one a level
 pub record Span (l a u : ℕ) : Type 0 where
   pub dead : eqb u noReading ≡ eqb a noReading
   pub order : a ≤ u
