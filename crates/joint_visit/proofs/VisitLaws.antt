@@ -58,12 +58,12 @@ module _ {b vs : List ℕ} {z : Plan} (pl : Pictured b vs z) where
   count-own {s} {t} a = a .count ∙ sym (same-sums b vs (pl .accepts) (pl .fits) s t .0)
 
 -- ---- with no plane: what the search of kind 2 asks for, which is said of the file's own values
-module _ {b vs : List ℕ} {z : Plan} {s t : ℕ} (none : vs ≡ []) where
-  pub counted-own : {xs ws : List ℕ} → Counted b vs z s t xs ws → Counted b [] z s t xs ws
-  counted-own {xs} {ws} = subst (λ (u : List ℕ). Counted b u z s t xs ws) none
+module _ (b : List ℕ) {vs : List ℕ} (s t : ℕ) (none : vs ≡ []) where
+  pub counted-own : {z : Plan} {xs ws : List ℕ} → Counted b vs z s t xs ws → Counted b [] z s t xs ws
+  counted-own {z} {xs} {ws} = subst (λ (u : List ℕ). Counted b u z s t xs ws) none
 
-  pub box-own : {c : ℕ} {bx : List ℤ} → bx ≡ balanceBox (frameWith b vs) s t c → bx ≡ balanceBox (frameOf b) s t c
-  box-own {c} {bx} = subst (λ (u : List ℕ). bx ≡ balanceBox (frameWith b u) s t c) none
+  pub box-own : (c : ℕ) {bx : List ℤ} → bx ≡ balanceBox (frameWith b vs) s t c → bx ≡ balanceBox (frameOf b) s t c
+  box-own c {bx} = subst (λ (u : List ℕ). bx ≡ balanceBox (frameWith b u) s t c) none
 
   pub sums-own : {a : Sums} → SumsAt (frameWith b vs) s t a → SumsAt (frameOf b) s t a
   sums-own {a} = subst (λ (u : List ℕ). SumsAt (frameWith b u) s t a) none

@@ -54,8 +54,8 @@ enter-requires c κs =
     let at = begin k in
     let f = at .pre .0 .0 in
     let none = at .pre .1 .2 (i .if1 .taken) in (
-      (counted-own none (counted-of (f .pictured) (f .column) (f .row) (k .build .ensures)), i .if1 .taken, at .pre .0 .1),
-      box-own none (k .build .ensures .box),
+      (counted-own (at .args .file .now) (at .args .column) (at .args .row) none (counted-of (f .pictured) (f .column) (f .row) (k .build .ensures)), i .if1 .taken, at .pre .0 .1),
+      box-own (at .args .file .now) (at .args .column) (at .args .row) none 0 (k .build .ensures .box),
     )
 
 same-length-4 : tie.Need-same-length-4
@@ -92,7 +92,7 @@ visit-requires c κs =
         kind-table (f .pictured) (i .if1 .left),
         count-own (f .pictured) (c .before .before .before .start .ensures),
       ),
-      (levels-some (f .pictured), omega arith, k .build .ensures .box),
+      (levels-some (with-own (f .pictured)), omega arith, k .build .ensures .box),
     )
 
 same-length-7 : tie.Need-same-length-7

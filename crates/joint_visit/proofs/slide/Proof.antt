@@ -51,7 +51,7 @@ begin d = d .before .before .before .before .before .before .before
 abbrev step : tie.After-read-in → tie.After-step-to
 step r = r .before .before
 
-abbrev first : tie.After-read-in2 → tie.After-read
+abbrev first : tie.After-read-in2 → tie.After-read-in
 first r = r .before .before .before
 
 abbrev opened : tie.After-read-in2 → tie.Start
@@ -259,7 +259,7 @@ arrive-by-blocks-requires c κs =
     let none = at .pre .1 .3 (i .if1 .taken) in
     let q = both-in (at .pre .0 .1) in (
       (with-own (at .pre .0 .0 .pictured), i .if1 .taken, q .2, q .3),
-      (sums-own none (sums-are (summed h)), histogram-own none (histogram-is h), omega (arith, at .pre .1 .1 .shifts)),
+      (sums-own (at .args .file .now) (at .args .column) (at .args .row) none (sums-are (summed h)), histogram-own (at .args .file .now) (at .args .column) (at .args .row) none (histogram-is h), omega (arith, at .pre .1 .1 .shifts)),
     )
 
 -- the histogram's exchange, and from it the stores'
@@ -328,16 +328,16 @@ arrive-requires c κs =
     let none = at .pre .1 .3 (i .if1 .taken) in
     let here = level (kept x) ∙ ap (λ (b : Bool). boxCut b (at .args .plan .kind) (at .args .from .cut .0))
     (sym (kept x .before .before .by-blocks .ensures) ∙ w .if2 .left) in (
-      (counted-own none (counted x), i .if1 .taken, histogram-own none (histogram-is h)),
+      (counted-own (at .args .file .now) (at .args .column) (at .args .row) none (counted x), i .if1 .taken, histogram-own (at .args .file .now) (at .args .column) (at .args .row) none (histogram-is h)),
       (
         (
-          sums-own none (sums-are (summed h)),
-          carries-own none (carries-step pl (at .pre .0 .1) (d .step-to .ensures) (enters r) (leaves r) (was i .below)),
+          sums-own (at .args .file .now) (at .args .column) (at .args .row) none (sums-are (summed h)),
+          carries-own (at .args .file .now) (at .args .column) (at .args .row) none (carries-step pl (at .pre .0 .1) (d .step-to .ensures) (enters r) (leaves r) (was i .below)),
         ),
         (
           at .pre .1 .1 .cut,
           omega (arith, at .pre .1 .1 .shifts),
-          box-own none
+          box-own (at .args .file .now) (at .args .column) (at .args .row) none (at .args .from .cut .0)
               (moved x .box ∙ ap (balanceBox (frameWith (at .args .file .now) (at .args .plane .now)) (at .args .column) (at .args .row))
               (here ∙ box-cut-joint _ _)),
         ),
