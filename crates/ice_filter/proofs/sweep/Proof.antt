@@ -257,8 +257,7 @@ returns c =
     let v = entered c .enter .ensures in
     let q =
     sweeping-end _ (at .pre .0 .0) _ _ _ _ _ _ _ (l .loop .visit) (l .loop .i) (l .loop .inv) _ (at .args .output .now)
-    (omega (arith, c .before .before .before .before .before .loop-test .left)) (simp length-set (room (l .before))) (v .state) (v .kept) _ refl in
-    (
+    (omega (arith, c .before .before .before .before .before .loop-test .left)) (simp length-set (room (l .before))) (v .state) (v .kept) _ refl in (
       finished (l .loop .visit) _ refl refl refl (q .0)
           (handed-back (at .args .way) (at .pre .0 .0) (at .pre .0 .1) (stateOf (at .args .way) (l .loop .visit))
           (l .loop .inv .going .visited .here .balance-box) (c .before .before .finish .ensures)),

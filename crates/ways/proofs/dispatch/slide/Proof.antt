@@ -35,8 +35,11 @@ slide-requires-2 c κs =
     let at = c .before .before .before .before .before .before .before .before .before in
     let e = c .before .enum-told .given .1 in (
       (with-own (at .pre .0 .0), guided-columns _ (at .args .plan) (at .pre .0 .2) e),
-      ((at .pre .1 .0, at .pre .1 .1 .0), columns-at _ (with-own (at .pre .0 .0)) _ _ _ (at .pre .1 .1 .1 .0) _ _ _ e
-          (at-own (at .args .way) (at .args .file .now) (none-columns _ (at .args .plan) (at .pre .0 .2) e) (at .pre .1 .1 .1 .1)) .0),
+      (
+        (at .pre .1 .0, at .pre .1 .1 .0),
+        columns-at _ (with-own (at .pre .0 .0)) _ _ _ (at .pre .1 .1 .1 .0) _ _ _ e
+            (at-own (at .args .way) (at .args .file .now) (none-columns _ (at .args .plan) (at .pre .0 .2) e) (at .pre .1 .1 .1 .1)) .0,
+      ),
     )
 
 enum-told-2 : tie.Need-enum-told-2
@@ -47,8 +50,11 @@ slide-requires-3 c κs =
     let at = c .before .before .before .before .before .before .before .before .before in
     let e = c .before .enum-told2 .given .1 in (
       (with-own (at .pre .0 .0), guided-chain _ (at .args .plan) (at .pre .0 .2) e),
-      ((at .pre .1 .0, at .pre .1 .1 .0), chain-at _ (with-own (at .pre .0 .0)) _ _ _ (at .pre .1 .1 .1 .0) _ _ _ e
-          (at-own (at .args .way) (at .args .file .now) (none-chain _ (at .args .plan) (at .pre .0 .2) e) (at .pre .1 .1 .1 .1)) .0),
+      (
+        (at .pre .1 .0, at .pre .1 .1 .0),
+        chain-at _ (with-own (at .pre .0 .0)) _ _ _ (at .pre .1 .1 .1 .0) _ _ _ e
+            (at-own (at .args .way) (at .args .file .now) (none-chain _ (at .args .plan) (at .pre .0 .2) e) (at .pre .1 .1 .1 .1)) .0,
+      ),
     )
 
 same-length : tie.Need-same-length
@@ -76,7 +82,7 @@ returns-2 c =
     (columns-visited _ (with-own (at .pre .0 .0)) _ _ _ (at .pre .1 .1 .1 .0) _ _ _ (at .args .column) (at .args .row) (at .args .from .cut .0)
     (at .args .from .shifts) _ e (c .before .before .slide2 .ensures)
     (columns-at _ (with-own (at .pre .0 .0)) _ _ _ (at .pre .1 .1 .1 .0) _ _ _ e
-          (at-own (at .args .way) (at .args .file .now) (none-columns _ (at .args .plan) (at .pre .0 .2) e) (at .pre .1 .1 .1 .1)) .1))
+    (at-own (at .args .way) (at .args .file .now) (none-columns _ (at .args .plan) (at .pre .0 .2) e) (at .pre .1 .1 .1 .1)) .1))
 
 same-length-4 : tie.Need-same-length-4
 same-length-4 c = search needs
@@ -90,7 +96,7 @@ returns-3 c =
     (chain-visited _ (with-own (at .pre .0 .0)) _ _ _ (at .pre .1 .1 .1 .0) _ _ _ (at .args .column) (at .args .row) (at .args .from .cut .0)
     (at .args .from .shifts) _ e (c .before .before .slide3 .ensures)
     (chain-at _ (with-own (at .pre .0 .0)) _ _ _ (at .pre .1 .1 .1 .0) _ _ _ e
-          (at-own (at .args .way) (at .args .file .now) (none-chain _ (at .args .plan) (at .pre .0 .2) e) (at .pre .1 .1 .1 .1)) .1))
+    (at-own (at .args .way) (at .args .file .now) (none-chain _ (at .args .plan) (at .pre .0 .2) e) (at .pre .1 .1 .1 .1)) .1))
 
 pub slide-spec : {M : Type 1} → statement M
 slide-spec =
