@@ -21,8 +21,6 @@ use Rattle.spec.specs.Explain.{Grounded}
 use Rattle.spec.specs.Calls.{wayOf, BothKinds, roomOf, countsOf, wordsOf, walkOutcome, filterOutcome, balanceOutcome, explainOutcome}
 use Rattle.spec.proofs.Plans.{facts}
 use Rattle.spec.proofs.Calls.{way-serves, RoomFits, walk-accepted, filter-accepted, balance-accepted, explain-accepted}
-use Rattle.frame.specs.declared.plan.Opened.{Opened}
-use Rattle.frame.specs.Plan.{openedPlan}
 use Rattle.ice_step.specs.declared.Walked.{Walked}
 use Rattle.ice.specs.declared.Balanced.{Balanced}
 use Rattle.ice.specs.declared.Explained.{Explained}
@@ -32,14 +30,6 @@ use Rattle.ice.specs.Result.{Zeroed, Unexplained}
 use Rattle.ice.specs.Contract.{Untouched, Ended, Walks, Filters, Balances, Explains}
 use Rattle.ways.proofs.WayLaws.{settings-same}
 use Rattle.ice.proofs.OutcomeLaws.{set-of, stopped, fires-not, quiet}
-
--- an opened file that no check refuses has its plan
-pub planned-of : {b : List ℕ} (h : Opened) → (numbered (h .verdict) ≡ verdict b) × (h .plan ≡ openedPlan b) → fires (numbered (h .verdict)) ≡ false →
-    Planned b (h .plan)
-unfolding openedPlan
-planned-of {b} h e f =
-    let q : fires (verdict b) ≡ false = ap fires (sym (e .0)) ∙ f in
-    record { accepts = quiet (verdict b) q; plan = e .1 ∙ rw q refl; fits = tt }
 
 -- ---- the outcome, by who decides
 module _ (b : List ℕ) (own : Outcome) (v : Verdict) (e : numbered v ≡ verdict b) where

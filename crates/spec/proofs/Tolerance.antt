@@ -17,6 +17,7 @@ use borrow.Author.Tests.{ltb-false, leb-false, lt-ltb, le-ltb, eqb-true, eqb-fal
 use Rattle.spec.specs.Base.{if_then_else_, first}
 use Rattle.spec.specs.declared.Settings.{Settings}
 use Rattle.spec.specs.declared.Room.{Room}
+use Rattle.spec.specs.declared.Way.the-variants.{Joint}
 use Rattle.spec.specs.Refusal.{accepted, _▷_, refuse}
 use Rattle.spec.specs.Frame.{
   Frame,
@@ -35,11 +36,12 @@ use Rattle.spec.specs.Checks.{SettingsLimits, ValuesFit, PlaneFits, verd
 use Rattle.spec.specs.Window.{pixelCount, guideSum, squareSum}
 use Rattle.spec.specs.Median.{answer, NoneNegative}
 use Rattle.spec.specs.Filter.{filtered}
-use Rattle.spec.specs.Calls.{short}
+use Rattle.spec.specs.Calls.{wayOf, roomOf, lacks, short}
 use Rattle.spec.specs.Tolerance.{ownValues, Choice, LeastAndGreatest, badSpan, badUpper, toleranceChecks, toleranceOutcome}
 use Rattle.spec.proofs.First.{First, first-is, length-tabulate, getD-tabulate}
 use Rattle.spec.proofs.Checks.{both-accepted, not-fired, neither}
 use Rattle.spec.proofs.Limits.{FrameLimits, Pixel, in-plane, value-dead, limits-of}
+use Rattle.spec.proofs.Calls.{RoomFits, fits-of}
 use Rattle.spec.proofs.Own.{table-light}
 use Rattle.spec.proofs.Totals.{answer-empty}
 use Rattle.spec.proofs.Warmer.{Alike, Warmer, alike-count, alike-empty, alike-guides, alike-squares, alike-none, warmer-answer, same-answer}
@@ -333,15 +335,40 @@ kind-one b ok e = go (limits-of b ok .sound .kinds)
     go (inl h) = h .0
     go (inr h) = absurd (eqb-false (k .kind) 2 e (h .0))
 
-pub accepted-tolerance : (b u : List ℕ) (have : Room) (least greatest : ℕ) → toleranceOutcome b u have least greatest ≡ accepted
-    → LeastAndGreatest (frameOf b) (ownValues (frameOf b)) u (filtered (frameOf b)) (filtered (withValues (frameOf b) u))
-unfolding toleranceOutcome toleranceChecks
-accepted-tolerance b u have least greatest e =
+-- what an accepted call has
+pub record ToleranceAccepted (b u : List ℕ) (have : Room) (least greatest : ℕ) : Type 0 where
+  pub file : verdict b ≡ accepted
+  pub one : settingsOf b .kind ≡ 1
+  pub upper : badUpper b u ≡ false
+  pub room : RoomFits (roomOf Joint (settingsOf b)) have
+  pub least-plane : pixels (settingsOf b) ≤ least
+  pub greatest-plane : pixels (settingsOf b) ≤ greatest
+
+pub tolerance-accepted : (b u : List ℕ) (have : Room) (least greatest : ℕ) → toleranceOutcome b u have least greatest ≡ accepted
+    → ToleranceAccepted b u have least greatest
+unfolding toleranceOutcome toleranceChecks short wayOf
+tolerance-accepted b u have least greatest e =
     let k = settingsOf b in
     let kinds = refuse 8 (eqb (k .kind) 2) in
     let planes = refuse 13 (badUpper b u) in
-    let stores = refuse 11 (short k 1 have least (pixels k) || ltb greatest (pixels k)) in
+    let few = lacks (roomOf Joint k) have in
+    let stores = refuse 11 (few || ltb least (pixels k) || ltb greatest (pixels k)) in
     let file = both-accepted (verdict b) (kinds ▷ planes ▷ stores) e in
     let kind = both-accepted kinds (planes ▷ stores) (file .1) in
     let plane = both-accepted planes stores (kind .1) in
-    tolerance b u (file .0) (not-fired 13 _ (plane .0)) (kind-one b (file .0) (not-fired 8 _ (kind .0)))
+    let out = neither (few || ltb least (pixels k)) (ltb greatest (pixels k)) (not-fired 11 _ (plane .1)) in
+    let room = neither few (ltb least (pixels k)) (out .0) in
+    record {
+      file = file .0;
+      one = kind-one b (file .0) (not-fired 8 _ (kind .0));
+      upper = not-fired 13 _ (plane .0);
+      room = fits-of _ _ (room .0);
+      least-plane = ltb-false _ _ (room .1);
+      greatest-plane = ltb-false _ _ (out .1);
+    }
+
+pub accepted-tolerance : (b u : List ℕ) (have : Room) (least greatest : ℕ) → toleranceOutcome b u have least greatest ≡ accepted
+    → LeastAndGreatest (frameOf b) (ownValues (frameOf b)) u (filtered (frameOf b)) (filtered (withValues (frameOf b) u))
+accepted-tolerance b u have least greatest e =
+    let a = tolerance-accepted b u have least greatest e in
+    tolerance b u (a .file) (a .upper) (a .one)
