@@ -46,12 +46,14 @@ mod reading;
 mod refusal;
 mod settings;
 mod stores;
+mod tolerance;
 
 pub use explanation::{Cause, Explanation};
 pub use reading::{reading, Answer, NO_READING, OFF_PICTURE, UNKNOWN_MOVE};
 pub use refusal::{Part, Refusal};
 pub use settings::{Settings, Way, Weights};
 pub use stores::Stores;
+pub use tolerance::{tolerance, tolerance_into, Tolerance};
 
 /// Move bytes.
 pub const RIGHT: u8 = 0;
