@@ -591,7 +591,7 @@ fn spanned_file(kind: u8, values: &[u16]) -> Vec<u8> {
 
 #[test]
 fn a_tolerance_has_a_least_and_a_greatest_answer() {
-    let Tolerated { least, greatest, least_shifts, greatest_shifts, stores } = both(&spanned(), &UPPER);
+    let Tolerated { least, greatest, least_shifts, greatest_shifts, stores, .. } = both(&spanned(), &UPPER);
     assert_eq!((least, least_shifts), (vec![1, 3, 2, 3, 7], 9));
     assert_eq!((greatest, greatest_shifts), (vec![1, 5, 4, 5, 7], 9));
     // The last window has levels 4 and 7 of guides 1 and 3.

@@ -40,6 +40,11 @@ pub struct Tolerated {
     pub greatest_shifts: u64,
     /// Of way 1, as the upper plane's filter leaves them.
     pub stores: Stores,
+    /// What the lower plane's filter alone would leave; no call gives this away.
+    pub lower_stores: Stores,
+    /// How many windows are hollow and how many are empty, which is the same for both planes; nor this.
+    pub hollow: usize,
+    pub empty: usize,
 }
 
 impl Frame {
@@ -77,6 +82,15 @@ pub fn both(frame: &Frame, upper: &[u16]) -> Tolerated {
     let (least, lower_walk) = walk::filter(frame);
     let raised = frame.with_values(upper);
     let (greatest, upper_walk) = walk::filter(&raised);
-    let stores = stores(&raised, Way::Joint, &upper_walk);
-    Tolerated { least, greatest, least_shifts: lower_walk.shifts, greatest_shifts: upper_walk.shifts, stores }
+    let count = |windows: &[bool]| windows.iter().filter(|&&window| window).count();
+    Tolerated {
+        least,
+        greatest,
+        least_shifts: lower_walk.shifts,
+        greatest_shifts: upper_walk.shifts,
+        stores: stores(&raised, Way::Joint, &upper_walk),
+        lower_stores: stores(frame, Way::Joint, &lower_walk),
+        hollow: count(&upper_walk.hollow),
+        empty: count(&upper_walk.empty),
+    }
 }

@@ -4,13 +4,10 @@ use crate::fault::{makes, spoil, CHOSEN};
 use crate::front;
 use sorting_filter::frame::{locate, open, Frame, KIND_TABLE, NO_READING};
 use sorting_filter::refusal::{check, Refusal};
-use sorting_filter::store::{stores, Stores, Way};
+use sorting_filter::store::Stores;
 use sorting_filter::tolerance::{both, Lengths, Tolerated};
 use sorting_filter::walk;
 use sorting_filter::window::Window;
-
-/// How the names of mistakes in the stores begin; for another the lower plane need not be filtered again.
-const STORES: &str = "tolerance_stores_";
 
 /// The stores and the outputs that a call lends.
 pub struct Lent<'a> {
@@ -27,7 +24,7 @@ pub fn tolerance(file: &[u8], upper: &[u16], lent: &Lent) -> Result<Tolerated, R
     let mut bounds = both(&frame, &upper);
     spoil_planes(&frame, &upper, &mut bounds);
     spoil_shifts(&frame, &upper, &mut bounds);
-    spoil_stores(&frame, &mut bounds);
+    spoil_stores(&mut bounds);
     Ok(bounds)
 }
 
@@ -220,17 +217,16 @@ fn spoil_shifts(frame: &Frame, upper: &[u16], bounds: &mut Tolerated) {
     }
 }
 
-fn spoil_stores(frame: &Frame, bounds: &mut Tolerated) {
+fn spoil_stores(bounds: &mut Tolerated) {
     let Stores::Joint { counts, words } = &mut bounds.stores else { return };
-    if !CHOSEN.starts_with(STORES) {
-        return;
-    }
-    let lower = stores(frame, Way::Joint, &walk::filter(frame).1);
-    let Stores::Joint { counts: lower_counts, words: lower_words } = lower else { return };
+    let Stores::Joint { counts: lower_counts, words: lower_words } = &bounds.lower_stores else { return };
     match CHOSEN.as_str() {
-        "tolerance_stores_lower_last" => (*counts, *words) = (lower_counts, lower_words),
-        "tolerance_stores_lower_counts" => *counts = lower_counts,
-        "tolerance_stores_lower_words" => *words = lower_words,
+        "tolerance_stores_lower_last" => {
+            counts.clone_from(lower_counts);
+            words.clone_from(lower_words);
+        }
+        "tolerance_stores_lower_counts" => counts.clone_from(lower_counts),
+        "tolerance_stores_lower_words" => words.clone_from(lower_words),
         "tolerance_stores_added" => counts.iter_mut().zip(lower_counts).for_each(|(count, lower)| *count += lower),
         "tolerance_stores_words_kept" => words.iter_mut().zip(lower_words).for_each(|(word, lower)| *word |= lower),
         "tolerance_stores_cleared" => {
