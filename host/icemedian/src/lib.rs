@@ -30,6 +30,8 @@
 //! # Ok::<(), icemedian::Refusal>(())
 //! ```
 //!
+//! Where levels are known within a tolerance, [`tolerance`] gives the least and the greatest answer of each pixel.
+//!
 //! A refusal says its number and its reason:
 //!
 //! ```

@@ -350,12 +350,16 @@ static void write_spanned(uint32_t kind) {
     expect_status("write, a row with a tolerance", status, 0);
 }
 
-/* Buffers of these lengths, NULL where a length is 0, all full of one byte before the call. */
-static uint32_t tolerance(size_t file_length, size_t u, size_t c, size_t w, size_t l, size_t g) {
+static void fill_span(void) {
     memset(span_counts, 0xA5, sizeof span_counts);
     memset(span_words, 0xA5, sizeof span_words);
     memset(span_least, 0xA5, sizeof span_least);
     memset(span_greatest, 0xA5, sizeof span_greatest);
+}
+
+/* Buffers of these lengths, NULL where a length is 0, all full of one byte before the call. */
+static uint32_t tolerance(size_t file_length, size_t u, size_t c, size_t w, size_t l, size_t g) {
+    fill_span();
     return icemedian_tolerance(file_length ? span_file : NULL, file_length, u ? span_upper : NULL, u,
                                c ? span_counts : NULL, c, w ? span_words : NULL, w, l ? span_least : NULL, l,
                                g ? span_greatest : NULL, g, &result.least_shifts, &result.greatest_shifts,
@@ -409,6 +413,27 @@ static void test_bounds(void) {
     memcpy(span_upper, span_values, sizeof span_values);
     expect_bounds(least, 9, least, 9, tolerance(sizeof span_file, SPANNED, SPAN_COUNTS + 1, SPAN_WORDS + 1, SPANNED + 1,
                                                 SPANNED + 1));
+}
+
+/* Three dead pixels beside two that weigh nothing: no reading in the first two windows, hollow ones then. */
+static uint32_t tolerance_dead(uint16_t first, uint16_t last) {
+    const uint16_t upper[ROW] = {first, DEAD, DEAD, 6, last};
+    fill_span();
+    return icemedian_tolerance(dead_file, dead_bytes, upper, ROW, span_counts, SPAN_COUNTS, span_words, SPAN_WORDS,
+                               span_least, ROW, span_greatest, ROW, &result.least_shifts, &result.greatest_shifts,
+                               &result.offset);
+}
+
+static void test_bounds_dead(void) {
+    static const uint16_t value[ROW] = {DEAD, DEAD, DEAD, 5, 2}, picture[ROW] = {0, 0, 0, 0, 0}, none[4] = {0, 0, 0, 0};
+    static const uint16_t least[ROW] = {DEAD, DEAD, 5, 2, 2}, greatest[ROW] = {DEAD, DEAD, 6, 6, 6};
+    uint32_t status = icemedian_write(ROW, 1, LEVELS, 2, ICEMEDIAN_TABLE, 1, 0, value, ROW, picture, ROW, none, 4, dead_file,
+                                      sizeof dead_file, &result.length, &result.offset);
+    dead_bytes = ICEMEDIAN_FILE_LENGTH(ROW, 1, 4);
+    expect_status("write, dead pixels under a table", status, 0);
+    expect_bounds(least, 8, greatest, 6, tolerance_dead(DEAD, 7));
+    expect_refused("tolerance, an upper level for a dead pixel", tolerance_dead(7, 7), 13);
+    expect_refused("tolerance, none for a reading", tolerance_dead(DEAD, DEAD), 13);
 }
 
 static void test_tolerance_refused(void) {
@@ -511,6 +536,7 @@ int main(void) {
     test_empty();
     test_no_reading();
     test_bounds();
+    test_bounds_dead();
     test_tolerance_refused();
     test_tolerance_overlap();
     test_wide();
