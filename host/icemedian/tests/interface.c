@@ -417,7 +417,8 @@ static void test_bounds(void) {
 
 /* Three dead pixels beside two that weigh nothing: no reading in the first two windows, hollow ones then. */
 static uint32_t tolerance_dead(uint16_t first, uint16_t last) {
-    const uint16_t upper[ROW] = {first, DEAD, DEAD, 6, last};
+    uint16_t upper[ROW] = {DEAD, DEAD, DEAD, 6, 7};
+    upper[0] = first, upper[4] = last;
     fill_span();
     return icemedian_tolerance(dead_file, dead_bytes, upper, ROW, span_counts, SPAN_COUNTS, span_words, SPAN_WORDS,
                                span_least, ROW, span_greatest, ROW, &result.least_shifts, &result.greatest_shifts,

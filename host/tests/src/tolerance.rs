@@ -188,13 +188,14 @@ pub fn test_row(random: &mut Random, tally: &mut Tally) -> Check {
     let settings = Settings { width: 5, height: 1, levels: 8, guides: 4, kind: KIND_TABLE, radius: 1, smoothing: 0 };
     let file = written(&settings, &[5, 1, 3, 2, 7], &[0, 0, 2, 1, 3], &[])?;
     let frame = open(&file).map_err(|refusal| refusal.to_string())?;
-    let bounds = test_upper(random, &file, &frame, &[6, 1, 5, 4, 7], tally)?;
+    let upper = vec![6, 1, 5, 4, 7];
+    let bounds = test_upper(random, &file, &frame, &upper, tally)?;
     same("request 7's least", &(bounds.least, bounds.least_shifts), &(vec![1, 3, 2, 3, 7], 9))?;
     same("request 7's greatest", &(bounds.greatest, bounds.greatest_shifts), &(vec![1, 5, 4, 5, 7], 9))?;
     // Cut to 16 bits these lengths would be too short for a buffer, and one would be right for the upper levels.
     for length in [65_536, 65_540, 65_541, 131_072] {
         let lengths = Lengths { counts: length, words: length, least: length, greatest: length };
-        call(random, &file, &[6, 1, 5, 4, 7], &lengths)?.map_err(|refusal| refusal.to_string())?;
+        call(random, &file, &upper, &lengths)?.map_err(|refusal| refusal.to_string())?;
         tally.tolerance.wide += 1;
         try_refused(random, &file, &vec![7; length], &lengths, 13, tally)?;
     }
