@@ -32,7 +32,8 @@ Where a file is read - is standard input, where one is written it is standard ou
   --upper FILE    THERMAL's values are known within a tolerance: they are the lower ends, and FILE, a picture
                   of THERMAL's size, has the upper ends. Whatever the true values are between the two, the
                   filter's answer lies between OUTPUT, which has the least, and --greatest, and both can
-                  happen. Needs --table, --way joint and --greatest; with --dead, VALUE is no reading in both
+                  happen; where values are rounded, this is of the rounded ones. Needs --table, --way joint
+                  and --greatest; with --dead, VALUE is no reading in both pictures
   --greatest FILE with --upper: writes the greatest answers, a picture like OUTPUT
   -h, --help      this text
 ";

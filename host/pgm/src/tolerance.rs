@@ -11,6 +11,7 @@ use std::time::Instant;
 pub fn filter(pictures: &Pictures, frame: &Framed, upper: &[u16]) -> Result<(Picture, Picture), Refusal> {
     let start = Instant::now();
     let bounds = tolerance(&frame.file, upper)?;
+    check_within_steps(pictures, frame, upper)?;
     eprintln!(
         "filtered both ends in {:.0?}, {} shifts for the least, {} for the greatest",
         start.elapsed(),
@@ -25,6 +26,16 @@ pub fn filter(pictures: &Pictures, frame: &Framed, upper: &[u16]) -> Result<(Pic
     let thermal = &pictures.thermal;
     let most = pictures.upper.iter().map(|upper| upper.most).fold(thermal.most, u16::max);
     Ok((Picture { values: least, most, ..*thermal }, Picture { values: greatest, most, ..*thermal }))
+}
+
+/// A value above its upper one by less than a step has the same level, which the library allows; it is as wrong.
+fn check_within_steps(pictures: &Pictures, frame: &Framed, upper: &[u16]) -> Result<(), Refusal> {
+    let Some(uppers) = &pictures.upper else { return Ok(()) };
+    let mut pairs = pictures.thermal.values.iter().zip(&uppers.values);
+    match pairs.position(|(low, high)| low > high) {
+        Some(pixel) => Err(Refusal::UpperLevel { pixel, reading: frame.levels[pixel], upper: upper[pixel] }),
+        None => Ok(()),
+    }
 }
 
 /// Number 13 in the terms of the command line: the first pixel whose upper value does not go with its own.

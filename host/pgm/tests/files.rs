@@ -345,6 +345,23 @@ fn an_upper_end_below_its_value_is_named() {
     assert!(message(&filter(&words)).contains("rows_upper.pgm has 3 at column 1, row 1, below the 4 of rows.pgm"));
 }
 
+/// 0 to 65,535 in steps of 64: 90 and 100 are rounded to the same, and 90 is below 100 all the same.
+#[test]
+fn an_upper_end_below_its_value_by_less_than_a_step_is_named() {
+    let write = |name: &str, value: u16| {
+        let plane: Vec<u8> = [0, 65_535, value].iter().flat_map(|value| value.to_be_bytes()).collect();
+        std::fs::write(place(name), [b"P5\n3 1\n65535\n".as_slice(), &plane].concat()).unwrap();
+    };
+    let words = ["step.pgm", flat("step_guide.pgm", 3, 1), "step_least.pgm", "--table", "--upper", "step_upper.pgm"];
+    let words = [words.as_slice(), &["--greatest", "step_greatest.pgm"]].concat();
+    write("step.pgm", 100);
+    write("step_upper.pgm", 90);
+    let below = message(&filter(&words));
+    assert!(below.contains("step_upper.pgm has 90 at column 2, row 0, below the 100 of step.pgm"), "{below}");
+    write("step_upper.pgm", 110);
+    notes(&filter(&words));
+}
+
 /// 8 bits below and 16 above: both pictures have 16, since a rounded value may need them.
 #[test]
 fn ends_of_8_and_16_bits() {
