@@ -71,6 +71,35 @@ fn number_13_says_what_is_wrong() {
     }
 }
 
+/// Check 13 may look at many numbers at a time: every wrong number at each place in turn, and the right ones beside them.
+#[test]
+fn number_13_looks_at_every_pixel() {
+    for width in [1, 64, 65, 130] {
+        let (reading, levels) = (150, 300);
+        let values = vec![reading; width];
+        let file = row(levels, 2, Weights::Table, 0, &values, &vec![0; width], &[]);
+        for pixel in 0..width {
+            let mut upper = vec![200; width];
+            for level in [0, reading - 1, levels, levels + 1, 1024, 32_767, 32_768, 65_279, 65_534, NO_READING] {
+                upper[pixel] = level;
+                let wrong = Refusal::UpperLevel { pixel, reading, upper: level };
+                assert_eq!(tolerance(&file, &upper), Err(wrong), "{width} {pixel} {level}");
+            }
+            for level in [reading, levels - 1] {
+                upper[pixel] = level;
+                assert_eq!(tolerance(&file, &upper).unwrap().greatest, upper, "{width} {pixel} {level}");
+            }
+            let mut dead = values.clone();
+            dead[pixel] = NO_READING;
+            let file = row(levels, 2, Weights::Table, 0, &dead, &vec![0; width], &[]);
+            let wrong = Refusal::UpperLevel { pixel, reading: NO_READING, upper: upper[pixel] };
+            assert_eq!(tolerance(&file, &upper), Err(wrong), "{width} {pixel}");
+            upper[pixel] = NO_READING;
+            assert_eq!(tolerance(&file, &upper).unwrap().greatest, upper, "{width} {pixel}");
+        }
+    }
+}
+
 /// The value plane need not be the file's first part.
 #[test]
 fn number_13_finds_the_readings() {

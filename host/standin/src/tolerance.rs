@@ -75,6 +75,8 @@ fn refused(frame: &Frame, upper: &[u16]) -> bool {
         "tolerance_last_unchecked" => (0, pixels - 1),
         "tolerance_row_only" => (0, frame.settings.width.into()),
         "tolerance_pixels_unchecked" => (0, 0),
+        "tolerance_far_unchecked" => (0, pixels.min(65_536)),
+        "tolerance_rest_unchecked" => (0, pixels / 64 * 64),
         _ => (0, pixels),
     };
     let equal = makes("tolerance_equal_refused") && upper == frame.values;

@@ -109,6 +109,8 @@ fn run(options: &Options) -> Result<Tally, String> {
     failures.extend(row.err().map(|message| format!("a row with upper levels: {message}")));
     let choices = tolerance::test_all_choices(&mut Random::new(options.seed), &mut tally);
     failures.extend(choices.err().map(|message| format!("all choices: {message}")));
+    let largest = tolerance::test_largest(&mut Random::new(options.seed), &mut tally);
+    failures.extend(largest.err().map(|message| format!("the largest frame with upper levels: {message}")));
     let within = tolerance::test_within_file(&mut Random::new(options.seed), &mut tally);
     failures.extend(within.err().map(|message| format!("upper levels within the file: {message}")));
     let blocks = frames::test_blocks(&mut Random::new(options.seed), &mut tally);

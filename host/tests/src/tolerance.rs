@@ -305,6 +305,27 @@ fn test_every_choice(random: &mut Random, settings: &Settings, number: usize, ta
     Ok(())
 }
 
+/// The largest frame, with two answers at most pixels, and upper levels that are wrong at its first pixel, its last or any.
+pub fn test_largest(random: &mut Random, tally: &mut Tally) -> Check {
+    let settings =
+        Settings { width: 1024, height: 256, levels: 1024, guides: 256, kind: KIND_TABLE, radius: 1, smoothing: 0 };
+    let mut plane = |most: u16| -> Vec<u16> { (0..settings.pixels()).map(|_| random.within(0, most)).collect() };
+    let (values, guides) = (plane(1022), plane(255));
+    let file = written(&settings, &values, &guides, &[])?;
+    let frame = open(&file).map_err(|refusal| refusal.to_string())?;
+    let upper: Vec<u16> = values.iter().map(|&value| random.within(value + 1, 1023)).collect();
+    let bounds = test_upper(random, &file, &frame, &upper, tally)?;
+    let apart = bounds.least.iter().zip(&bounds.greatest).filter(|(least, greatest)| least < greatest).count();
+    same("whether most of the largest frame's pixels have two answers", &(2 * apart > settings.pixels()), &true)?;
+    let lengths = Lengths::needed(&settings);
+    for wrong in Wrong::ALL.into_iter().cycle().take(12) {
+        let mut upper = upper.clone();
+        same("whether the largest frame can be wrong", &wrong.spoil(random, &frame, &mut upper), &true)?;
+        try_refused(random, &file, &upper, &lengths, 13, tally)?;
+    }
+    Ok(())
+}
+
 /// The upper levels lie in the file itself, whose numbers then stand where 16-bit numbers may: between its planes, where
 /// no part is, or where its values are, whose two bytes are alike.
 pub fn test_within_file(random: &mut Random, tally: &mut Tally) -> Check {
