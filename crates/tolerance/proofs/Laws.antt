@@ -1,7 +1,7 @@
 -- From what the checks and the two filters say to the contract of the tolerance call.
 -- Assumes nothing.
 use mathlib.Core.Path.{_≡_, refl, sym, ap, _∙_, subst}
-use mathlib.Core.Bool.{true}
+use mathlib.Core.Bool.{true, true≢false}
 use mathlib.Core.List.{List, [], _++_}
 use mathlib.Core.Logic.{inl, inr}
 use Prim.Native.Nat.{ℕ, _*_, _≤_}
@@ -15,6 +15,7 @@ use Rattle.spec.specs.declared.Way.the-variants.{Joint}
 use Rattle.spec.specs.Refusal.{Outcome, accepted, refused, fires, numbered}
 use Rattle.spec.specs.Frame.{Frame, pixels, frameOf, frameWith, settingsOf, settingsIn}
 use Rattle.spec.specs.Checks.{Planned, Pictured}
+use Rattle.spec.specs.Walk.{State}
 use Rattle.spec.specs.Filter.{filtered, filterEnd}
 use Rattle.spec.specs.Calls.{roomOf, countsOf, wordsOf}
 use Rattle.spec.proofs.Plans.{facts}
@@ -28,7 +29,7 @@ use Rattle.tolerance.specs.Contract.{Buffers, buffers, outcomeOf, Nothin
 
 -- ---- refused
 fires-not : (x : Outcome) → fires x ≡ true → x ≡ accepted → ⊥
-fires-not x f e = mathlib.Core.Bool.true≢false (sym f ∙ ap fires e)
+fires-not x f e = true≢false (sym f ∙ ap fires e)
 
 pub tolerates-refused : (b u : List ℕ) (a : Buffers) (v : Verdict) (r : Tolerated) → NothingDone v r → fires (numbered v) ≡ true
     → numbered v ≡ outcomeOf b u a → Tolerates b u a a r
@@ -73,7 +74,7 @@ granted {b} {z} k u a o =
     }
 
 -- the stores that the first leaves are long enough for the second
-pub fit-again : {b : List ℕ} {z : Plan} (k : Planned b z) {p : Frame} (a m : Lent) {x : Rattle.spec.specs.Walk.State} {r : Walked}
+pub fit-again : {b : List ℕ} {z : Plan} (k : Planned b z) (a m : Lent) {x : State} {r : Walked}
     → LentFits Joint (settingsIn z) a → Finished Joint (frameOf b) x a m r → LentFits Joint (settingsIn z) m
 unfolding roomOf
 fit-again {b} k a m f h =
@@ -83,7 +84,7 @@ fit-again {b} k a m f h =
     }
 
 -- ---- and what they leave
-module _ {b u : List ℕ} {a m z : Lent} {r₁ r₂ : Walked} (h : Finished Joint (frameOf b) (filterEnd Joint (frameOf b)) a m r₁)
+module _ (b u : List ℕ) {a m z : Lent} {r₁ r₂ : Walked} (h : Finished Joint (frameOf b) (filterEnd Joint (frameOf b)) a m r₁)
     (g : Finished Joint (frameWith b u) (filterEnd Joint (frameWith b u)) m z r₂) where
   pub both-done : (old new old′ new′ : List ℕ) → new ≡ filtered (frameOf b) ++ drop (pixels (frameOf b .set)) old
       → new′ ≡ filtered (frameWith b u) ++ drop (pixels (frameOf b .set)) old′

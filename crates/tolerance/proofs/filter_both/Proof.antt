@@ -58,7 +58,8 @@ returns : tie.Need-returns
 returns c =
     let g = second c in
     let f = first (g .before) in
-    both-done (f .sweep .ensures .0) (g .sweep2 .ensures .0) _ _ _ _ (f .sweep .ensures .1) (g .sweep2 .ensures .1)
+    let at = start f in
+    both-done (at .args .file .now) (at .args .upper .now) (f .sweep .ensures .0) (g .sweep2 .ensures .0) _ _ _ _ (f .sweep .ensures .1) (g .sweep2 .ensures .1)
 
 pub filter-both-spec : {M : Type 1} → statement M
 filter-both-spec =
