@@ -134,8 +134,7 @@ module _ {b : List ℕ} {way : ℕ} {a z : Lent} {before after : List ℕ} {w : 
       }
 
 -- ---- tolerance
-module _ {b u : List ℕ} {a z : Buffers} {w : Tolerated} (h : Tolerates b u a z w) {r offset₀ offset : ℕ}
-    (q : Reported (numbered (w .verdict)) r offset₀ offset) {least₀ greatest₀ : ℕ} where
+module _ {b u : List ℕ} {a z : Buffers} {w : Tolerated} (h : Tolerates b u a z w) where
   all-kept : (outcomeOf b u a ≡ accepted → ⊥) → z ≡ a
   all-kept n =
       let k = h .refused n in
@@ -154,6 +153,8 @@ module _ {b u : List ℕ} {a z : Buffers} {w : Tolerated} (h : Tolerates b u a z
         words = k .words;
       }
 
+module _ {b u : List ℕ} {a z : Buffers} {w : Tolerated} (h : Tolerates b u a z w) {r offset₀ offset : ℕ}
+    (q : Reported (numbered (w .verdict)) r offset₀ offset) {least₀ greatest₀ : ℕ} where
   pub tolerance-stopped : 0 < r → ToleranceCall b u a z r least₀ least₀ greatest₀ greatest₀ offset₀ offset
   tolerance-stopped l =
       let n = stopped (w .verdict) (h .verdict) q l in
@@ -161,8 +162,8 @@ module _ {b u : List ℕ} {a z : Buffers} {w : Tolerated} (h : Tolerates b u a z
         reported = reported (w .verdict) (h .verdict) q;
         least-is = kept _ _ _ n;
         greatest-is = kept _ _ _ n;
-        refused-keeps = all-kept;
-        accepted-ends = both-filtered;
+        refused-keeps = all-kept h;
+        accepted-ends = both-filtered h;
       }
 
   pub tolerance-passed : {least greatest : ℕ} → r ≡ 0 → least ≡ w .«least_shifts» → greatest ≡ w .«greatest_shifts»
@@ -173,8 +174,8 @@ module _ {b u : List ℕ} {a z : Buffers} {w : Tolerated} (h : Tolerates b u a z
         reported = reported (w .verdict) (h .verdict) q;
         least-is = el ∙ h .filtered e .least-shifts ∙ gained _ _ _ e;
         greatest-is = eg ∙ h .filtered e .greatest-shifts ∙ gained _ _ _ e;
-        refused-keeps = all-kept;
-        accepted-ends = both-filtered;
+        refused-keeps = all-kept h;
+        accepted-ends = both-filtered h;
       }
 
 -- ---- balance

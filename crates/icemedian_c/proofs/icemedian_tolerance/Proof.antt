@@ -26,7 +26,7 @@ same-length-4 c = search needs
 
 returns : tie.Need-returns
 returns c =
-    tolerance-passed (c .before .before .before .before .before .before .before .before .before .before .tolerance .ensures)
+    tolerance-passed (c .before .before .before .before .before .before .before .before .before .before .before .tolerance .ensures)
     (c .before .report .ensures) (omega arith) (omega arith) (omega arith)
 
 same-length-5 : tie.Need-same-length-5
@@ -43,7 +43,7 @@ same-length-8 c = search needs
 
 returns-2 : tie.Need-returns-2
 returns-2 c =
-    tolerance-stopped (c .before .before .before .before .before .before .before .before .before .before .tolerance .ensures)
+    tolerance-stopped (c .before .before .before .before .before .before .before .before .before .before .before .tolerance .ensures)
     (c .before .report .ensures) (omega arith)
 
 pub icemedian-tolerance-spec : {M : Type 1} → statement M
