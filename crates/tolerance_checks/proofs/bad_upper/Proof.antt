@@ -43,10 +43,11 @@ mul-n c = omega (arith, plane-small (c .before .before .before .pre))
 
 returns : tie.Need-returns Inv-loop μ-loop
 returns c = let at = c .before .before .before .before in
-    wrong-length (at .args .file .now) (at .args .upper .now) _ _ (size-is (at .pre)) (levels-are (at .pre)) (c .if1 .taken)
+    wrong-length (at .args .file .now) (at .args .upper .now) _ _ (size-is (at .pre)) (levels-are (at .pre))
+    (λ e. absurd (omega (arith, c .if1 .taken, e)))
 
 loop-holds : tie.Need-loop-holds Inv-loop μ-loop
-loop-holds c = (omega arith, c .if1 .left, λ j l. absurd (omega (arith, l)))
+loop-holds c = (omega arith, omega (arith, c .if1 .left), λ j l. absurd (omega (arith, l)))
 
 value-at-requires : tie.Need-value-at-requires Inv-loop μ-loop
 value-at-requires c κs = (start (c .before) .pre, c .loop-test .taken)
