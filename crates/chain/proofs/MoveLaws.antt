@@ -203,7 +203,8 @@ module _ {b : List ℕ} {z : Plan} (pl : Planned b z) where
           list-ext (listSize z) _ _ _ _ free′ m′ (i .chain columns-insertable) (λ j. column-more (counted j)) (λ j. column-more (guided j))
 
   -- ---- to a neighbour: e and l are the lists of the entering and the leaving line
-  module _ {s t s′ t′ : ℕ} (adj : Adjacent z s t s′ t′) {d : Step} (ed : d ≡ stepOf z s t s′ t′) {e l : List ℕ} (re : LinePixels b [] z (d .entering) e)
+  module _ {s t s′ t′ : ℕ} (adj : Adjacent z s t s′ t′) {d : Step} (ed : d ≡ stepOf z s t s′ t′) {e l : List ℕ}
+      (re : LinePixels b [] z (d .entering) e)
       (rl : LinePixels b [] z (d .leaving) l)
       {free : FreeList} {m : List ℕ} (c : Listed b z s t free m) where
     moved : (h : ℕ → ℕ → ℕ) → window pl h s′ t′ + pixelFold _+_ 0 l h ≡ window pl h s t + pixelFold _+_ 0 e h

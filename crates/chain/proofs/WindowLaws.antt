@@ -95,7 +95,8 @@ module _ {b : List ℕ} {z : Plan} (pl : Planned b z) where
         let e : 0 * z .width + (s - z .radius) + y * z .width ≡ y * z .width + (s - z .radius) = rw (zero-mul (z .width)) (omega arith) in
         ap (λ (f : ℕ). record { first = f; stride = 1; count = span (z .radius) s (z .width) }) e
 
-    shifted-part : (d : Line) (by n : ℕ) (on : Bool) → (on ≡ true → lineFold _+_ 0 b [] (shift d by true) h ≤ n) → lineFold _+_ 0 b [] (shift d by on) h ≤ n
+    shifted-part : (d : Line) (by n : ℕ) (on : Bool) → (on ≡ true → lineFold _+_ 0 b [] (shift d by true) h ≤ n)
+        → lineFold _+_ 0 b [] (shift d by on) h ≤ n
     unfolding shift
     shifted-part d by n true k = k refl
     shifted-part d by n false k = rw (line-none _+_ 0 b []) (omega arith)

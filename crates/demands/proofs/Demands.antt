@@ -1,4 +1,5 @@
--- The three demands and requests 4 and 7, proved from the contracts of the calls and the laws of the definitions; specs/Demands.antt has the statements.
+-- The three demands and requests 4 and 7, proved from the contracts of the calls and the laws of the definitions; specs/Demands.antt has the
+-- statements.
 -- Assumes nothing.
 use Prim.Native.Nat.{ℕ, zero, suc, _+_, _*_, _/_, _%_, _≤_, _<_}
 use mathlib.Core.Path.{_≡_, refl, sym, ap, ap₂, _∙_, subst}

@@ -114,14 +114,17 @@ module _ {b vs : List ℕ} {z : Plan} (pl : Pictured b vs z) where
 
   pub place-of : {s t : ℕ} {xs : List ℕ} → Histogram (frameWith b vs) s t xs → (q : ℕ) → q < L + L → getD xs q 0 ≡ held s t q
   place-of {s} {t} v q l =
-      v .cells q (rw levels-same at l) ∙ ap (λ (m : ℕ). Σ (frameWith b vs) s t (λ x y. share m q (level (frameWith b vs) x y) (guide (frameWith b vs) x y)))
+      v .cells q (rw levels-same at l) ∙ ap (λ (m : ℕ). Σ (frameWith b vs) s t
+      (λ x y. share m q (level (frameWith b vs) x y) (guide (frameWith b vs) x y)))
       (sym levels-same)
 
-  pub histogram-of : {s t : ℕ} {xs : List ℕ} → L + L ≤ length xs → ((q : ℕ) → q < L + L → getD xs q 0 ≡ held s t q) → Histogram (frameWith b vs) s t xs
+  pub histogram-of : {s t : ℕ} {xs : List ℕ} → L + L ≤ length xs → ((q : ℕ) → q < L + L → getD xs q 0 ≡ held s t q)
+      → Histogram (frameWith b vs) s t xs
   histogram-of {s} {t} long e = record {
     long = rw levels-same at long;
     cells =
-        λ q l. e q (rw levels-same l) ∙ ap (λ (m : ℕ). Σ (frameWith b vs) s t (λ x y. share m q (level (frameWith b vs) x y) (guide (frameWith b vs) x y)))
+        λ q l. e q (rw levels-same l) ∙ ap (λ (m : ℕ). Σ (frameWith b vs) s t
+        (λ x y. share m q (level (frameWith b vs) x y) (guide (frameWith b vs) x y)))
         levels-same;
   }
 

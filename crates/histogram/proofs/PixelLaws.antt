@@ -88,16 +88,24 @@ module _ {b vs : List ℕ} {z : Plan} (pl : Pictured b vs z) where
             let a : HistogramPlace (z .levels) = record { at = q; low = l } in
             omega (arith, g .cells a, v .low q l, list-high (below pl (r .below)) a);
         cells = λ q l. let h =
-            share (z .levels) q in omega (arith, g .cells (record { at = q; low = l }), v .cells q l, columns-more _+_ 0 b vs z x t h n p ed (r .sum h));
+            share (z .levels) q in omega (
+              arith,
+              g .cells (record { at = q; low = l }),
+              v .cells q l,
+              columns-more _+_ 0 b vs z x t h n p ed
+                  (r .sum h),
+            );
       }
 
   pub filled-end : {s t n x : ℕ} {xs : List ℕ} → x ≡ s - z .radius → n ≡ span (z .radius) s (z .width) → HistogramFilled b vs z x t n xs →
       Histogram (frameWith b vs) s t xs
-  filled-end {s} {t} {x = x} ex en v = histogram-of pl (v .long) (λ q l. v .cells q l ∙ columns-window _+_ 0 b vs z x t (share (z .levels) q) pl s ex en)
+  filled-end {s} {t} {x = x} ex en v = histogram-of pl (v .long)
+      (λ q l. v .cells q l ∙ columns-window _+_ 0 b vs z x t (share (z .levels) q) pl s ex en)
 
 -- ---- a step of the window
 module _ {b vs : List ℕ} {z : Plan} (pl : Pictured b vs z) {s t s′ t′ : ℕ} (adj : Adjacent z s t s′ t′) {d : Step} (ed : d ≡ stepOf z s t s′ t′)
-    {e l : List ℕ} (re : LinePixels b vs z (d .entering) e) (rl : LinePixels b vs z (d .leaving) l) {xs : List ℕ} (v : Histogram (frameWith b vs) s t xs) where
+    {e l : List ℕ} (re : LinePixels b vs z (d .entering) e) (rl : LinePixels b vs z (d .leaving) l) {xs : List ℕ}
+    (v : Histogram (frameWith b vs) s t xs) where
   abbrev L : ℕ
   L = z .levels
 

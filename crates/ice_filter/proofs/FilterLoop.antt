@@ -232,7 +232,8 @@ module _ (way : Way) {b vs : List ℕ} {z : Plan} (k : Pictured b vs z) where
           rw (ep, facts k .width)
           (sweep-more way b vs (facts k .limits) x a O₀ s O hs d v i w inside (rw count-is at long) byte byte-is s′ hs′ d′ v′ h m em)
 
-    pub sweeping-end : (a₀ : Stores) (O₁ : List ℕ) → n ≤ i + 1 → n ≤ length O₀ → x ≡ start way (frameWith b vs) 0 0 → RestKept way (frameOf b .set) a₀ a →
+    pub sweeping-end : (a₀ : Stores) (O₁ : List ℕ) → n ≤ i + 1 → n ≤ length O₀ → x ≡ start way (frameWith b vs) 0 0
+        → RestKept way (frameOf b .set) a₀ a →
         (q : ℕ) → O₀ ≡ set O₁ 0 q
         → Visited way b vs (filterEnd way (frameWith b vs)) a₀ s hs d v × (O ≡ filtered (frameWith b vs) ++ drop (pixels (frameOf b .set)) O₁)
     sweeping-end a₀ O₁ l long e kept q e₀ =

@@ -202,7 +202,8 @@ pub record Going (way : Way) (b vs : List ℕ) (ms : List ℕ) (x : State) (a z 
   pub held : StateBounded (frameWith b vs) (stateOf way v) (1 + i)
 
 module _ (way : Way) (b vs ms : List ℕ) where
-  pub going-start : (z : Stores) (hs : List ℕ) (d : List ℤ) (v : Visit) → AtWindow way b vs z hs d v → StateBounded (frameWith b vs) (stateOf way v) 1 →
+  pub going-start : (z : Stores) (hs : List ℕ) (d : List ℤ) (v : Visit) → AtWindow way b vs z hs d v
+      → StateBounded (frameWith b vs) (stateOf way v) 1 →
       Going way b vs ms (stateOf way v) z z hs d v 0
   unfolding after
   going-start z hs d v h on =

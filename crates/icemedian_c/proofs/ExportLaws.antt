@@ -140,7 +140,8 @@ module _ {b u : List ℕ} {a z : Buffers} {w : Tolerated} (h : Tolerates b u a z
       let k = h .refused n in
       λ i. record { counts = k .counts i; words = k .words i; least = k .least i; greatest = k .greatest i }
 
-  both-filtered : outcomeOf b u a ≡ accepted → BothFiltered (frameOf b) (withValues (frameOf b) u) a z (toleratedAt (frameOf b) (withValues (frameOf b) u))
+  both-filtered : outcomeOf b u a ≡ accepted
+      → BothFiltered (frameOf b) (withValues (frameOf b) u) a z (toleratedAt (frameOf b) (withValues (frameOf b) u))
   both-filtered e =
       let k = h .filtered e in
       record {

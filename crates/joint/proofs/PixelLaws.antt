@@ -250,7 +250,8 @@ module _ {b vs : List ℕ} {z : Plan} {s t c : ℕ} {xs ws : List ℕ} {bx : Lis
   abbrev at : ℕ → ℕ → ℕ → ℕ → ℕ
   at i f v g = hit v g i f
 
-  pub counts-step : (i f : ℕ) → count (frameWith b vs) s′ t′ i f + pixelFold _+_ 0 l (at i f) ≡ count (frameWith b vs) s t i f + pixelFold _+_ 0 e (at i f)
+  pub counts-step : (i f : ℕ) → count (frameWith b vs) s′ t′ i f + pixelFold _+_ 0 l (at i f)
+      ≡ count (frameWith b vs) s t i f + pixelFold _+_ 0 e (at i f)
   unfolding count hit
   counts-step i f = stepped (λ (h : ℕ → ℕ → ℕ). h) (hd .pictured) adj ed re rl (at i f)
 
@@ -287,7 +288,8 @@ module _ {b vs : List ℕ} {z : Plan} {s t c : ℕ} {xs ws : List ℕ} {bx : Lis
       joint-of (hd .pictured) (pixel-of (hd .pictured) (q .2) (q .3))
       (o .kept)
       (held-cells hd) (held-words hd)
-      (rep-eq _ _ _ (count (frameWith b vs) s′ t′) xs₂ ws₂ (λ i f h. omega (arith, rep-own _ _ _ xs ws (held-rep hd) i f h, counts-step i f)) (o .held))
+      (rep-eq _ _ _ (count (frameWith b vs) s′ t′) xs₂ ws₂ (λ i f h. omega (arith, rep-own _ _ _ xs ws (held-rep hd) i f h, counts-step i f))
+      (o .held))
       (o .fits)
       (u .long ∙ held-long hd) each
     where

@@ -71,7 +71,8 @@ module _ {b vs : List ℕ} {z : Plan} (pl : Pictured b vs z) where
     pub joint-of : {c : ℕ} {xs ws xs′ ws′ : List ℕ} {bx′ : List ℤ} → RestKept (z .levels) (z .guides) xs ws xs′ ws′ →
         cellCount (frameWith b vs) ≤ length xs → wordCount (frameWith b vs) ≤ length ws
         → Rep (z .levels) (z .guides) (count (frameWith b vs) s t) xs′ ws′ → ((k : ℕ) → getD ws′ k 0 < 2 ^ 64)
-        → length bx′ ≡ 256 → ((f : ℕ) → f < 256 → getD bx′ f (pos 0) ≡ cell (frameWith b vs) s t c f) → JointAt (frameWith b vs) s t c xs ws xs′ ws′ bx′
+        → length bx′ ≡ 256 → ((f : ℕ) → f < 256 → getD bx′ f (pos 0) ≡ cell (frameWith b vs) s t c f)
+        → JointAt (frameWith b vs) s t c xs ws xs′ ws′ bx′
     joint-of {c} {xs} {ws} {xs′} {ws′} {bx′} kp hx hw r fit l e =
         let f = facts pl in
         let p = frameWith b vs in

@@ -51,7 +51,8 @@ pub fn fill(
 )
     requires { ⌜ (Pictured (now file) (now plane) plan) × (Columns plan x n t) ⌝ }
     requires { ⌜ Filled (now file) (now plane) plan x t (cut .0) 0 (now counts) (now words) (now counts) (now words) (now «balance_box») ⌝ }
-    ensures { λ _. ⌜ Filled (now (file .entry)) (now (plane .entry)) plan x t (cut .0) n (now (counts .entry)) (now (words .entry)) (now (counts .exit))
+    ensures { λ _. ⌜ Filled (now (file .entry)) (now (plane .entry)) plan x t (cut .0) n (now (counts .entry)) (now (words .entry))
+        (now (counts .exit))
         (now (words .exit)) (now («balance_box» .exit)) ⌝ }
 {
     let mut k = 0;
@@ -85,7 +86,8 @@ pub fn build(
     words: &mut [u64],
 )
     requires { ⌜ Fresh (now file) (now plane) plan s t (now counts) (now words) ⌝ }
-    ensures { λ _. ⌜ JointAt (frameWith (now (file .entry)) (now (plane .entry))) s t (cut .0) (now (counts .entry)) (now (words .entry)) (now (counts .exit))
+    ensures { λ _. ⌜ JointAt (frameWith (now (file .entry)) (now (plane .entry))) s t (cut .0) (now (counts .entry)) (now (words .entry))
+        (now (counts .exit))
         (now (words .exit)) (now («balance_box» .exit)) ⌝ }
 {
     let l = plan.levels;

@@ -74,7 +74,8 @@ module _ {b vs : List ℕ} {z : Plan} (pl : Pictured b vs z) {s t : ℕ} (hs : s
     table-own-row one inside value low = record {
       in-row = record { inside = inside; low = low };
       is =
-          λ h l. own-table (frameWith b vs) s t h (sym (facts pl .kind) ∙ one) ∙ ap (λ (q : ℕ). pos (table (frameWith b vs) q h)) (sym centre-is) ∙ ap pos
+          λ h l. own-table (frameWith b vs) s t h (sym (facts pl .kind) ∙ one) ∙ ap (λ (q : ℕ). pos (table (frameWith b vs) q h)) (sym centre-is)
+          ∙ ap pos
           (sym (value h l));
     }
 

@@ -126,7 +126,8 @@ module _ {b vs : List ℕ} {plan : Plan} {s t : ℕ} {cs ws : List ℕ} (st : Co
   last i l n h = let e : suc i ≤ l = omega arith in subst (λ (q : ℕ). q ≤ l * n) (suc-mul i n) (mul-le-mul e (le-refl n))
 
   level-cells : (i : ℕ) → i < frameWith b vs .set .levels →
-      cellSum (frameWith b vs .set .guides) i cs (frameWith b vs .set .guides) ≡ sum (λ f. count (frameWith b vs) s t i f) 0 (frameWith b vs .set .guides)
+      cellSum (frameWith b vs .set .guides) i cs (frameWith b vs .set .guides)
+      ≡ sum (λ f. count (frameWith b vs) s t i f) 0 (frameWith b vs .set .guides)
   unfolding cellSum
   level-cells i h = let M =
       frameWith b vs .set .guides in fold-same _+_ 0 natSums _ _ 0 M (λ f u v. rep .cells i f h (subst (λ (q : ℕ). f < q) (zero-add M) v))
@@ -139,7 +140,8 @@ module _ {b vs : List ℕ} {plan : Plan} {s t : ℕ} {cs ws : List ℕ} (st : Co
   level-few : (i : ℕ) → i < frameWith b vs .set .levels → cellSum (frameWith b vs .set .guides) i cs (frameWith b vs .set .guides) ≤ 961
   level-few i h =
       le-trans
-      (sum-term (λ i. cellSum (frameWith b vs .set .guides) i cs (frameWith b vs .set .guides)) 0 (frameWith b vs .set .levels) i (omega arith) (omega arith))
+      (sum-term (λ i. cellSum (frameWith b vs .set .guides) i cs (frameWith b vs .set .guides)) 0 (frameWith b vs .set .levels) i (omega arith)
+      (omega arith))
       all-cells
 
   marked : (i : ℕ) → i < frameWith b vs .set .levels → Marked (frameWith b vs .set .guides) i cs ws

@@ -1,5 +1,6 @@
 // Ways 1 and 4, joint and coarse, in kind 1: a window's part in a walk, its stores and its box being made. The built-in weights are above 0, so that
-// only a file's own can leave a window without weight (document 01: hollow). A plane given in place of the file's values has them; an empty one is none.
+// only a file's own can leave a window without weight (document 01: hollow). A plane given in place of the file's values has them; an empty one is
+// none.
 use chain_nodes::FreeList;
 use joint_answer as search;
 use joint_rows::rows;
@@ -58,7 +59,8 @@ pub fn arrive(
 ) -> SearchEnd
     requires { ⌜ (Counted (now file) (now plane) plan s t (now counts) (now words)) × (WeightRows plan (now weights)) × (plan .kind ≡ 1)
         × (empty (frameWith (now file) (now plane)) s t ≡ false) ⌝ }
-    requires { ⌜ (cut .0 < plan .levels) × (shifts < 1099511627776) × (now «balance_box» ≡ balanceBox (frameWith (now file) (now plane)) s t (cut .0)) ⌝ }
+    requires { ⌜ (cut .0 < plan .levels) × (shifts < 1099511627776)
+        × (now «balance_box» ≡ balanceBox (frameWith (now file) (now plane)) s t (cut .0)) ⌝ }
     ensures { λ r. ⌜ Arrives way (frameWith (now (file .entry)) (now (plane .entry))) s t (cut .0) shifts r (now («balance_box» .exit)) ⌝ }
 {
     let sizes = Sizes {

@@ -42,7 +42,8 @@ use Rattle.joint_guided.specs.Guided.{GuidedVisited, BlocksVisited}
 use Rattle.joint_visit.specs.Visit.{JointWay, boxCut, JointCarried, JointVisited}
 
 module _ {b vs : List ℕ} {z : Plan} (pl : Pictured b vs z) where
-  pub counted-of : {s t c : ℕ} {xs ws xs′ ws′ : List ℕ} {bx′ : List ℤ} → s < z .width → t < z .height → JointAt (frameWith b vs) s t c xs ws xs′ ws′ bx′ →
+  pub counted-of : {s t c : ℕ} {xs ws xs′ ws′ : List ℕ} {bx′ : List ℤ} → s < z .width → t < z .height
+      → JointAt (frameWith b vs) s t c xs ws xs′ ws′ bx′ →
       Counted b vs z s t xs′ ws′
   counted-of hs ht j =
       let k = settled (pixel-of pl hs ht) j in
@@ -146,7 +147,8 @@ module _ {b vs : List ℕ} {z : Plan} (pl : Pictured b vs z) (way : Way) (c n : 
       (record {
         counts = j .counts;
         words = j .words;
-        box = e .1 ∙ ap (balanceBox (frameWith b vs) s t) (sym (box-cut-table (byBlocks way) (frameWith b vs .set .kind) (v .cut .0) (kind-of pl one)));
+        box = e .1 ∙ ap (balanceBox (frameWith b vs) s t)
+            (sym (box-cut-table (byBlocks way) (frameWith b vs .set .kind) (v .cut .0) (kind-of pl one)));
       })
       (carried-count pl one (e .2 ∙ em))
 

@@ -1,7 +1,6 @@
 // Ways 1 and 4, joint and coarse, at a window of a walk: the stores made or moved, its answer, the cut point moved to it, and the shifts counted.
 // The walk lends file, rows, box, stores and histogram, and hands the visit on; in kind 1 also a plane in place of the file's values, or an empty one
-// for these. Way 4's box is the walk's own: kind 1 searches by it, and in kind 2,
-// which has no use for it, it stays at level 0.
+// for none. Way 4's box is the walk's own: kind 1 searches by it, and in kind 2, which has no use for it, it stays at level 0.
 use joint::list;
 use joint::start as store_start;
 use pixels::sums;
@@ -50,7 +49,8 @@ pub fn enter(
 ) -> Visit
     requires { ⌜ (Fresh (now file) (now plane) plan column row (now counts) (now words)) × (Blank (plan .levels) (now histogram)) ⌝ }
     requires { ⌜ (WeightRows plan (now weights)) × (JointWay way) × (PlaneServes plan (now plane)) ⌝ }
-    ensures { λ r. ⌜ JointVisited way (frameWith (now (file .entry)) (now (plane .entry))) (arrive way (frameWith (now (file .entry)) (now (plane .entry))) column row 0 0) r
+    ensures { λ r. ⌜ JointVisited way (frameWith (now (file .entry)) (now (plane .entry)))
+        (arrive way (frameWith (now (file .entry)) (now (plane .entry))) column row 0 0) r
         (now (counts .entry)) (now (words .entry)) (now (counts .exit)) (now (words .exit))
         (now («balance_box» .exit)) (now (histogram .exit)) ⌝ }
 {

@@ -57,7 +57,8 @@ module _ {p : List ℕ} (v : PixelsBelow 1024 256 p) (n : ℕ) {k : ℕ} (h : k 
 
 -- ---- a step of the window
 module _ {b vs : List ℕ} {z : Plan} (pl : Pictured b vs z) {s t s′ t′ : ℕ} (adj : Adjacent z s t s′ t′) {d : Step} (ed : d ≡ stepOf z s t s′ t′)
-    {e l : List ℕ} (re : LinePixels b vs z (d .entering) e) (rl : LinePixels b vs z (d .leaving) l) {n : ℕ} {a : Tally} (v : BelowAt (frameWith b vs) s t n a)
+    {e l : List ℕ} (re : LinePixels b vs z (d .entering) e) (rl : LinePixels b vs z (d .leaving) l) {n : ℕ} {a : Tally}
+    (v : BelowAt (frameWith b vs) s t n a)
   where
     pub carriable : Carriable e l n a
     unfolding belowSum

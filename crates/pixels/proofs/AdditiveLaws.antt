@@ -158,7 +158,8 @@ module _ {A : Type 0} {_⊕_ : A → A → A} {o : A} {change : Bool → A → A
       (re : (h : ℕ → ℕ → A) → pixelFold _⊕_ o e h ≡ lineFold _⊕_ o b vs (d .entering) h) (rl : (h : ℕ → ℕ → A) →
       pixelFold _⊕_ o l h ≡ lineFold _⊕_ o b vs (d .leaving) h) where
     pub window-step : (q : Q) →
-        windowSum _⊕_ o share (frameWith b vs) s′ t′ q ⊕ pixelFold _⊕_ o l (share q) ≡ windowSum _⊕_ o share (frameWith b vs) s t q ⊕ pixelFold _⊕_ o e
+        windowSum _⊕_ o share (frameWith b vs) s′ t′ q ⊕ pixelFold _⊕_ o l (share q)
+        ≡ windowSum _⊕_ o share (frameWith b vs) s t q ⊕ pixelFold _⊕_ o e
         (share q)
     window-step q =
         ap (λ (y : A). windowSum _⊕_ o share (frameWith b vs) s′ t′ q ⊕ y) (rl (share q))
@@ -194,7 +195,8 @@ module _ {Q : Type 0} (share : Q → ℕ → ℕ → ℕ) where
   module _ {b vs : List ℕ} {z : Plan} (pl : Pictured b vs z) {s t s′ t′ : ℕ} (adj : Adjacent z s t s′ t′) {d : Step} (ed : d ≡ stepOf z s t s′ t′)
       {e l : List ℕ} (re : LinePixels b vs z (d .entering) e) (rl : LinePixels b vs z (d .leaving) l) where
     pub stepped : (q : Q) →
-        windowSum _+_ 0 share (frameWith b vs) s′ t′ q + pixelFold _+_ 0 l (share q) ≡ windowSum _+_ 0 share (frameWith b vs) s t q + pixelFold _+_ 0 e
+        windowSum _+_ 0 share (frameWith b vs) s′ t′ q + pixelFold _+_ 0 l (share q)
+        ≡ windowSum _+_ 0 share (frameWith b vs) s t q + pixelFold _+_ 0 e
         (share q)
     stepped = window-step naturals share pl adj ed e l (re .sum) (rl .sum)
 

@@ -155,9 +155,11 @@ module _ {b vs : List ℕ} {z : Plan} {d : Line} {m : ℕ} {p : List ℕ} (ins :
   }
 
 -- the part of the places that a line was read into
-pub line-part : {b vs : List ℕ} {z : Plan} {d : Line} (n : ℕ) (p : List ℕ) → LinePixels b vs z d (take n p) → LinePixels b vs z d (take (n - 0) (drop 0 p))
+pub line-part : {b vs : List ℕ} {z : Plan} {d : Line} (n : ℕ) (p : List ℕ) → LinePixels b vs z d (take n p)
+    → LinePixels b vs z d (take (n - 0) (drop 0 p))
 line-part n p v = let e : n - 0 ≡ n = omega arith in rw e v
 
 -- a step's lines can be read
-pub step-in : {b vs : List ℕ} {z : Plan} → Pictured b vs z → {s t s′ t′ : ℕ} → Adjacent z s t s′ t′ → {d : Step} → d ≡ stepOf z s t s′ t′ → StepInPlanes z d
+pub step-in : {b vs : List ℕ} {z : Plan} → Pictured b vs z → {s t s′ t′ : ℕ} → Adjacent z s t s′ t′ → {d : Step} → d ≡ stepOf z s t s′ t′
+    → StepInPlanes z d
 step-in pl adj ed = rw ed (lines-in (plan-limits pl) adj)

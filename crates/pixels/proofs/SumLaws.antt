@@ -102,7 +102,8 @@ exchanged m l e = record {
 
 -- ---- a step of the window
 module _ {b vs : List ℕ} {z : Plan} (pl : Pictured b vs z) {s t s′ t′ : ℕ} (adj : Adjacent z s t s′ t′) {d : Step} (ed : d ≡ stepOf z s t s′ t′)
-    {e l : List ℕ} (re : LinePixels b vs z (d .entering) e) (rl : LinePixels b vs z (d .leaving) l) {a : Sums} (v : SumsAt (frameWith b vs) s t a) where
+    {e l : List ℕ} (re : LinePixels b vs z (d .entering) e) (rl : LinePixels b vs z (d .leaving) l) {a : Sums}
+    (v : SumsAt (frameWith b vs) s t a) where
   pub movable : MovableByLists e l a
   unfolding pixelCount guideSum squareSum
   movable =

@@ -77,7 +77,8 @@ unfolding pixelFoldTo lineFoldTo
 whole-fold _⊕_ o laws b vs d n p live level guide h =
     fold-same _⊕_ o laws _ _ 0 _ (λ k x y. rw (live k (omega arith)) (ap₂ h (level k (omega arith)) (guide k (omega arith))))
 
-module _ {b vs : List ℕ} {z : Plan} {d : Line} {total : ℕ} {p : List ℕ} (pl : Pictured b vs z) (ins : InPlanes z d) (v : CopiedTo b vs d (d .count) total p)
+module _ {b vs : List ℕ} {z : Plan} {d : Line} {total : ℕ} {p : List ℕ} (pl : Pictured b vs z) (ins : InPlanes z d)
+    (v : CopiedTo b vs d (d .count) total p)
     (few : total < noReading) where
   abbrev n : ℕ
   n = d .count

@@ -44,7 +44,17 @@ use Rattle.spec.proofs.Limits.{FrameLimits, Pixel, in-plane, value-dead
 use Rattle.spec.proofs.Calls.{RoomFits, fits-of}
 use Rattle.spec.proofs.Own.{table-light}
 use Rattle.spec.proofs.Totals.{answer-empty}
-use Rattle.spec.proofs.Warmer.{Alike, Warmer, alike-count, alike-empty, alike-guides, alike-squares, alike-none, warmer-answer, same-answer}
+use Rattle.spec.proofs.Warmer.{
+  AlikeFrames,
+  Warmer,
+  alike-count,
+  alike-empty,
+  alike-guides,
+  alike-squares,
+  alike-none,
+  warmer-answer,
+  same-answer,
+}
 
 -- ---- a pixel by its number
 module _ (k : Settings) (low : 1 ≤ k .width) where
@@ -128,7 +138,7 @@ in-place (a ∷ v) q n h = refl
 
 pub alike-with : (p : Frame) (v : List ℕ)
     → ((x y : ℕ) → x < p .set .width → y < p .set .height → eqb (inPlace v (y * p .set .width + x) (level p x y)) noReading ≡ dead p x y)
-    → Alike p (withValues p v)
+    → AlikeFrames p (withValues p v)
 alike-with p v h = record { settings = refl; guides = λ x y hx hy. refl; tables = λ f g hf hg. refl; dead = h }
 
 -- the frame's own plane
@@ -181,7 +191,7 @@ module _ {p : Frame} (good : FrameLimits p) where
       chosen-at : (x y : ℕ) → level (withValues p v) x y ≡ getD v (y * p .set .width + x) 0
       chosen-at x y = in-place v (y * p .set .width + x) (level p x y) (subst (λ (n : ℕ). 0 < n) (sym (c .long)) some-pixel)
 
-      pub chosen-alike : Alike p (withValues p v)
+      pub chosen-alike : AlikeFrames p (withValues p v)
       chosen-alike =
           alike-with p v
           (λ x y hx hy. ap (λ (n : ℕ). eqb n noReading) (chosen-at x y) ∙ chosen-dead _ (in-plane (p .set) x y hx hy)
@@ -314,7 +324,7 @@ module _ (b u : List ℕ) (ok : verdict b ≡ accepted) where
     tolerance one = least-and-greatest (limits-of b ok) u upper-of (table-nowhere (frameOf b) one)
 
   -- ---- any plane that fits leaves the sums in which no level stands
-  pub plane-alike : PlaneFits b u → Alike (frameOf b) (frameWith b u)
+  pub plane-alike : PlaneFits b u → AlikeFrames (frameOf b) (frameWith b u)
   unfolding frameOf
   plane-alike fit = alike-with (frameOf b) u (λ x y hx hy. value-dead b ok u fit _ (in-plane (settingsOf b) x y hx hy))
 

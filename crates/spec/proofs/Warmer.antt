@@ -64,7 +64,7 @@ module _ (total : (ℕ → ℕ → ℤ) → ℤ) (In : ℕ → ℕ → Type 0)
 
 -- ---- frames that are alike
 -- in all but the levels of their readings, inside the picture
-pub record Alike (p q : Frame) : Type 0 where
+pub record AlikeFrames (p q : Frame) : Type 0 where
   pub settings : q .set ≡ p .set
   pub guides : (x y : ℕ) → x < p .set .width → y < p .set .height → guide q x y ≡ guide p x y
   pub tables : (f g : ℕ) → f < p .set .guides → g < p .set .guides → table q f g ≡ table p f g
@@ -76,7 +76,7 @@ unfolding span
 in-picture r c size k a b = omega arith
 
 -- their windows have the same pixels
-module _ {A : Type 0} (_⊕_ : A → A → A) (z : A) (laws : AdditionLaws _⊕_ z) {p q : Frame} (a : Alike p q) (s t : ℕ) where
+module _ {A : Type 0} (_⊕_ : A → A → A) (z : A) (laws : AdditionLaws _⊕_ z) {p q : Frame} (a : AlikeFrames p q) (s t : ℕ) where
   pub alike-over : (f g : ℕ → ℕ → A) → ((x y : ℕ) → InWindow p s t x y → f x y ≡ g x y) → over _⊕_ z q s t f ≡ over _⊕_ z p s t g
   unfolding over foldRect live
   alike-over f g h =
@@ -93,7 +93,7 @@ module _ {A : Type 0} (_⊕_ : A → A → A) (z : A) (laws : AdditionLaws _⊕_
       go x y e true r k = rw (e, r) refl
       go x y e false r k = rw (e, r) (k r)
 
-module _ {p q : Frame} (a : Alike p q) (s t : ℕ) where
+module _ {p q : Frame} (a : AlikeFrames p q) (s t : ℕ) where
   pub alike-count : pixelCount q s t ≡ pixelCount p s t
   unfolding pixelCount
   alike-count = alike-over _+_ 0 natSums a s t _ _ (λ x y h. refl)
@@ -111,7 +111,7 @@ module _ {p q : Frame} (a : Alike p q) (s t : ℕ) where
   alike-squares = alike-over _+_ 0 natSums a s t _ _ (λ x y h. ap (λ (n : ℕ). n * n) (a .guides x y (h .wide) (h .high)))
 
 -- they weigh alike
-module _ {p q : Frame} {s t : ℕ} (k : Pixel p s t) (a : Alike p q) where
+module _ {p q : Frame} {s t : ℕ} (k : Pixel p s t) (a : AlikeFrames p q) where
   pub alike-own : (g : ℕ) → g < p .set .guides → ownWeight q s t g ≡ ownWeight p s t g
   unfolding ownWeight
   alike-own g h =
@@ -188,7 +188,7 @@ own-median p s t = refl
 
 -- ---- warmer in, never colder out
 pub record Warmer (p q : Frame) : Type 0 where
-  pub alike : Alike p q
+  pub alike : AlikeFrames p q
   pub levels : (x y : ℕ) → x < p .set .width → y < p .set .height → level p x y ≤ level q x y
 
 -- the weights that are counted with are not negative either: a hollow window's are 1
@@ -218,7 +218,7 @@ warmer-answer {p} {q} {s} {t} k h light = rw (alike-empty (h .alike) s t) (go (e
     go false = warmer-median k h light
 
 -- ---- alike, and with the same levels in the picture: the same answers
-module _ {p q : Frame} {s t : ℕ} (k : Pixel p s t) (a : Alike p q)
+module _ {p q : Frame} {s t : ℕ} (k : Pixel p s t) (a : AlikeFrames p q)
     (same : (x y : ℕ) → x < p .set .width → y < p .set .height → level q x y ≡ level p x y) where
   pub same-median : median q s t ≡ median p s t
   same-median =

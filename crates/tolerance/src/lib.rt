@@ -1,4 +1,5 @@
-// Document 02, ask 7: levels known within a tolerance. One call filters a frame by way 1 with its own values, and then with a plane of upper levels in
+// Document 02, ask 7: levels known within a tolerance. One call filters a frame by way 1 with its own values, and then with a plane of upper levels
+// in
 // their place: at each pixel the least and the greatest answer over every choice of levels between the two.
 use frame::plan::open_plan;
 use ice_filter::sweep;
@@ -85,7 +86,8 @@ fn refused(verdict: Verdict) -> Tolerated
     }
 }
 
-// The least and the greatest answers of a frame whose levels lie between its own and the upper ones; what it promises is one record, for refusals too.
+// The least and the greatest answers of a frame whose levels lie between its own and the upper ones; what it promises is one record, for refusals
+// too.
 pub fn tolerance(
     file: &[u8],
     upper: &[u16],

@@ -33,7 +33,8 @@ pub fn enter(
     requires { ⌜ (column < plan .width) × (row < plan .height) ⌝ }
     requires { ⌜ StoresFit way (settingsIn plan) (stores (now counts) (now words) (now numbers)) ⌝ }
     requires { ⌜ (now «balance_box» ≡ zeros) × (Blank (plan .levels) (now histogram)) ⌝ }
-    ensures { λ r. ⌜ Visited way (now (file .entry)) (now (plane .entry)) (arrive way (frameWith (now (file .entry)) (now (plane .entry))) column row 0 0)
+    ensures { λ r. ⌜ Visited way (now (file .entry)) (now (plane .entry))
+        (arrive way (frameWith (now (file .entry)) (now (plane .entry))) column row 0 0)
         (stores (now (counts .entry)) (now (words .entry)) (now (numbers .entry)))
         (stores (now (counts .exit)) (now (words .exit)) (now (numbers .exit)))
         (now (histogram .exit)) (now («balance_box» .exit)) r ⌝ }
@@ -78,7 +79,8 @@ pub fn slide(
     requires { ⌜ Adjacent plan (from .column) (from .row) column row ⌝ }
     requires { ⌜ StoresFit way (settingsIn plan) (stores (now counts) (now words) (now numbers)) ⌝ }
     requires { ⌜ AtWindow way (now file) (now plane) (stores (now counts) (now words) (now numbers)) (now histogram) (now «balance_box») from ⌝ }
-    ensures { λ r. ⌜ Visited way (now (file .entry)) (now (plane .entry)) (arrive way (frameWith (now (file .entry)) (now (plane .entry))) column row (from .cut .0) (from .shifts))
+    ensures { λ r. ⌜ Visited way (now (file .entry)) (now (plane .entry))
+        (arrive way (frameWith (now (file .entry)) (now (plane .entry))) column row (from .cut .0) (from .shifts))
         (stores (now (counts .entry)) (now (words .entry)) (now (numbers .entry)))
         (stores (now (counts .exit)) (now (words .exit)) (now (numbers .exit)))
         (now (histogram .exit)) (now («balance_box» .exit)) r ⌝ }

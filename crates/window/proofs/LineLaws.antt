@@ -156,13 +156,15 @@ module _ {A : Type 0} (_⊕_ : A → A → A) (e : A) where
 
     -- the window by its columns
     columns-over : (s t : ℕ) →
-        fold _⊕_ e (inColumn _⊕_ e (frameWith b vs) t at) (s - frameWith b vs .set .radius) (span (frameWith b vs .set .radius) s (frameWith b vs .set .width)) ≡ over
+        fold _⊕_ e (inColumn _⊕_ e (frameWith b vs) t at) (s - frameWith b vs .set .radius)
+        (span (frameWith b vs .set .radius) s (frameWith b vs .set .width)) ≡ over
         _⊕_ e (frameWith b vs) s t at
     unfolding over foldRect inColumn
     columns-over s t = refl
 
     pub columns-law : (s t : ℕ) →
-        over _⊕_ e (frameWith b vs) s t at ≡ fold _⊕_ e (λ x. lineFold _⊕_ e b vs (columnLine z x t) h) (s - z .radius) (span (z .radius) s (z .width))
+        over _⊕_ e (frameWith b vs) s t at ≡ fold _⊕_ e (λ x. lineFold _⊕_ e b vs (columnLine z x t) h) (s - z .radius)
+        (span (z .radius) s (z .width))
     columns-law s t =
         let f = facts pl in
         sym (columns-over s t)
@@ -173,7 +175,8 @@ module _ {A : Type 0} (_⊕_ : A → A → A) (e : A) where
     module _ (laws : AdditionLaws _⊕_ e) where
       column-law : (s t : ℕ) → s + 1 < z .width
           →
-          over _⊕_ e (frameWith b vs) (s + 1) t at ⊕ lineFold _⊕_ e b vs (columnStep z s t .leaving) h ≡ over _⊕_ e (frameWith b vs) s t at ⊕ lineFold _⊕_ e b vs
+          over _⊕_ e (frameWith b vs) (s + 1) t at ⊕ lineFold _⊕_ e b vs (columnStep z s t .leaving) h
+          ≡ over _⊕_ e (frameWith b vs) s t at ⊕ lineFold _⊕_ e b vs
           (columnStep z s t .entering) h
       unfolding columnStep
       column-law s t k =
@@ -189,7 +192,8 @@ module _ {A : Type 0} (_⊕_ : A → A → A) (e : A) where
 
       row-law : (s t : ℕ) → t + 1 < z .height
           →
-          over _⊕_ e (frameWith b vs) s (t + 1) at ⊕ lineFold _⊕_ e b vs (rowStep z s t .leaving) h ≡ over _⊕_ e (frameWith b vs) s t at ⊕ lineFold _⊕_ e b vs
+          over _⊕_ e (frameWith b vs) s (t + 1) at ⊕ lineFold _⊕_ e b vs (rowStep z s t .leaving) h
+          ≡ over _⊕_ e (frameWith b vs) s t at ⊕ lineFold _⊕_ e b vs
           (rowStep z s t .entering) h
       unfolding rowStep
       row-law s t k =

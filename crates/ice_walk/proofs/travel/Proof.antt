@@ -17,7 +17,8 @@ use Rattle.spec.proofs.answer_number.Reads as answer-number-reads
 use Rattle.ways.proofs.dispatch.enter.Reads as enter-reads
 
 abbrev Inv-loop : tie.InvT-loop
-Inv-loop file plan way column row moves counts₀ words₀ numbers₀ summary answers₀ none weights box₀ histogram₀ visit₀ i₀ counts words numbers answers box
+Inv-loop file plan way column row moves counts₀ words₀ numbers₀ summary answers₀ none weights box₀ histogram₀ visit₀ i₀ counts words numbers
+    answers box
     histogram visit i =
     Walking way file moves (stateOf way visit₀) (stores counts₀ words₀ numbers₀) answers₀ (stores counts words numbers) answers histogram box visit i
 
@@ -29,7 +30,8 @@ abbrev μ-loop : tie.MeasureT-loop
 -- the way back from the loop to the function's entry
 entry : (c : tie.After-answer-number Inv-loop μ-loop) → tie.Start Inv-loop μ-loop
 entry c =
-    c .before .before .before .before .before .before .before .before .before .before .before .before .before .before .before .before .before .before .before .before .before .before .before .before
+    c .before .before .before .before .before .before .before .before .before .before .before .before .before .before .before .before .before
+    .before .before .before .before .before .before .before
 
 room : (c : tie.After-answer-number Inv-loop μ-loop) → length (entry c .args .moves .now) + 1 ≤ length (entry c .args .answers .now)
 unfolding entry
@@ -87,7 +89,8 @@ step-requires c κs =
     let at = entry b in (
       (
         at .pre .0 .0,
-        b .before .before .before .before .before .before .before .before .before .before .before .before .before .before .before .before .built-rows .ensures,
+        b .before .before .before .before .before .before .before .before .before .before .before .before .before .before .before .before
+            .built-rows .ensures,
         at .pre .0 .1,
       ),
       (
@@ -117,9 +120,11 @@ mul-answers c =
     omega (arith, t .loop-test .taken, entry (t .before .before) .pre .1 .1 .0)
 
 long : (c : tie.After-slice-known10 Inv-loop μ-loop) →
-    length (c .before .before .before .before .before .before .before .before .before .before .before .before .before .before .before .before .loop .answers)
+    length (c .before .before .before .before .before .before .before .before .before .before .before .before .before .before .before .before .loop
+    .answers)
     ≡ length
-    (entry (c .before .before .before .before .before .before .before .before .before .before .before .before .before .before .before .before .before) .args
+    (entry (c .before .before .before .before .before .before .before .before .before .before .before .before .before .before .before .before
+    .before) .args
     .answers .now)
 unfolding entry
 long c =
@@ -132,9 +137,11 @@ slice-write-answers-2 c =
     omega (
       arith,
       long (c .before),
-      c .before .before .before .before .before .before .before .before .before .before .before .before .before .before .before .before .loop-test .taken,
+      c .before .before .before .before .before .before .before .before .before .before .before .before .before .before .before .before .loop-test
+          .taken,
       room
-          (c .before .before .before .before .before .before .before .before .before .before .before .before .before .before .before .before .before .before),
+          (c .before .before .before .before .before .before .before .before .before .before .before .before .before .before .before .before
+          .before .before),
     )
 
 loop-less : tie.Need-loop-less Inv-loop μ-loop
@@ -148,7 +155,8 @@ loop-less c =
 loop-again : tie.Need-loop-again Inv-loop μ-loop
 unfolding entry
 loop-again c =
-    let l = c .before .before .before .before .before .before .before .before .before .before .before .before .before .before .before .before .before in
+    let l = c .before .before .before .before .before .before .before .before .before .before .before .before .before .before .before .before
+    .before in
     walking-more _ _ _ _ _ _ _ _ _ _ _ (l .loop .i) (l .loop .inv)
     (omega (
       arith,

@@ -63,7 +63,8 @@ part-arrive-end c =
 
 -- the part of the constants weighs the window, where it has all 256 of the row
 built : (c : tie.After-struct-known3) {end : ℕ} → let at = start (read c) in let from = 255 - read c .guide-at .result .0 in
-    end ≡ from + 256 → RowWeighs (frameWith (at .args .file .now) (at .args .plane .now)) (at .args .s) (at .args .t) (take (end - from) (drop from (at .args .weights .now)))
+    end ≡ from + 256 → RowWeighs (frameWith (at .args .file .now) (at .args .plane .now)) (at .args .s) (at .args .t)
+    (take (end - from) (drop from (at .args .weights .now)))
 built c e =
     let g = read c in
     let at = start g in

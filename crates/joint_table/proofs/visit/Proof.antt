@@ -39,7 +39,8 @@ start e = e .before .before .before .before .before .before
 read : (e : tie.Else1) → let at = start e in empty (frameWith (at .args .file .now) (at .args .plane .now)) (at .args .column) (at .args .row) ≡ false
 read e =
     let at = start e in
-    count-read (frameWith (at .args .file .now) (at .args .plane .now)) (at .args .column) (at .args .row) (omega (arith, at .pre .0 .3, e .if1 .left))
+    count-read (frameWith (at .args .file .now) (at .args .plane .now)) (at .args .column) (at .args .row)
+    (omega (arith, at .pre .0 .3, e .if1 .left))
 
 arrive-requires : tie.Need-arrive-requires
 arrive-requires c κs =

@@ -54,7 +54,12 @@ enter-requires c κs =
     let at = begin k in
     let f = at .pre .0 .0 in
     let none = at .pre .1 .2 (i .if1 .taken) in (
-      (counted-own (at .args .file .now) (at .args .column) (at .args .row) none (counted-of (f .pictured) (f .column) (f .row) (k .build .ensures)), i .if1 .taken, at .pre .0 .1),
+      (
+        counted-own (at .args .file .now) (at .args .column) (at .args .row) none
+            (counted-of (f .pictured) (f .column) (f .row) (k .build .ensures)),
+        i .if1 .taken,
+        at .pre .0 .1,
+      ),
       box-own (at .args .file .now) (at .args .column) (at .args .row) none 0 (k .build .ensures .box),
     )
 
@@ -107,7 +112,8 @@ returns-3 c =
     let k = built (i .before) in
     let at = begin k in
     let f = at .pre .0 .0 .pictured in
-    table-visited f (at .args .way) 0 0 (kind-table f (i .if1 .left)) (count-own f (c .before .before .before .before .start .ensures)) (k .build .ensures)
+    table-visited f (at .args .way) 0 0 (kind-table f (i .if1 .left)) (count-own f (c .before .before .before .before .start .ensures))
+    (k .build .ensures)
     (c .visit .ensures)
 
 pub enter-spec : {M : Type 1} → statement M

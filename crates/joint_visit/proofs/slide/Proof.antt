@@ -76,11 +76,13 @@ abbrev summed : tie.After-exchange2 → tie.After-moved
 summed h = h .before .before .before .before .before .before
 
 -- the lists are the step's lines
-enters : (r : tie.After-read-in2) → let d = step (first r) in LinePixels (begin d .args .file .now) (begin d .args .plane .now) (begin d .args .plan) (d .step-to .result .entering)
+enters : (r : tie.After-read-in2) → let d = step (first r) in LinePixels (begin d .args .file .now) (begin d .args .plane .now)
+    (begin d .args .plan) (d .step-to .result .entering)
     (take (first r .read-in .result - 0) (drop 0 (first r .read-in .last .1 .1 .1 .1 .0)))
 enters r = line-part (first r .read-in .result) (first r .read-in .last .1 .1 .1 .1 .0) (first r .read-in .ensures .1)
 
-leaves : (r : tie.After-read-in2) → let d = step (first r) in LinePixels (begin d .args .file .now) (begin d .args .plane .now) (begin d .args .plan) (d .step-to .result .leaving)
+leaves : (r : tie.After-read-in2) → let d = step (first r) in LinePixels (begin d .args .file .now) (begin d .args .plane .now)
+    (begin d .args .plan) (d .step-to .result .leaving)
     (take (r .read-in2 .result - 0) (drop 0 (r .read-in2 .last .1 .1 .1 .1 .0)))
 leaves r = line-part (r .read-in2 .result) (r .read-in2 .last .1 .1 .1 .1 .0) (r .read-in2 .ensures .1)
 
@@ -92,16 +94,19 @@ level k =
     k .box-cut .ensures ∙ ap (λ (b : Bool). boxCut b (at .args .plan .kind) (at .args .from .cut .0)) (k .before .before .by-blocks .ensures)
 
 held : (k : tie.After-box-cut) → let at = opened (lists k) in
-    Held (at .args .file .now) (at .args .plane .now) (at .args .plan) (at .args .from .column) (at .args .from .row) (k .box-cut .result .0) (at .args .counts .now)
+    Held (at .args .file .now) (at .args .plane .now) (at .args .plan) (at .args .from .column) (at .args .from .row) (k .box-cut .result .0)
+    (at .args .counts .now)
     (at .args .words .now) (at .args .balance-box .now)
 held k =
     let at = opened (lists k) in
-    subst (λ (c : ℕ). Held (at .args .file .now) (at .args .plane .now) (at .args .plan) (at .args .from .column) (at .args .from .row) c (at .args .counts .now)
+    subst (λ (c : ℕ). Held (at .args .file .now) (at .args .plane .now) (at .args .plan) (at .args .from .column) (at .args .from .row) c
+    (at .args .counts .now)
     (at .args .words .now) (at .args .balance-box .now)) (sym (level k)) (at .pre .0 .0)
 
 -- the stores and the box are the neighbour's
 moved : (x : tie.After-exchange) → let at = opened (both x) in
-    JointAt (frameWith (at .args .file .now) (at .args .plane .now)) (at .args .column) (at .args .row) (kept x .box-cut .result .0) (at .args .counts .now)
+    JointAt (frameWith (at .args .file .now) (at .args .plane .now)) (at .args .column) (at .args .row) (kept x .box-cut .result .0)
+    (at .args .counts .now)
     (at .args .words .now) (x .exchange .last .1 .1 .1 .1 .1 .0) (x .exchange .last .1 .1 .1 .1 .1 .1 .0) (x .exchange .last .1 .1 .1 .1 .0)
 moved x =
     let r = both x in
@@ -111,7 +116,8 @@ moved x =
 
 -- what kind 2 carried to here
 was : (i : tie.Then1) → let at = opened (both (stored i)) in
-    GuidedAt (frameWith (at .args .file .now) (at .args .plane .now)) (at .args .from .column) (at .args .from .row) (at .args .from .cut .0) (at .args .from .running .sums)
+    GuidedAt (frameWith (at .args .file .now) (at .args .plane .now)) (at .args .from .column) (at .args .from .row) (at .args .from .cut .0)
+    (at .args .from .running .sums)
     (at .args .from .running .below) (at .args .histogram .now)
 was i = let at = opened (both (stored i)) in at .pre .0 .2 .guided (kind-of (at .pre .0 .0 .pictured) (i .if1 .taken))
 
@@ -259,7 +265,12 @@ arrive-by-blocks-requires c κs =
     let none = at .pre .1 .3 (i .if1 .taken) in
     let q = both-in (at .pre .0 .1) in (
       (with-own (at .pre .0 .0 .pictured), i .if1 .taken, q .2, q .3),
-      (sums-own (at .args .file .now) (at .args .column) (at .args .row) none (sums-are (summed h)), histogram-own (at .args .file .now) (at .args .column) (at .args .row) none (histogram-is h), omega (arith, at .pre .1 .1 .shifts)),
+      (
+        sums-own (at .args .file .now) (at .args .column) (at .args .row) none (sums-are (summed h)),
+        histogram-own (at .args .file .now)
+            (at .args .column) (at .args .row) none (histogram-is h),
+        omega (arith, at .pre .1 .1 .shifts),
+      ),
     )
 
 -- the histogram's exchange, and from it the stores'
@@ -328,11 +339,17 @@ arrive-requires c κs =
     let none = at .pre .1 .3 (i .if1 .taken) in
     let here = level (kept x) ∙ ap (λ (b : Bool). boxCut b (at .args .plan .kind) (at .args .from .cut .0))
     (sym (kept x .before .before .by-blocks .ensures) ∙ w .if2 .left) in (
-      (counted-own (at .args .file .now) (at .args .column) (at .args .row) none (counted x), i .if1 .taken, histogram-own (at .args .file .now) (at .args .column) (at .args .row) none (histogram-is h)),
+      (
+        counted-own (at .args .file .now) (at .args .column) (at .args .row) none (counted x),
+        i .if1 .taken,
+        histogram-own (at .args .file .now)
+            (at .args .column) (at .args .row) none (histogram-is h),
+      ),
       (
         (
           sums-own (at .args .file .now) (at .args .column) (at .args .row) none (sums-are (summed h)),
-          carries-own (at .args .file .now) (at .args .column) (at .args .row) none (carries-step pl (at .pre .0 .1) (d .step-to .ensures) (enters r) (leaves r) (was i .below)),
+          carries-own (at .args .file .now) (at .args .column) (at .args .row) none
+              (carries-step pl (at .pre .0 .1) (d .step-to .ensures) (enters r) (leaves r) (was i .below)),
         ),
         (
           at .pre .1 .1 .cut,
@@ -386,7 +403,8 @@ enough f =
     let r = both (told f) in
     let d = step (first r) in
     let at = begin d in
-    count-enough (at .pre .0 .0 .pictured) (at .pre .0 .1) (d .step-to .ensures) (first r .read-in .last .1 .1 .1 .1 .0) (r .read-in2 .last .1 .1 .1 .1 .0)
+    count-enough (at .pre .0 .0 .pictured) (at .pre .0 .1) (d .step-to .ensures) (first r .read-in .last .1 .1 .1 .1 .0)
+    (r .read-in2 .last .1 .1 .1 .1 .0)
     (entering-long r) (leaving-long r) (enters r) (leaves r) (at .pre .0 .2 .count)
 
 pixels-are : (f : tie.After-former) → let r = both (told f) in let at = opened r in
@@ -396,7 +414,8 @@ pixels-are f =
     let r = both (told f) in
     let d = step (first r) in
     let at = begin d in
-    count-moved (at .pre .0 .0 .pictured) (at .pre .0 .1) (d .step-to .ensures) (first r .read-in .last .1 .1 .1 .1 .0) (r .read-in2 .last .1 .1 .1 .1 .0)
+    count-moved (at .pre .0 .0 .pictured) (at .pre .0 .1) (d .step-to .ensures) (first r .read-in .last .1 .1 .1 .1 .0)
+    (r .read-in2 .last .1 .1 .1 .1 .0)
     (entering-long r) (leaving-long r) (enters r) (leaves r) (at .pre .0 .2 .count)
 
 add-count : tie.Need-add-count

@@ -59,7 +59,8 @@ returns c =
     let g = second c in
     let f = first (g .before) in
     let at = start f in
-    both-done (at .args .file .now) (at .args .upper .now) (f .sweep .ensures .0) (g .sweep2 .ensures .0) _ _ _ _ (f .sweep .ensures .1) (g .sweep2 .ensures .1)
+    both-done (at .args .file .now) (at .args .upper .now) (f .sweep .ensures .0) (g .sweep2 .ensures .0) _ _ _ _ (f .sweep .ensures .1)
+    (g .sweep2 .ensures .1)
 
 pub filter-both-spec : {M : Type 1} → statement M
 filter-both-spec =

@@ -76,12 +76,14 @@ way-of-requires c κs = search needs
 
 -- from the call back to the start
 abbrev start-of : tie.After-sweep-arg4 → tie.Start
-start-of c = c .before .before .before .before .before .before .before .before .before .before .before .before .before .before .before .before .before .before
+start-of c = c .before .before .before .before .before .before .before .before .before .before .before .before .before .before .before .before
+    .before .before
 
 -- where all checks have passed: the plan is the file's, and the outcome is accepted
 plan-at : (c : tie.After-sweep-arg4) →
     Planned
-    (c .before .before .before .before .before .before .before .before .before .before .before .before .before .before .before .before .before .before .args
+    (c .before .before .before .before .before .before .before .before .before .before .before .before .before .before .before .before .before
+    .before .args
     .file .now) (c .before .before .before .before .before .before .before .before .before .before .before .before .open-plan .result .plan)
 plan-at c =
     planned-of (c .before .before .before .before .before .before .before .before .before .before .before .before .open-plan .result)
@@ -90,17 +92,20 @@ plan-at c =
     (c .before .before .before .before .before .before .before .before .before .before .if1 .left))
 
 outcome-at : (c : tie.After-sweep-arg4) → let at =
-    c .before .before .before .before .before .before .before .before .before .before .before .before .before .before .before .before .before .before in
+    c .before .before .before .before .before .before .before .before .before .before .before .before .before .before .before .before .before
+    .before in
     filterOutcome (at .args .file .now) (at .args .way) (roomIn (held at)) (length (at .args .output .now)) ≡ accepted
 unfolding filterOutcome
 outcome-at c =
     sym
     (own-decides (plan-at c)
     (own
-    (c .before .before .before .before .before .before .before .before .before .before .before .before .before .before .before .before .before .before)))
+    (c .before .before .before .before .before .before .before .before .before .before .before .before .before .before .before .before .before
+    .before)))
     ∙ sym (c .before .before .before .before .before .before .before .before .filter-verdict .ensures)
     ∙ quiet (numbered (c .before .before .before .before .before .before .before .before .filter-verdict .result))
-    (known (c .before .before .before .before .before .before .before .stops2 .ensures) (c .before .before .before .before .before .before .if2 .left))
+    (known (c .before .before .before .before .before .before .before .stops2 .ensures)
+    (c .before .before .before .before .before .before .if2 .left))
 
 slice-aggregate-sweep : tie.Need-slice-aggregate-sweep
 slice-aggregate-sweep c = search needs

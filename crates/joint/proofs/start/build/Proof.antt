@@ -14,10 +14,12 @@ clear-counts-requires : tie.Need-clear-counts-requires
 clear-counts-requires c κs = let at = c .before .before .before .before .before in omega (arith, plan-cells (at .pre .pictured), at .pre .cells)
 
 add-clear-words : tie.Need-add-clear-words
-add-clear-words c = let at = c .before .before .before .before .before .before .before .before .before in omega (arith, guides-high (at .pre .pictured))
+add-clear-words c = let at = c .before .before .before .before .before .before .before .before .before in omega
+    (arith, guides-high (at .pre .pictured))
 
 mul-clear-words : tie.Need-mul-clear-words
-mul-clear-words c = let at = c .before .before .before .before .before .before .before .before .before in omega (arith, words-small (at .pre .pictured))
+mul-clear-words c = let at = c .before .before .before .before .before .before .before .before .before in omega
+    (arith, words-small (at .pre .pictured))
 
 clear-words-requires : tie.Need-clear-words-requires
 clear-words-requires c κs = let at =

@@ -22,8 +22,10 @@ use Rattle.ways.proofs.dispatch.enter.Tie as tie
 enter-requires : tie.Need-enter-requires
 enter-requires c κs =
     let at = c .before .before .before .before .before .before .before .before .before .before .before in
-    let w = joint-key (at .args .way) (c .before .before .before .before .match .keys1) in
-    ((fit-joint _ (at .pre .0 .0) _ _ _ (at .pre .1 .1 .0) _ _ w (at .pre .1 .0), at .pre .1 .1 .1 .1), (at .pre .0 .1, w, plane-serves _ (at .args .plan) (at .pre .0 .2)))
+    let w = joint-key (at .args .way) (c .before .before .before .before .match .keys1) in (
+      (fit-joint _ (at .pre .0 .0) _ _ _ (at .pre .1 .1 .0) _ _ w (at .pre .1 .0), at .pre .1 .1 .1 .1),
+      (at .pre .0 .1, w, plane-serves _ (at .args .plan) (at .pre .0 .2)),
+    )
 
 enum-told : tie.Need-enum-told
 enum-told c = search needs
@@ -31,8 +33,10 @@ enum-told c = search needs
 enter-requires-2 : tie.Need-enter-requires-2
 enter-requires-2 c κs =
     let at = c .before .before .before .before .before .before .before .before .before in
-    let e = c .before .enum-told .given .1 in
-    ((with-own (at .pre .0 .0), guided-columns _ (at .args .plan) (at .pre .0 .2) e), (at .pre .1 .0, fit-columns _ (with-own (at .pre .0 .0)) _ _ _ (at .pre .1 .1 .0) e))
+    let e = c .before .enum-told .given .1 in (
+      (with-own (at .pre .0 .0), guided-columns _ (at .args .plan) (at .pre .0 .2) e),
+      (at .pre .1 .0, fit-columns _ (with-own (at .pre .0 .0)) _ _ _ (at .pre .1 .1 .0) e),
+    )
 
 enum-told-2 : tie.Need-enum-told-2
 enum-told-2 c = search needs
@@ -40,8 +44,10 @@ enum-told-2 c = search needs
 enter-requires-3 : tie.Need-enter-requires-3
 enter-requires-3 c κs =
     let at = c .before .before .before .before .before .before .before .before .before in
-    let e = c .before .enum-told2 .given .1 in
-    ((with-own (at .pre .0 .0), guided-chain _ (at .args .plan) (at .pre .0 .2) e), (at .pre .1 .0, fit-chain _ (with-own (at .pre .0 .0)) _ _ _ (at .pre .1 .1 .0) e))
+    let e = c .before .enum-told2 .given .1 in (
+      (with-own (at .pre .0 .0), guided-chain _ (at .args .plan) (at .pre .0 .2) e),
+      (at .pre .1 .0, fit-chain _ (with-own (at .pre .0 .0)) _ _ _ (at .pre .1 .1 .0) e),
+    )
 
 same-length : tie.Need-same-length
 same-length c = search needs

@@ -77,7 +77,8 @@ returns-2 : tie.Need-returns-2
 returns-2 c =
     let at = c .before .before .before .before .before .before .before .before .before .before .before .before in
     let e = c .before .before .before .before .enum-told .given .1 in
-    visited-own (at .args .way) (at .args .file .now) (none-columns _ (at .args .plan) (at .pre .0 .2) e) (at .args .column) (at .args .row) (at .args .from .cut .0)
+    visited-own (at .args .way) (at .args .file .now) (none-columns _ (at .args .plan) (at .pre .0 .2) e) (at .args .column) (at .args .row)
+    (at .args .from .cut .0)
     (at .args .from .shifts)
     (columns-visited _ (with-own (at .pre .0 .0)) _ _ _ (at .pre .1 .1 .1 .0) _ _ _ (at .args .column) (at .args .row) (at .args .from .cut .0)
     (at .args .from .shifts) _ e (c .before .before .slide2 .ensures)
@@ -91,7 +92,8 @@ returns-3 : tie.Need-returns-3
 returns-3 c =
     let at = c .before .before .before .before .before .before .before .before .before .before .before .before in
     let e = c .before .before .before .before .enum-told2 .given .1 in
-    visited-own (at .args .way) (at .args .file .now) (none-chain _ (at .args .plan) (at .pre .0 .2) e) (at .args .column) (at .args .row) (at .args .from .cut .0)
+    visited-own (at .args .way) (at .args .file .now) (none-chain _ (at .args .plan) (at .pre .0 .2) e) (at .args .column) (at .args .row)
+    (at .args .from .cut .0)
     (at .args .from .shifts)
     (chain-visited _ (with-own (at .pre .0 .0)) _ _ _ (at .pre .1 .1 .1 .0) _ _ _ (at .args .column) (at .args .row) (at .args .from .cut .0)
     (at .args .from .shifts) _ e (c .before .before .slide3 .ensures)
