@@ -2,7 +2,7 @@
 -- Assumes nothing.
 use mathlib.Core.Path.{_≡_, refl, sym, ap, ap₂, _∙_, subst}
 use mathlib.Core.Logic.{⊎-elim}
-use mathlib.Core.List.{List}
+use mathlib.Core.List.{List, [], _∷_}
 use Prim.Native.Nat.{ℕ, _+_, _-_, _*_, _≤_, _<_}
 use native.Mathlib.Omega.{arith}
 use lib.ListN.{length, set, take, drop, length-set}
@@ -163,3 +163,8 @@ line-part n p v = let e : n - 0 ≡ n = omega arith in rw e v
 pub step-in : {b vs : List ℕ} {z : Plan} → Pictured b vs z → {s t s′ t′ : ℕ} → Adjacent z s t s′ t′ → {d : Step} → d ≡ stepOf z s t s′ t′
     → StepInPlanes z d
 step-in pl adj ed = rw ed (lines-in (plan-limits pl) adj)
+
+-- with no plane the file has the values
+pub own-pixels : {b : List ℕ} (vs : List ℕ) {z : Plan} {d : Line} {p : List ℕ} → length vs ≡ 0 → LinePixels b [] z d p → LinePixels b vs z d p
+own-pixels [] e r = r
+own-pixels (v ∷ vs) e r = absurd (omega arith)

@@ -14,7 +14,8 @@ ghost use Rattle.spec.specs.Checks.{Planned, Pictured};
 ghost use Rattle.window.specs.Line.{InPlanes};
 ghost use Rattle.pixels.specs.Pixels.{LinePixels};
 
-// A line's live pixels, one after the other: each is written, and a dead one written over, so that no branch goes by the reading.
+// A line's live pixels, one after the other, of the file or of a plane in place of its values: each is written, and a dead one written over, so that no
+// branch goes by the reading.
 fn read_live(file: &[u8], plane: &[u16], plan: Plan, line: Line, places: &mut [u16]) -> usize
     requires { ⌜ (Pictured (now file) (now plane) plan) × (InPlanes plan line) × (62 ≤ length (now places)) ⌝ }
     ensures { λ r. ⌜ (r ≤ 62) × (LinePixels (now (file .entry)) (now (plane .entry)) plan line (take r (now (places .exit)))) ⌝ }
@@ -42,9 +43,9 @@ fn read_live(file: &[u8], plane: &[u16], plan: Plan, line: Line, places: &mut [u
 
 // The line's live pixels into the first places; how many places they take. First all pixels are copied and their values added up: a sum below that of
 // one dead pixel says that there is none, as in most lines, and then they stand as they should; the largest sum that they can have says that all are.
-pub fn read_in(file: &[u8], plane: &[u16], plan: Plan, line: Line, places: &mut [u16]) -> usize
-    requires { ⌜ (Pictured (now file) (now plane) plan) × (InPlanes plan line) × (62 ≤ length (now places)) ⌝ }
-    ensures { λ r. ⌜ (r ≤ 62) × (LinePixels (now (file .entry)) (now (plane .entry)) plan line (take r (now (places .exit)))) ⌝ }
+pub fn read(file: &[u8], plan: Plan, line: Line, places: &mut [u16]) -> usize
+    requires { ⌜ (Planned (now file) plan) × (InPlanes plan line) × (62 ≤ length (now places)) ⌝ }
+    ensures { λ r. ⌜ (r ≤ 62) × (LinePixels (now (file .entry)) [] plan line (take r (now (places .exit)))) ⌝ }
 {
     let first = line.first;
     let stride = line.stride;
@@ -53,7 +54,7 @@ pub fn read_in(file: &[u8], plane: &[u16], plan: Plan, line: Line, places: &mut 
     let mut k = 0;
     while k < n {
         let q = first + k * stride;
-        let value = pixel::value_in(file, plane, plan, q);
+        let value = pixel::value_at(file, plan, q);
         let guide = pixel::guide_at(file, plan, q);
         let at = 2 * k;
         let next = at + 1;
@@ -68,14 +69,18 @@ pub fn read_in(file: &[u8], plane: &[u16], plan: Plan, line: Line, places: &mut 
     if total == n * NO_READING as usize {
         return 0;
     }
-    read_live(file, plane, plan, line, places)
+    let none: [u16; 0] = [];
+    read_live(file, &none, plan, line, places)
 }
 
-// The same of the file's own values.
-pub fn read(file: &[u8], plan: Plan, line: Line, places: &mut [u16]) -> usize
-    requires { ⌜ (Planned (now file) plan) × (InPlanes plan line) × (62 ≤ length (now places)) ⌝ }
-    ensures { λ r. ⌜ (r ≤ 62) × (LinePixels (now (file .entry)) [] plan line (take r (now (places .exit)))) ⌝ }
+// The same with the values of a plane in place of the file's own, where one is given. The choice is made once for a line: one for each pixel took every
+// filter 2 to 5 % longer.
+pub fn read_in(file: &[u8], plane: &[u16], plan: Plan, line: Line, places: &mut [u16]) -> usize
+    requires { ⌜ (Pictured (now file) (now plane) plan) × (InPlanes plan line) × (62 ≤ length (now places)) ⌝ }
+    ensures { λ r. ⌜ (r ≤ 62) × (LinePixels (now (file .entry)) (now (plane .entry)) plan line (take r (now (places .exit)))) ⌝ }
 {
-    let none: [u16; 0] = [];
-    read_in(file, &none, plan, line, places)
+    if plane.len() == 0 {
+        return read(file, plan, line, places);
+    }
+    read_live(file, plane, plan, line, places)
 }
