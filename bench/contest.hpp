@@ -17,6 +17,8 @@ inline Kind kind_of(int contest) {
     return contest == JOINT_TABLE || contest == JOINT_OWN || contest == COARSE_TABLE ? TABLE : GUIDED;
 }
 inline bool is_coarse(int contest) { return contest == COARSE_TABLE || contest == COARSE_GUIDED; }
+// A tolerance is by way 1 and of kind 1.
+inline bool has_tolerance(Contest contest) { return contest == JOINT_TABLE || contest == JOINT_OWN; }
 inline constexpr double NOT_TIMED = 0;
 // Every contestant has so many turns, and its best counts.
 inline constexpr int ROUNDS = 6;
@@ -82,7 +84,7 @@ class Library {
 #else
     static constexpr bool LINKED = false;
 #endif
-    uint64_t shifts = 0;
+    uint64_t shifts = 0, greatest_shifts = 0;
 
     Library(Contest contest, const Frame &frame, size_t longest_walk = 0)
         : k(frame), planes(frame), file(file_of(frame)), written(file.size()), way(way_of(contest)),
@@ -93,6 +95,9 @@ class Library {
         if (way == ICEMEDIAN_COARSE) summary.resize(ICEMEDIAN_SUMMARY_LENGTH(frame.levels));
         if (way == ICEMEDIAN_COLUMNS) numbers.resize(ICEMEDIAN_COLUMNS_LENGTH(frame.width, frame.levels));
         if (way == ICEMEDIAN_CHAIN) numbers.resize(ICEMEDIAN_CHAIN_LENGTH(frame.radius));
+        if (!has_tolerance(contest)) return;
+        upper = Planes(raised(frame)).values;
+        greatest.resize(frame.pixels());
     }
     void filter() {
 #ifdef WITH_LIBRARY
@@ -100,6 +105,15 @@ class Library {
         accept(icemedian_filter(file.data(), file.size(), way, counts.data(), counts.size(), words.data(), words.size(),
                                 numbers.data(), numbers.size(), summary.data(), summary.size(), output.data(),
                                 output.size(), &shifts, &offset));
+#endif
+    }
+    // The frame and its upper levels, with the least answers where a filter has its own.
+    void tolerance() {
+#ifdef WITH_LIBRARY
+        uint64_t offset;
+        accept(icemedian_tolerance(file.data(), file.size(), upper.data(), upper.size(), counts.data(), counts.size(),
+                                   words.data(), words.size(), output.data(), output.size(), greatest.data(),
+                                   greatest.size(), &shifts, &greatest_shifts, &offset));
 #endif
     }
     // From the first pixel.
@@ -154,13 +168,11 @@ class Library {
         if (shifts != yardstick.shifts) std::printf("shift counts differ: %s\n", name), std::exit(1);
     }
     // The same of a filter's plane, which a shift count says nothing of where no window has a reading.
-    void compare_plane(const Walk &yardstick, const char *name) const {
-        const size_t width = size_t(k.width);
-        for (size_t p = 0; p < yardstick.answers.size(); p++) {
-            size_t row = p / width, column = p % width, turn = row % 2 ? width - 1 - column : column;
-            if (output[p] != yardstick.answers[row * width + turn])
-                std::printf("answers differ: %s, pixel %zu\n", name, p), std::exit(1);
-        }
+    void compare_plane(const Walk &yardstick, const char *name) const { compare_answers(output, yardstick, name); }
+    // Of the upper levels, their plane and their count.
+    void compare_greatest(const Walk &yardstick, const char *name) const {
+        if (greatest_shifts != yardstick.shifts) std::printf("upper shift counts differ: %s\n", name), std::exit(1);
+        compare_answers(greatest, yardstick, name);
     }
     // The bytes of the stores that the way needs.
     size_t store_bytes() const {
@@ -173,11 +185,19 @@ class Library {
     Planes planes;
     std::vector<uint8_t> file, written;
     uint32_t way;
-    std::vector<uint16_t> counts, output;
+    std::vector<uint16_t> counts, output, upper, greatest;
     std::vector<uint64_t> words;
     std::vector<uint32_t> numbers;
     std::vector<int64_t> summary;
 
+    void compare_answers(const std::vector<uint16_t> &plane, const Walk &yardstick, const char *name) const {
+        const size_t width = size_t(k.width);
+        for (size_t p = 0; p < yardstick.answers.size(); p++) {
+            size_t row = p / width, column = p % width, turn = row % 2 ? width - 1 - column : column;
+            if (plane[p] != yardstick.answers[row * width + turn])
+                std::printf("answers differ: %s, pixel %zu\n", name, p), std::exit(1);
+        }
+    }
     static uint32_t way_of(Contest contest) {
         if (is_coarse(contest)) return ICEMEDIAN_COARSE;
         return contest == COLUMNS ? ICEMEDIAN_COLUMNS : contest == CHAIN ? ICEMEDIAN_CHAIN : ICEMEDIAN_JOINT;

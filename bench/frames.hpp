@@ -170,6 +170,14 @@ inline void kill(Frame &frame, uint32_t percent, uint64_t seed = 1) {
         if (random.below(100) < percent) frame.values.set(p, NO_READING);
 }
 
+// The frame with upper levels for its readings: a hundredth of the level count above them, and at most the last level.
+inline Frame raised(Frame frame) {
+    for (size_t p = 0; p < frame.pixels(); p++)
+        if (frame.live(p))
+            frame.values.set(p, std::min(frame.values[p] + uint32_t(frame.levels / 100), uint32_t(frame.levels - 1)));
+    return frame;
+}
+
 // What the frames show.
 enum Picture { ICE, NOISE, BROAD, NARROW, PICTURES };
 inline constexpr const char *PICTURE_NAMES[PICTURES] = {"ice", "noise", "broad strips", "narrow strips"};

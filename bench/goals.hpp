@@ -4,6 +4,7 @@
 #include "explaining.hpp"
 #include "rows.hpp"
 #include "text.hpp"
+#include "tolerance.hpp"
 #include "writing.hpp"
 
 namespace bench {
@@ -70,7 +71,16 @@ inline void add_dead_goals(const AllDead &all, std::vector<Goal> &goals) {
                              Goal::AT_MOST, 1.15, mean_dead(all, c, [&](const Dead &one) { return one.over_yardstick(part); })});
 }
 
-inline std::vector<Goal> goals_of(const Rows &rows, const AllDead &dead, const Explained &explained, const Written &written) {
+// A filter of two planes beside one of the first.
+inline void add_tolerance_goals(const Tolerances &all, std::vector<Goal> &goals) {
+    for (Contest contest : {JOINT_TABLE, JOINT_OWN})
+        for (Picture picture : {ICE, NOISE})
+            goals.push_back({std::string("tolerance's time / filter's, ") + NAMES[contest] + "," + place(picture),
+                             Goal::AT_MOST, 2.1, mean_tolerance(all, picture, contest)});
+}
+
+inline std::vector<Goal> goals_of(const Rows &rows, const AllDead &dead, const Tolerances &tolerances,
+                                  const Explained &explained, const Written &written) {
     std::vector<Goal> goals;
     for (Picture picture : {ICE, NOISE})
         goals.push_back({"OpenCV's time / library's, joint, kind 1," + place(picture), Goal::AT_LEAST,
@@ -93,15 +103,17 @@ inline std::vector<Goal> goals_of(const Rows &rows, const AllDead &dead, const E
         goals.push_back({std::string("library's time at r 15 / at r 3, ") + NAMES[c] + "," + place(ICE), Goal::AT_MOST,
                          growth[c], growth_in_radius(on(ICE, rows), library(c))});
     add_dead_goals(dead, goals);
+    add_tolerance_goals(tolerances, goals);
     goals.push_back(longest(explained));
     for (const Writing &one : written)
         goals.push_back({std::string("writing's time / plain loops', ") + one.weights, Goal::AT_MOST, 1.5, one.times()});
     return goals;
 }
 
-inline void print_goals(const Rows &rows, const AllDead &dead, const Explained &explained, const Written &written) {
+inline void print_goals(const Rows &rows, const AllDead &dead, const Tolerances &tolerances, const Explained &explained,
+                        const Written &written) {
     std::printf("\n## Goals\n\nGeometric means over the frames of this run.\n\n| goal | seen | |\n|---|---|---|\n");
-    for (const Goal &goal : goals_of(rows, dead, explained, written)) goal.print();
+    for (const Goal &goal : goals_of(rows, dead, tolerances, explained, written)) goal.print();
 }
 
 }  // namespace bench

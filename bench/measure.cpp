@@ -183,13 +183,15 @@ int main(int count, char **words) {
     print_all_sideways();
     AllDead dead = measure_all_dead(quick);
     print_dead(dead);
+    Tolerances tolerances = measure_all_tolerances(quick);
+    print_tolerances(tolerances);
     Explained explained = measure_all_explaining();
     print_explaining(explained);
     Written written = measure_all_writing();
     print_writing(written);
     print_full_frames(rows);
     print_memory();
-    print_goals(rows, dead, explained, written);
+    print_goals(rows, dead, tolerances, explained, written);
     print_headline(rows);
     std::chrono::duration<double> passed = std::chrono::steady_clock::now() - start;
     std::printf("\nThe measurements took %.0f seconds.\n", passed.count());

@@ -26,14 +26,16 @@ inline size_t stack_touched(std::function<void()> run) {
     return size_t(std::end(stack) - deepest);
 }
 
-// The calls, and the most bytes of stack that the header says they take.
+// The calls, the most bytes of stack that the header says they take, and whether they serve a contest.
 struct Call {
     const char *what;
     void (*make)(Library &);
     size_t most;
+    bool (*serves)(Contest) = [](Contest) { return true; };
 };
 inline constexpr Call CALLS[] = {
     {"a filter", [](Library &library) { library.filter(); }, ICEMEDIAN_FILTER_STACK},
+    {"a tolerance", [](Library &library) { library.tolerance(); }, ICEMEDIAN_TOLERANCE_STACK, has_tolerance},
     {"a walk", [](Library &library) { library.walk({RIGHT, DOWN, LEFT, UP}); }, ICEMEDIAN_WALK_STACK},
     {"a balance", [](Library &library) { library.balance(0, 0, 1); }, ICEMEDIAN_BALANCE_STACK},
     {"an explanation", [](Library &library) { library.explain(0, 0); }, ICEMEDIAN_EXPLAIN_STACK},
@@ -42,9 +44,10 @@ inline constexpr Call CALLS[] = {
 };
 
 // The most bytes that a call takes of the stack, less what a run takes that does nothing: on frames without a dead pixel,
-// with many and with none else.
+// with many and with none else. None where the call does not serve.
 inline size_t call_stack(Contest contest, const Call &call) {
     size_t most = 0;
+    if (!call.serves(contest)) return most;
     for (uint32_t dead_percent : {0u, 50u, 100u}) {
         Frame frame = noise({64, 32, 1024, 256, kind_of(contest), 15, 64});
         if (contest == JOINT_OWN) frame.own_table();

@@ -19,10 +19,17 @@
  *   7       a value >= level count that is not 65,535 (no reading), or a guide >= guide count, searched in that
  *           order; `offset` is the byte offset of the first such number's high byte in the file, for
  *           icemedian_write the one that it would have. A weight may be any 16-bit number
- *   8       the way is not 1 to 4, or does not serve the kind (ways 2 and 3 serve kind 2 only)
+ *   8       the way is not 1 to 4, or does not serve the kind (ways 2 and 3 serve kind 2 only).
+ *           In icemedian_tolerance: the kind is 2
  *   9       the pixel is outside the picture, or the level of a balance outside the levels
  *   10      over 1,048,576 moves
- *   11      a store that the way uses, the answers or the output is too short
+ *   11      a store that the way uses, the answers or the output is too short.
+ *           In icemedian_tolerance: counts, words or either output
+ *   13      the length of the upper plane is not width * height, a reading is above its upper level, an upper level
+ *           that is not 65,535 is >= level count, or only one of a pixel's reading and upper level is 65,535;
+ *           checked after 8 and before 11
+ *
+ * 12 is of the program icemedian alone.
  *
  * A refused call changes nothing that it was lent, buffer or result, but for `offset` with 7. A call that
  * is not refused writes all its results but `offset`: that is written with 7 and never else.
@@ -35,10 +42,10 @@
  * that is cut down, by C and before the call.
  *
  * Pointers must be aligned for their type. A pointer may be NULL where its length is 0; pointers to
- * results (`shifts`, `cut`, `balance_box`, `balance`, `pixels`, `total`, `level`, `below`, `reached`, `cause`,
- * `length`, `offset`) never. What is only read (`file`, `moves`, `values`, `guide`, `table`) may overlap. Whatever
- * is written (stores, `answers`, `output`, every result) must overlap nothing else of the same call, nor one result
- * another.
+ * results (`shifts`, `least_shifts`, `greatest_shifts`, `cut`, `balance_box`, `balance`, `pixels`, `total`, `level`,
+ * `below`, `reached`, `cause`, `length`, `offset`) never. What is only read (`file`, `upper`, `moves`, `values`,
+ * `guide`, `table`) may overlap. Whatever is written (stores, `answers`, `output`, `least`, `greatest`, every result)
+ * must overlap nothing else of the same call, nor one result another.
  */
 #ifndef ICEMEDIAN_H
 #define ICEMEDIAN_H
@@ -57,9 +64,10 @@
  * 0.6: icemedian_explain and its causes are new; nothing else changes.
  * 0.7: the stack that is enough for a call is said by macros; no call changes.
  * 0.8: no call takes other arguments, but a value of 65,535 means no reading, which 7 refused before, so that an
- * answer may be 65,535 too; ICEMEDIAN_NO_READING and the cause ICEMEDIAN_EMPTY are new. */
+ * answer may be 65,535 too; ICEMEDIAN_NO_READING and the cause ICEMEDIAN_EMPTY are new.
+ * 0.9: icemedian_tolerance and its number 13 are new; nothing else changes. */
 #define ICEMEDIAN_VERSION_MAJOR 0
-#define ICEMEDIAN_VERSION_MINOR 8
+#define ICEMEDIAN_VERSION_MINOR 9
 
 #ifdef __cplusplus
 #define ICEMEDIAN_SIZE(number) static_cast<size_t>(number)
@@ -133,9 +141,10 @@ enum { ICEMEDIAN_DEFAULT_RADIUS = 7, ICEMEDIAN_DEFAULT_SMOOTHING = 64 };
 #define ICEMEDIAN_SMOOTHING(file, length) ICEMEDIAN_TRAILER16(file, length, 10)
 
 /* Stack in bytes that is enough for a call with all that it calls, as this library is compiled for x86-64: measured on
- * accepted frames of every way and kind and rounded up, not proved. icemedian_write holds no array: every byte goes
- * straight to its place in `output`. */
+ * accepted frames of every way and kind that the call serves and rounded up, not proved. icemedian_write holds no
+ * array: every byte goes straight to its place in `output`. */
 #define ICEMEDIAN_FILTER_STACK 16384
+#define ICEMEDIAN_TOLERANCE_STACK 16384
 #define ICEMEDIAN_WALK_STACK 16384
 #define ICEMEDIAN_EXPLAIN_STACK 16384
 #define ICEMEDIAN_BALANCE_STACK 2048
@@ -156,6 +165,21 @@ uint32_t icemedian_filter(const uint8_t *file, size_t file_length, uint32_t way,
                           int64_t *summary, size_t summary_length,
                           uint16_t *output, size_t output_length,
                           uint64_t *shifts, uint64_t *offset);
+
+/* Filters a frame of kind 1 whose readings are known within a tolerance: checks 1 to 8, 13 and 11, in this order. The
+ * file's readings are the lower levels, `upper` has the upper ones, a 16-bit number for each pixel, row by row from the
+ * top left; the two may be equal, and `upper` has ICEMEDIAN_NO_READING exactly where the file has. `least` and
+ * `greatest` get a level for each pixel, or ICEMEDIAN_NO_READING where its window has no reading. Whatever the true
+ * levels are between the two, the filter's answer lies between `least` and `greatest`, and both can happen: `least` is
+ * what way 1 answers for the lower levels, `greatest` for the upper ones. `least_shifts` and `greatest_shifts` are the
+ * shift counts of these two filters. The upper one is made last, and the stores hold its last window. */
+uint32_t icemedian_tolerance(const uint8_t *file, size_t file_length,
+                             const uint16_t *upper, size_t upper_length,
+                             uint16_t *counts, size_t counts_length,
+                             uint64_t *words, size_t words_length,
+                             uint16_t *least, size_t least_length,
+                             uint16_t *greatest, size_t greatest_length,
+                             uint64_t *least_shifts, uint64_t *greatest_shifts, uint64_t *offset);
 
 /* Walks from a pixel along a list of moves: checks 1 to 11. `answers` gets the start's answer and then
  * one for each move byte: a level, ICEMEDIAN_NO_READING, or one of the two marks of a byte that moves nothing. The

@@ -3,7 +3,7 @@
 use mathlib.Core.Path.{_≡_, refl, sym, ap, ap₂, _∙_, subst}
 use mathlib.Core.Logic.{⊎-elim}
 use mathlib.Core.Bool.{Bool, true, false}
-use mathlib.Core.List.{List}
+use mathlib.Core.List.{List, []}
 use Prim.Native.Nat.{ℕ, _+_, _-_, _*_, _^_, _≤_, _<_}
 use native.Mathlib.Nat.{le-trans}
 use native.Mathlib.Omega.{arith}
@@ -115,7 +115,7 @@ module _ {p row : List ℕ} {w : Formula} (v : PixelsWeighed p row w) (c : ℕ) 
 
 module _ {b : List ℕ} {z : Plan} {s t : ℕ} {row : List ℕ} {w : Formula} (wd : Weighed b z s t row w) where
   -- ---- a line's list is weighed by the row
-  module _ {d : Line} {p : List ℕ} (v : LinePixels b z d p) where
+  module _ {d : Line} {p : List ℕ} (v : LinePixels b [] z d p) where
     row-in : (k : ℕ) → k < countOf p → guideIn p k < frameOf b .set .guides
     row-in k h = let l = v .below .guide k h in rw (facts (wd .planned) .guides) at l
 
@@ -139,24 +139,24 @@ module _ {b : List ℕ} {z : Plan} {s t : ℕ} {row : List ℕ} {w : Formula} (w
         pub column-asks : k < 31 → (natAbs a ≤ 173129780571075) × (natAbs (toZ w64 (ofZ w64 y)) ≤ 173129780571075)
         column-asks h = (omega (arith, low), rw handed-on (omega (arith, small)))
 
-        pub column-again : (x : ℕ) → d ≡ columnLine z (x + k) t → a ≡ columnsFold _+ℤ_ (pos 0) b z x t (signedBy row w c) k
+        pub column-again : (x : ℕ) → d ≡ columnLine z (x + k) t → a ≡ columnsFold _+ℤ_ (pos 0) b [] z x t (signedBy row w c) k
             → {r : ℤ} → mag r < 2 ^ hbits w64 → r ≡ a +ℤ toZ w64 (ofZ w64 y)
             →
-            (toZ w64 (ofZ w64 r) ≡ columnsFold _+ℤ_ (pos 0) b z x t (signedBy row w c) (k + 1)) ×
+            (toZ w64 (ofZ w64 r) ≡ columnsFold _+ℤ_ (pos 0) b [] z x t (signedBy row w c) (k + 1)) ×
             (natAbs (toZ w64 (ofZ w64 r)) ≤ (k + 1) * 5584831631325)
         column-again x ed ea m e =
             let h = signedBy row w c in
             let q = toZ-ofZ (record { sfits = m }) ∙ e ∙ ap (λ (u : ℤ). a +ℤ u) handed-on in (
-              q ∙ ap (λ (u : ℤ). u +ℤ pixelFold _+ℤ_ (pos 0) p h) ea ∙ sym (columns-more _+ℤ_ (pos 0) b z x t h k p ed (v .sumℤ h)),
+              q ∙ ap (λ (u : ℤ). u +ℤ pixelFold _+ℤ_ (pos 0) p h) ea ∙ sym (columns-more _+ℤ_ (pos 0) b [] z x t h k p ed (v .sumℤ h)),
               rw q
                   (omega (arith, abs-add a (pixelFold _+ℤ_ (pos 0) p (signedBy row w c)), low, small)),
             )
 
   -- all columns
   pub columns-by : (c : ℕ) {x n : ℕ} → x ≡ s - z .radius → n ≡ span (z .radius) s (z .width)
-      → columnsFold _+ℤ_ (pos 0) b z x t (signedBy row w c) n ≡ balanceBy (frameOf b) s t row w c
+      → columnsFold _+ℤ_ (pos 0) b [] z x t (signedBy row w c) n ≡ balanceBy (frameOf b) s t row w c
   unfolding balanceBy
-  columns-by c {x} ex en = columns-window _+ℤ_ (pos 0) b z x t (signedBy row w c) (wd .planned) s ex en
+  columns-by c {x} ex en = columns-window _+ℤ_ (pos 0) b [] z x t (signedBy row w c) (wd .planned) s ex en
 
 -- ---- what the sums mean: by the weights that the window is counted with they are its balance; by its own ones their sum at the last level, and at
 -- every level 0 where it is hollow

@@ -2,7 +2,7 @@
 -- Assumes nothing.
 use mathlib.Core.Path.{_≡_, refl, sym, ap, _∙_, subst}
 use mathlib.Core.Bool.{true, false}
-use mathlib.Core.List.{List}
+use mathlib.Core.List.{List, []}
 use Prim.Native.Nat.{ℕ, _+_, _-_, _*_, _≤_, _<_}
 use native.Mathlib.Omega.{arith}
 use lib.ListN.{length, getD}
@@ -70,7 +70,7 @@ module _ {e l : List ℕ} {free : FreeList} {m : List ℕ} where
 -- ---- the window
 -- a sum over the window's first k columns
 abbrev columnsTo : List ℕ → Plan → ℕ → ℕ → (ℕ → ℕ → ℕ) → ℕ → ℕ
-columnsTo b z s t h k = columnsFold _+_ 0 b z (s - z .radius) t h k
+columnsTo b z s t h k = columnsFold _+_ 0 b [] z (s - z .radius) t h k
 
 -- their list
 abbrev pub ColumnsListed : List ℕ → Plan → ℕ → ℕ → ℕ → FreeList → List ℕ → Type 0
@@ -129,7 +129,7 @@ module _ {b : List ℕ} {z : Plan} (pl : Planned b z) where
   -- ---- column by column
   module _ (s t : ℕ) (hs : s < z .width) (ht : t < z .height) where
     columns-more : (h : ℕ → ℕ → ℕ) (k : ℕ) →
-        columnsTo b z s t h k + lineFold _+_ 0 b (columnLine z (s - z .radius + k) t) h ≡ columnsTo b z s t h (k + 1)
+        columnsTo b z s t h k + lineFold _+_ 0 b [] (columnLine z (s - z .radius + k) t) h ≡ columnsTo b z s t h (k + 1)
     columns-more h k = sym (fold-more _+_ 0 _ _ k)
 
     columns-none : (h : ℕ → ℕ → ℕ) → 0 ≡ columnsTo b z s t h 0
@@ -143,7 +143,7 @@ module _ {b : List ℕ} {z : Plan} (pl : Planned b z) where
         let n = span (z .radius) s (z .width) in
         let e : k + (n - k) ≡ n = omega arith in
         let q : columnsTo b z s t h (k + (n - k)) ≡ columnsTo b z s t h n = ap (columnsTo b z s t h) e in
-        omega (arith, q, columns-all h, fold-parts _+_ 0 natSums (λ x. lineFold _+_ 0 b (columnLine z x t) h) (s - z .radius) k (n - k))
+        omega (arith, q, columns-all h, fold-parts _+_ 0 natSums (λ x. lineFold _+_ 0 b [] (columnLine z x t) h) (s - z .radius) k (n - k))
 
     pub columns-empty : {m₀ : List ℕ} {m : List ℕ} (free : FreeList) → ChainCleared (nodesOf z) m₀ (free .head) (free .count) m →
         ColumnsListed b z s t 0 free m
@@ -158,10 +158,10 @@ module _ {b : List ℕ} {z : Plan} (pl : Planned b z) where
 
     -- the next column, read into the list p
     module _ {k : ℕ} (l : k < span (z .radius) s (z .width)) {d : Line} (ed : d ≡ columnLine z (s - z .radius + k) t) {p : List ℕ}
-        (r : LinePixels b z d p)
+        (r : LinePixels b [] z d p)
         {free : FreeList} {m : List ℕ} (c : ColumnsListed b z s t k free m) where
       column-more : (h : ℕ → ℕ → ℕ) → columnsTo b z s t h k + pixelFold _+_ 0 p h ≡ columnsTo b z s t h (k + 1)
-      column-more h = ap (λ (n : ℕ). columnsTo b z s t h k + n) (r .sum h ∙ ap (λ (y : Line). lineFold _+_ 0 b y h) ed) ∙ columns-more h k
+      column-more h = ap (λ (n : ℕ). columnsTo b z s t h k + n) (r .sum h ∙ ap (λ (y : Line). lineFold _+_ 0 b [] y h) ed) ∙ columns-more h k
 
       -- these columns' pixels are some of the window's
       columns-few : sumBelow (λ i. columnsTo b z s t (counted i) k) (z .levels) + countOf p ≤ nodesOf z
@@ -203,8 +203,9 @@ module _ {b : List ℕ} {z : Plan} (pl : Planned b z) where
           list-ext (listSize z) _ _ _ _ free′ m′ (i .chain columns-insertable) (λ j. column-more (counted j)) (λ j. column-more (guided j))
 
   -- ---- to a neighbour: e and l are the lists of the entering and the leaving line
-  module _ {s t s′ t′ : ℕ} (adj : Adjacent z s t s′ t′) {d : Step} (ed : d ≡ stepOf z s t s′ t′) {e l : List ℕ} (re : LinePixels b z (d .entering) e)
-      (rl : LinePixels b z (d .leaving) l)
+  module _ {s t s′ t′ : ℕ} (adj : Adjacent z s t s′ t′) {d : Step} (ed : d ≡ stepOf z s t s′ t′) {e l : List ℕ}
+      (re : LinePixels b [] z (d .entering) e)
+      (rl : LinePixels b [] z (d .leaving) l)
       {free : FreeList} {m : List ℕ} (c : Listed b z s t free m) where
     moved : (h : ℕ → ℕ → ℕ) → window pl h s′ t′ + pixelFold _+_ 0 l h ≡ window pl h s t + pixelFold _+_ 0 e h
     moved h = stepped (λ (g : ℕ → ℕ → ℕ). g) pl adj ed re rl h

@@ -2,7 +2,7 @@
 -- Assumes nothing.
 use mathlib.Core.Path.{_≡_, refl, sym, ap, ap₂, _∙_, fun-ext}
 use mathlib.Core.Bool.{Bool, true, false}
-use mathlib.Core.List.{List}
+use mathlib.Core.List.{List, []}
 use Prim.Native.Nat.{ℕ, _+_, _-_, _*_, _≤_, _<_}
 use native.Mathlib.Nat.{mul-one, zero-mul}
 use native.Mathlib.Omega.{arith}
@@ -60,8 +60,8 @@ module _ {b : List ℕ} {z : Plan} (pl : Planned b z) where
   -- ---- a column, a row of the window is a part of it
   module _ (h : ℕ → ℕ → ℕ) where
     column-part : (s t x : ℕ) → s - z .radius ≤ x → x < s - z .radius + span (z .radius) s (z .width) →
-        lineFold _+_ 0 b (columnLine z x t) h ≤ window h s t
-    column-part s t x l k = rw (columns-law _+_ 0 pl h s t) (sum-term (λ x. lineFold _+_ 0 b (columnLine z x t) h) _ _ x l k)
+        lineFold _+_ 0 b [] (columnLine z x t) h ≤ window h s t
+    column-part s t x l k = rw (columns-law _+_ 0 pl h s t) (sum-term (λ x. lineFold _+_ 0 b [] (columnLine z x t) h) _ _ x l k)
 
     rows-over : (s t : ℕ) → window h s t
         ≡ sum (inRow _+_ 0 (frameOf b) s (λ x y. h (level (frameOf b) x y) (guide (frameOf b) x y))) (t - frameOf b .set .radius)
@@ -69,7 +69,7 @@ module _ {b : List ℕ} {z : Plan} (pl : Planned b z) where
     unfolding over foldRect inRow
     rows-over s t = foldRect-turn _+_ 0 natSums (live 0 (frameOf b) (λ x y. h (level (frameOf b) x y) (guide (frameOf b) x y))) _ _ _ _
 
-    rows-law : (s t : ℕ) → window h s t ≡ sum (λ y. lineFold _+_ 0 b (rowLine z s y) h) (t - z .radius) (span (z .radius) t (z .height))
+    rows-law : (s t : ℕ) → window h s t ≡ sum (λ y. lineFold _+_ 0 b [] (rowLine z s y) h) (t - z .radius) (span (z .radius) t (z .height))
     rows-law s t =
         let f = facts pl in
         rows-over s t
@@ -79,8 +79,8 @@ module _ {b : List ℕ} {z : Plan} (pl : Planned b z) where
         ∙ ap (λ (q : ℕ → ℕ). sum q (t - z .radius) (span (z .radius) t (z .height))) (fun-ext (λ y. sym (row-fold _+_ 0 pl h s y)))
 
     row-part : (s t y : ℕ) → t - z .radius ≤ y → y < t - z .radius + span (z .radius) t (z .height) →
-        lineFold _+_ 0 b (rowLine z s y) h ≤ window h s t
-    row-part s t y l k = rw (rows-law s t) (sum-term (λ y. lineFold _+_ 0 b (rowLine z s y) h) _ _ y l k)
+        lineFold _+_ 0 b [] (rowLine z s y) h ≤ window h s t
+    row-part s t y l k = rw (rows-law s t) (sum-term (λ y. lineFold _+_ 0 b [] (rowLine z s y) h) _ _ y l k)
 
     -- a line shifted from the first column, from the first row; where it is off the picture, it has no pixel
     shifted-column : (t x : ℕ) → shift (columnLine z 0 t) (x * 1) true ≡ columnLine z x t
@@ -95,12 +95,13 @@ module _ {b : List ℕ} {z : Plan} (pl : Planned b z) where
         let e : 0 * z .width + (s - z .radius) + y * z .width ≡ y * z .width + (s - z .radius) = rw (zero-mul (z .width)) (omega arith) in
         ap (λ (f : ℕ). record { first = f; stride = 1; count = span (z .radius) s (z .width) }) e
 
-    shifted-part : (d : Line) (by n : ℕ) (on : Bool) → (on ≡ true → lineFold _+_ 0 b (shift d by true) h ≤ n) → lineFold _+_ 0 b (shift d by on) h ≤ n
+    shifted-part : (d : Line) (by n : ℕ) (on : Bool) → (on ≡ true → lineFold _+_ 0 b [] (shift d by true) h ≤ n)
+        → lineFold _+_ 0 b [] (shift d by on) h ≤ n
     unfolding shift
     shifted-part d by n true k = k refl
-    shifted-part d by n false k = rw (line-none _+_ 0 b) (omega arith)
+    shifted-part d by n false k = rw (line-none _+_ 0 b []) (omega arith)
 
-    pub leaving-part : {s t s′ t′ : ℕ} → Adjacent z s t s′ t′ → lineFold _+_ 0 b (stepOf z s t s′ t′ .leaving) h ≤ window h s t
+    pub leaving-part : {s t s′ t′ : ℕ} → Adjacent z s t s′ t′ → lineFold _+_ 0 b [] (stepOf z s t s′ t′ .leaving) h ≤ window h s t
     unfolding columnStep rowStep advance reverse span
     leaving-part {s} {t} {s′} {t′} (right es et hs ht) = rw (is-right z s t s′ t′ (omega arith)) (
         shifted-part _ _ _ (leb (z .radius) s)

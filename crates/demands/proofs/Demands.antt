@@ -1,4 +1,5 @@
--- The three demands and request 4, proved from the contracts of the calls and the laws of the definitions; specs/Demands.antt has the statements.
+-- The three demands and requests 4 and 7, proved from the contracts of the calls and the laws of the definitions; specs/Demands.antt has the
+-- statements.
 -- Assumes nothing.
 use Prim.Native.Nat.{ℕ, zero, suc, _+_, _*_, _/_, _%_, _≤_, _<_}
 use mathlib.Core.Path.{_≡_, refl, sym, ap, ap₂, _∙_, subst}
@@ -18,9 +19,10 @@ use Rattle.spec.specs.declared.Cause.{Cause}
 use Rattle.spec.specs.declared.Cause.the-variants.{Hollow, Empty}
 use Rattle.spec.specs.declared.Grounds.{Grounds}
 use Rattle.spec.specs.declared.Verdict.{Verdict}
+use Rattle.spec.specs.declared.Way.the-variants.{Joint}
 use Rattle.spec.specs.declared.Verdict.the-variants.{Accepted, Refused}
 use Rattle.spec.specs.Refusal.{Outcome, accepted, refused, numbered}
-use Rattle.spec.specs.Frame.{Frame, pixels, frameOf}
+use Rattle.spec.specs.Frame.{Frame, pixels, frameOf, withValues}
 use Rattle.spec.specs.Window.{InWindow, pixelCount, empty}
 use Rattle.spec.specs.Median.{totalWeight, cumulative, balance, median, answer}
 use Rattle.spec.specs.Walk.{answerNumber, State, move, step, walkEnd, walkAnswers}
@@ -28,6 +30,7 @@ use Rattle.spec.specs.Filter.{filtered, filterEnd}
 use Rattle.spec.specs.Weight.{weightless}
 use Rattle.spec.specs.Explain.{cumulativeBelow, Applies, causeOf, Grounded}
 use Rattle.spec.specs.Calls.{wayOf, walkOutcome, filterOutcome, balanceOutcome, explainOutcome}
+use Rattle.spec.specs.Tolerance.{ownValues, LeastAndGreatest}
 use Rattle.spec.specs.Writer.{written, writtenSize, writerOutcome, stored}
 use Rattle.spec.proofs.Checks.{not-refused}
 use Rattle.spec.proofs.Limits.{FrameLimits, Pixel, limits-of, in-plane}
@@ -64,6 +67,7 @@ use Rattle.spec.proofs.Walks.{
   move-fine,
 }
 use Rattle.spec.proofs.First.{length-tabulate}
+use Rattle.spec.proofs.Tolerance.{accepted-tolerance}
 use Rattle.spec.proofs.Serpentine.{filtered-at}
 use Rattle.ice_step.specs.declared.Walked.{Walked}
 use Rattle.ice_step.specs.Finished.{Lent, roomIn}
@@ -74,7 +78,9 @@ use Rattle.frame_write.proofs.Reopening.{wrote-returned}
 use Rattle.ice.specs.declared.Explained.{Explained}
 use Rattle.ice.specs.Result.{noGrounds}
 use Rattle.ice.specs.Contract.{Untouched, Ended, Walks, Filters, Explains}
-use Rattle.demands.proofs.Table.{walk-table, filter-table, balance-table, explain-table, writer-table}
+use Rattle.tolerance.specs.declared.Tolerated.{Tolerated}
+use Rattle.tolerance.specs.Contract.{Buffers, outcomeOf, AllKept, BothFiltered, Tolerates}
+use Rattle.demands.proofs.Table.{walk-table, filter-table, balance-table, explain-table, tolerance-table, writer-table}
 use Rattle.demands.specs.Demands.{
   WalkedOrRefused,
   FilteredOrRefused,
@@ -97,6 +103,10 @@ use Rattle.demands.specs.Demands.{
   EveryExplanation,
   ExplainsTheAnswer,
   Request4,
+  ToleratedOrRefused,
+  LeastAndGreatestGiven,
+  LeastIsFiltered,
+  Request7,
 }
 
 -- ---- a verdict and its outcome
@@ -149,6 +159,15 @@ explained-or-refused b s t r h = by (explainOutcome b s t) refl
     by accepted e = inl (accepted-verdict (r .verdict) (h .verdict ∙ e), e, h .explained e)
     by (refused n l) e = inr (n, l, h .verdict ∙ e, e, h .refused (λ q. not-refused (sym e ∙ q)))
 
+tolerated-or-refused : ToleratedOrRefused
+tolerated-or-refused b upper a z r h = by (outcomeOf b upper a) refl
+  where
+    by : (o : Outcome) → outcomeOf b upper a ≡ o
+        → ((r .verdict ≡ Accepted) × (outcomeOf b upper a ≡ accepted) × BothFiltered (frameOf b) (withValues (frameOf b) upper) a z r)
+        ⊎ ((n : ℕ) × (l : List ℕ) × (numbered (r .verdict) ≡ refused n l) × (outcomeOf b upper a ≡ refused n l) × AllKept a z r)
+    by accepted e = inl (accepted-verdict (r .verdict) (h .verdict ∙ e), e, h .filtered e)
+    by (refused n l) e = inr (n, l, h .verdict ∙ e, e, h .refused (λ q. not-refused (sym e ∙ q)))
+
 -- an answer that reports a length is that length
 length-reported : (r : Written) (n : ℕ) → reported r ≡ wrote n → r ≡ Length n
 length-reported (Length m) n e = ap Length cc
@@ -186,9 +205,17 @@ demand-1 =
       filter = filtered-or-refused;
       balance = balanced-or-refused;
       explain = explained-or-refused;
+      tolerance = tolerated-or-refused;
       writer = written-or-refused;
       table =
-          record { walk = walk-table; filter = filter-table; balance = balance-table; explain = explain-table; writer = writer-table };
+          record {
+            walk = walk-table;
+            filter = filter-table;
+            balance = balance-table;
+            explain = explain-table;
+            tolerance = tolerance-table;
+            writer = writer-table;
+          };
     }
 
 -- ---- demand 2: by whether the window has a pixel
@@ -410,3 +437,45 @@ explains-the-answer b s t r h ok =
 
 pub request-4 : Request4
 request-4 = record { grounds = every-explanation; answer = explains-the-answer }
+
+-- ---- request 7
+filtered-long : (p : Frame) → length (filtered p) ≡ pixels (p .set)
+unfolding filtered
+filtered-long p = length-tabulate (pixels (p .set)) _
+
+-- an output that begins with a plane of answers
+plane-of : (p : Frame) (n : ℕ) (new old : List ℕ) → n ≡ pixels (p .set) → new ≡ filtered p ++ drop n old → take n new ≡ filtered p
+plane-of p n new old e h = ap (take n) h ∙ take-at (filtered p) (drop n old) n (filtered-long p ∙ sym e)
+
+module _ (b upper : List ℕ) (a z : Buffers) (r : Tolerated) (h : Tolerates b upper a z r) (ok : r .verdict ≡ Accepted) where
+  tolerance-passes : outcomeOf b upper a ≡ accepted
+  tolerance-passes = sym (h .verdict) ∙ ap numbered ok
+
+  both-filtered : BothFiltered (frameOf b) (withValues (frameOf b) upper) a z r
+  both-filtered = h .filtered tolerance-passes
+
+  least-plane : take (pixels (frameOf b .set)) (z .least) ≡ filtered (frameOf b)
+  least-plane = plane-of (frameOf b) (pixels (frameOf b .set)) (z .least) (a .least) refl (both-filtered .least)
+
+  greatest-plane : take (pixels (frameOf b .set)) (z .greatest) ≡ filtered (withValues (frameOf b) upper)
+  greatest-plane = plane-of (withValues (frameOf b) upper) (pixels (frameOf b .set)) (z .greatest) (a .greatest) refl (both-filtered .greatest)
+
+least-and-greatest-given : LeastAndGreatestGiven
+least-and-greatest-given b upper a z r h ok =
+    let p = frameOf b in
+    let n = pixels (p .set) in
+    subst (λ (l : List ℕ). LeastAndGreatest p (ownValues p) upper l (take n (z .greatest))) (sym (least-plane b upper a z r h ok))
+    (subst (λ (l : List ℕ). LeastAndGreatest p (ownValues p) upper (filtered p) l) (sym (greatest-plane b upper a z r h ok))
+    (accepted-tolerance b upper _ _ _ (tolerance-passes b upper a z r h ok)))
+
+least-is-filtered : LeastIsFiltered
+unfolding filterEnd
+least-is-filtered b upper a z r h ok way before after old new w f done =
+    let p = frameOf b in
+    let ended = f .filtered (sym (f .verdict) ∙ ap numbered done) in (
+      least-plane b upper a z r h ok ∙ sym (plane-of p (pixels (p .set)) new old refl (ended .answers)),
+      λ e. both-filtered b upper a z r h ok .least-shifts ∙ walk-same Joint (wayOf way) (sym e) p 0 0 _ ∙ sym (ended .shifts),
+    )
+
+pub request-7 : Request7
+request-7 = record { planes = least-and-greatest-given; least = least-is-filtered }

@@ -1,4 +1,4 @@
--- The outcome of each call is the first row of the table that fires: once over any rows that bear their own numbers.
+-- The outcome of each call is the first row of the table that fires: once over any rows that bear their own numbers, and over any rows in order.
 -- Assumes nothing.
 use Prim.Native.Nat.{ℕ, zero, suc, _+_, _*_, _≤_, _<_}
 use mathlib.Core.Path.{_≡_, refl, sym, ap, _∙_}
@@ -6,7 +6,7 @@ use mathlib.Core.Bool.{Bool, true, false, not, _||_}
 use mathlib.Core.List.{List, [], _∷_}
 use native.Mathlib.Omega.{arith}
 use native.Mathlib.Nat.{le-of-suc-le-suc, not-suc-le-zero}
-use lib.Dec.{leb, ltb}
+use lib.Dec.{leb, ltb, eqb}
 use lib.ListN.{length, getD}
 use Rattle.spec.specs.declared.Settings.{Settings}
 use Rattle.spec.specs.declared.Plan.{Plan}
@@ -44,9 +44,10 @@ use Rattle.spec.specs.Calls.{
   explainChecks,
   explainOutcome,
 }
+use Rattle.spec.specs.Tolerance.{badUpper, toleranceChecks, toleranceOutcome}
 use Rattle.spec.specs.Writer.{writtenSize, badLength, scanList, writerOutcome}
 use Rattle.spec.proofs.Checks.{not-refused, both-accepted}
-use Rattle.demands.specs.Table.{fileRows, walkRows, filterRows, balanceRows, explainRows, writerRows, ByTable}
+use Rattle.demands.specs.Table.{fileRows, walkRows, filterRows, balanceRows, explainRows, writerRows, ByTable, toleranceRows, InOrder}
 
 -- ---- the first row that fires
 abbrev firstOf : List Outcome → Outcome
@@ -272,3 +273,33 @@ writer-table k v g a room =
     ∙ ap
     (λ (u : Outcome). refuse 2 (badSize k) ▷ refuse 3 (badCounts k) ▷ refuse 4 (badKind k) ▷ refuse 5 (badRadius k) ▷ refuse 6 six ▷ (x ▷ y)
     ▷ u) (last (refuse 11 r)))
+
+-- ---- rows in an order of their own
+found : (rows : List Outcome) (n : ℕ) (l : List ℕ) → firstOf rows ≡ refused n l
+    → (j : ℕ) × (getD rows j accepted ≡ refused n l) × ((i : ℕ) → i < j → getD rows i accepted ≡ accepted)
+found [] n l e = absurd (not-refused (sym e))
+found (accepted ∷ os) n l e = let r = found os n l e in (suc (r .0), r .1, before (r .0) (r .2))
+  where
+    before : (j : ℕ) → ((i : ℕ) → i < j → getD os i accepted ≡ accepted) → (i : ℕ) → i < suc j → getD (accepted ∷ os) i accepted ≡ accepted
+    before j r zero h = refl
+    before j r (suc i) h = r i (le-of-suc-le-suc h)
+found (refused m q ∷ os) n l e = (zero, e, λ i h. absurd (not-suc-le-zero h))
+
+in-order : (rows : List Outcome) (o : Outcome) → o ≡ firstOf rows → InOrder rows o
+in-order rows o e =
+    record {
+      given = λ n l. (λ q. found rows n l (sym e ∙ q), λ q. e ∙ back rows (q .0) n l (q .1) (q .2));
+      passed = (λ q. none rows (sym e ∙ q), λ q. e ∙ all rows q);
+    }
+
+pub tolerance-table : (b upper : List ℕ) (have : Room) (least greatest : ℕ)
+    → InOrder (toleranceRows b upper have least greatest) (toleranceOutcome b upper have least greatest)
+unfolding toleranceOutcome toleranceChecks
+tolerance-table b upper have least greatest =
+    let k = settingsOf b in
+    let w = eqb (k .kind) 2 in
+    let x = badUpper b upper in
+    let r = short k 1 have least (pixels k) || ltb greatest (pixels k) in
+    let own : List Outcome = refuse 8 w ∷ refuse 13 x ∷ refuse 11 r ∷ [] in
+    in-order (fileRows b own) (toleranceOutcome b upper have least greatest)
+    (file-first b (toleranceChecks b upper have least greatest) own (ap (λ (u : Outcome). refuse 8 w ▷ refuse 13 x ▷ u) (last (refuse 11 r))))

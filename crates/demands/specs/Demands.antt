@@ -1,6 +1,7 @@
--- The three demands, and document 02's request 4, over windows without their dead pixels (request 6), as statements about the promises of the calls.
+-- The three demands, and document 02's requests 4 and 7, over windows without their dead pixels (request 6), as statements about the promises of the
+-- calls.
 -- A reader starts here; proofs/Demands.antt proves each.
--- b are a file's bytes, before and after the stores around a call, old and new its answers or output, r its result.
+-- b are a file's bytes, upper a plane of upper levels, before and after the stores around a call, old and new its answers or output, r its result.
 -- Assumes nothing.
 use Prim.Native.Nat.{ℕ, suc, _+_, _-_, _*_, _≤_, _<_}
 use mathlib.Core.Path.{_≡_}
@@ -21,7 +22,7 @@ use Rattle.spec.specs.declared.Grounds.{Grounds}
 use Rattle.spec.specs.declared.Verdict.the-variants.{Accepted}
 use Rattle.spec.specs.Base.{if_then_else_, sum}
 use Rattle.spec.specs.Refusal.{accepted, refused, numbered}
-use Rattle.spec.specs.Frame.{Frame, level, noReading, pixels, frameOf}
+use Rattle.spec.specs.Frame.{Frame, level, noReading, pixels, frameOf, withValues}
 use Rattle.spec.specs.Window.{InWindow, Σ, pixelCount}
 use Rattle.spec.specs.Weight.{ownWeight, ownTotal, weight}
 use Rattle.spec.specs.Median.{totalWeight, cumulative, balance, LevelOrNone, differences, NoneNegative, NotAllZero}
@@ -29,6 +30,7 @@ use Rattle.spec.specs.Walk.{answerNumber, State, byBlocks, adds, move, start, w
 use Rattle.spec.specs.Filter.{filtered, filterEnd}
 use Rattle.spec.specs.Explain.{Applies, Grounded}
 use Rattle.spec.specs.Calls.{wayOf, walkOutcome, filterOutcome, balanceOutcome, explainOutcome}
+use Rattle.spec.specs.Tolerance.{ownValues, LeastAndGreatest, toleranceOutcome}
 use Rattle.spec.specs.Writer.{written, writtenSize, writerOutcome}
 use Rattle.ice_step.specs.declared.Walked.{Walked}
 use Rattle.ice_step.specs.Finished.{Lent, roomIn}
@@ -39,7 +41,9 @@ use Rattle.frame_write.specs.declared.Written.the-variants.{Length}
 use Rattle.frame_write.specs.Write.{declined, reported, Writes, Returned}
 use Rattle.ice.specs.Result.{noGrounds}
 use Rattle.ice.specs.Contract.{Untouched, Ended, Walks, Filters, Balances, Explains}
-use Rattle.demands.specs.Table.{walkRows, filterRows, balanceRows, explainRows, writerRows, ByTable}
+use Rattle.tolerance.specs.declared.Tolerated.{Tolerated}
+use Rattle.tolerance.specs.Contract.{Buffers, outcomeOf, AllKept, BothFiltered, Tolerates}
+use Rattle.demands.specs.Table.{walkRows, filterRows, balanceRows, explainRows, writerRows, ByTable, toleranceRows, InOrder}
 
 -- ---- demand 1
 
@@ -77,6 +81,14 @@ ExplainedOrRefused =
     → ((r .verdict ≡ Accepted) × (explainOutcome b s t ≡ accepted) × Grounded (frameOf b) s t (r .grounds))
     ⊎ ((n : ℕ) × (l : List ℕ) × (numbered (r .verdict) ≡ refused n l) × (explainOutcome b s t ≡ refused n l) × (r .grounds ≡ noGrounds))
 
+-- a tolerance: both planes, or every buffer as it was
+abbrev pub ToleratedOrRefused : Type 0
+ToleratedOrRefused =
+    (b upper : List ℕ) (before after : Buffers) (r : Tolerated) → Tolerates b upper before after r
+    → ((r .verdict ≡ Accepted) × (outcomeOf b upper before ≡ accepted)
+    × BothFiltered (frameOf b) (withValues (frameOf b) upper) before after r)
+    ⊎ ((n : ℕ) × (l : List ℕ) × (numbered (r .verdict) ≡ refused n l) × (outcomeOf b upper before ≡ refused n l) × AllKept before after r)
+
 -- a writing: the file and then the rest of the output, or the output as it was
 abbrev pub WrittenOrRefused : Type 0
 WrittenOrRefused =
@@ -90,6 +102,8 @@ pub record EachNumber : Type 0 where
   pub filter : (b : List ℕ) (way : ℕ) (have : Room) (out : ℕ) → ByTable (filterRows b way have out) (filterOutcome b way have out)
   pub balance : (b : List ℕ) (s t i : ℕ) → ByTable (balanceRows b s t i) (balanceOutcome b s t i)
   pub explain : (b : List ℕ) (s t : ℕ) → ByTable (explainRows b s t) (explainOutcome b s t)
+  pub tolerance : (b upper : List ℕ) (have : Room) (least greatest : ℕ)
+      → InOrder (toleranceRows b upper have least greatest) (toleranceOutcome b upper have least greatest)
   pub writer : (settings : Settings) (v g a : List ℕ) (room : ℕ) → ByTable (writerRows settings v g a room) (writerOutcome settings v g a room)
 
 pub record Demand1 : Type 0 where
@@ -97,6 +111,7 @@ pub record Demand1 : Type 0 where
   pub filter : FilteredOrRefused
   pub balance : BalancedOrRefused
   pub explain : ExplainedOrRefused
+  pub tolerance : ToleratedOrRefused
   pub writer : WrittenOrRefused
   pub table : EachNumber
 
@@ -235,3 +250,25 @@ ExplainsTheAnswer = (b : List ℕ) (s t : ℕ) (r : Explained) → Explains b s 
 pub record Request4 : Type 0 where
   pub grounds : EveryExplanation
   pub answer : ExplainsTheAnswer
+
+-- ---- document 02's request 7: levels known within a tolerance
+
+-- the first numbers of the two outputs, one for each pixel, are the least and the greatest answers over every choice of levels between the file's own
+-- and the upper ones, both reached
+abbrev pub LeastAndGreatestGiven : Type 0
+LeastAndGreatestGiven =
+    (b upper : List ℕ) (before after : Buffers) (r : Tolerated) → Tolerates b upper before after r → r .verdict ≡ Accepted
+    → LeastAndGreatest (frameOf b) (ownValues (frameOf b)) upper
+    (take (pixels (frameOf b .set)) (after .least)) (take (pixels (frameOf b .set)) (after .greatest))
+
+-- the least answers and their shift count are those of the filter by way 1, with the same answers by every way
+abbrev pub LeastIsFiltered : Type 0
+LeastIsFiltered =
+    (b upper : List ℕ) (before after : Buffers) (r : Tolerated) → Tolerates b upper before after r → r .verdict ≡ Accepted
+    → (way : ℕ) (before′ after′ : Lent) (old new : List ℕ) (w : Walked) → Filters b way before′ after′ old new w → w .verdict ≡ Accepted
+    → (take (pixels (frameOf b .set)) (after .least) ≡ take (pixels (frameOf b .set)) new)
+    × (byBlocks (wayOf way) ≡ false → r .«least_shifts» ≡ w .shifts)
+
+pub record Request7 : Type 0 where
+  pub planes : LeastAndGreatestGiven
+  pub least : LeastIsFiltered

@@ -1,11 +1,12 @@
--- Document 01's table of refusals, a row for each number from 1 on: what the row's check says by itself, in the order of the rows.
+-- Document 01's table of refusals, a row for each number from 1 on: what the row's check says by itself, in the order of the rows; and document 02's
+-- checks of the tolerance call, in their own order.
 -- Assumes nothing.
 use Prim.Native.Nat.{ℕ, suc, _+_, _*_, _≤_, _<_}
 use mathlib.Core.Path.{_≡_}
 use mathlib.Core.Logic.{_↔_}
 use mathlib.Core.Bool.{true, false, _||_, not}
 use mathlib.Core.List.{List, [], _∷_}
-use lib.Dec.{ltb}
+use lib.Dec.{ltb, eqb}
 use lib.ListN.{length, getD}
 use Rattle.spec.specs.declared.Settings.{Settings}
 use Rattle.spec.specs.declared.Room.{Room}
@@ -13,6 +14,7 @@ use Rattle.spec.specs.Refusal.{Outcome, accepted, refused, _▷_, refuse}
 use Rattle.spec.specs.Frame.{trailerAt, settingsOf, trailerOf, planOf, pixels}
 use Rattle.spec.specs.Checks.{badMark, badSize, badCounts, badKind, badRadius, badDistance, contents}
 use Rattle.spec.specs.Calls.{badWay, badPixel, short}
+use Rattle.spec.specs.Tolerance.{badUpper}
 use Rattle.spec.specs.Writer.{writtenSize, badLength, scanList}
 
 -- rows 1 to 7, which every call on a file makes first, and then those of the call
@@ -53,3 +55,19 @@ pub record ByTable (rows : List Outcome) (o : Outcome) : Type 0 where
       ↔ ((getD rows n accepted ≡ refused (suc n) l) × ((j : ℕ) → j < n → getD rows j accepted ≡ accepted))
   pub passed : (o ≡ accepted) ↔ ((j : ℕ) → getD rows j accepted ≡ accepted)
   pub from-one : (n : ℕ) (l : List ℕ) → o ≡ refused n l → 1 ≤ n
+
+-- ---- checks that are made in another order than that of their numbers
+
+-- document 02: 13 stands after 8 and before 11
+abbrev pub toleranceRows : List ℕ → List ℕ → Room → ℕ → ℕ → List Outcome
+toleranceRows b upper have least greatest =
+    fileRows b
+    (refuse 8 (eqb (settingsOf b .kind) 2) ∷ refuse 13 (badUpper b upper)
+    ∷ refuse 11 (short (settingsOf b) 1 have least (pixels (settingsOf b)) || ltb greatest (pixels (settingsOf b))) ∷ [])
+
+-- a number is given, with its values, exactly if a row fires with it and no row before that one does; and the outcome is accepted exactly if no row
+-- fires
+pub record InOrder (rows : List Outcome) (o : Outcome) : Type 0 where
+  pub given : (n : ℕ) (l : List ℕ) → (o ≡ refused n l)
+      ↔ ((j : ℕ) × (getD rows j accepted ≡ refused n l) × ((i : ℕ) → i < j → getD rows i accepted ≡ accepted))
+  pub passed : (o ≡ accepted) ↔ ((j : ℕ) → getD rows j accepted ≡ accepted)

@@ -1,14 +1,17 @@
--- What checks 1 to 6 promise of a file's plan: its planes lie within the file. Assumes nothing.
-use mathlib.Core.Path.{_≡_}
+-- What checks 1 to 6 promise of a file's plan: its planes lie within the file; and the plan of an opened file. Assumes nothing.
+use mathlib.Core.Path.{_≡_, sym, _∙_}
+use mathlib.Core.Bool.{false}
 use mathlib.Core.List.{List}
 use Prim.Native.Nat.{ℕ, _≤_}
 use native.Mathlib.Omega.{arith}
 use lib.ListN.{length}
-use Rattle.spec.specs.Refusal.{accepted, _▷_, refuse}
+use Rattle.spec.specs.Refusal.{accepted, _▷_, refuse, fires, numbered}
 use Rattle.spec.specs.Frame.{trailerAt, settingsOf, trailerOf, planOf}
-use Rattle.spec.specs.Checks.{badMark, settingsOutcome, badDistance, trailerOutcome, verdict}
+use Rattle.spec.specs.Checks.{badMark, settingsOutcome, badDistance, trailerOutcome, verdict, Planned}
 use Rattle.spec.proofs.Checks.{both-accepted, not-fired, Near, near, mark-long}
+use Rattle.spec.proofs.Outcomes.{silent}
 use Rattle.frame_contents.specs.Planes.{PlanesInFile}
+use Rattle.frame.specs.declared.plan.Opened.{Opened}
 use Rattle.frame.specs.Plan.{openedPlan}
 
 -- ---- what a file has whose trailer passes
@@ -39,3 +42,9 @@ planes-in-file b e =
 pub plan-opened : (b : List ℕ) → verdict b ≡ accepted → openedPlan b ≡ planOf b
 unfolding openedPlan
 plan-opened b e = simp e
+
+pub planned-of : {b : List ℕ} (h : Opened) → (numbered (h .verdict) ≡ verdict b) × (h .plan ≡ openedPlan b) → fires (numbered (h .verdict)) ≡ false →
+    Planned b (h .plan)
+planned-of {b} h e f =
+    let ok : verdict b ≡ accepted = sym (e .0) ∙ silent (numbered (h .verdict)) f in
+    record { accepts = ok; plan = e .1 ∙ plan-opened b ok; fits = tt }

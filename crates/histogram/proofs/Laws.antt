@@ -13,8 +13,8 @@ use borrow.Author.Tests.{eq-eqb, ne-eqb, lt-ltb, le-ltb}
 use Rattle.ints.specs.Order.{eq-or-ne}
 use Rattle.spec.specs.declared.Plan.{Plan}
 use Rattle.spec.specs.Base.{if_then_else_}
-use Rattle.spec.specs.Frame.{Frame, level, guide, frameOf}
-use Rattle.spec.specs.Checks.{Planned}
+use Rattle.spec.specs.Frame.{Frame, level, guide, frameWith}
+use Rattle.spec.specs.Checks.{Pictured}
 use Rattle.spec.specs.Window.{Σ, levelSum}
 use Rattle.spec.proofs.Plans.{facts, pixel-of}
 use Rattle.spec.proofs.Bounds.{over-high}
@@ -101,27 +101,30 @@ module _ (w : Bool) (l i f : ℕ) (xs : List ℕ) (hi : i < l) (long : l + l ≤
               (ap (changed w (getD xs k 0)) (no-share l i f hi k n m) ∙ changed-none w (getD xs k 0))
 
 -- ---- the window's numbers
-module _ {b : List ℕ} {z : Plan} (pl : Planned b z) where
+module _ {b vs : List ℕ} {z : Plan} (pl : Pictured b vs z) where
   abbrev L : ℕ
   L = z .levels
 
-  pub levels-same : L ≡ frameOf b .set .levels
+  pub levels-same : L ≡ frameWith b vs .set .levels
   levels-same = facts pl .levels
 
   -- the window's number at a place
   abbrev held : ℕ → ℕ → ℕ → ℕ
-  held s t q = Σ (frameOf b) s t (λ x y. share L q (level (frameOf b) x y) (guide (frameOf b) x y))
+  held s t q = Σ (frameWith b vs) s t (λ x y. share L q (level (frameWith b vs) x y) (guide (frameWith b vs) x y))
 
-  pub place-of : {s t : ℕ} {xs : List ℕ} → Histogram (frameOf b) s t xs → (q : ℕ) → q < L + L → getD xs q 0 ≡ held s t q
+  pub place-of : {s t : ℕ} {xs : List ℕ} → Histogram (frameWith b vs) s t xs → (q : ℕ) → q < L + L → getD xs q 0 ≡ held s t q
   place-of {s} {t} v q l =
-      v .cells q (rw levels-same at l) ∙ ap (λ (m : ℕ). Σ (frameOf b) s t (λ x y. share m q (level (frameOf b) x y) (guide (frameOf b) x y)))
+      v .cells q (rw levels-same at l) ∙ ap (λ (m : ℕ). Σ (frameWith b vs) s t
+      (λ x y. share m q (level (frameWith b vs) x y) (guide (frameWith b vs) x y)))
       (sym levels-same)
 
-  pub histogram-of : {s t : ℕ} {xs : List ℕ} → L + L ≤ length xs → ((q : ℕ) → q < L + L → getD xs q 0 ≡ held s t q) → Histogram (frameOf b) s t xs
+  pub histogram-of : {s t : ℕ} {xs : List ℕ} → L + L ≤ length xs → ((q : ℕ) → q < L + L → getD xs q 0 ≡ held s t q)
+      → Histogram (frameWith b vs) s t xs
   histogram-of {s} {t} long e = record {
     long = rw levels-same at long;
     cells =
-        λ q l. e q (rw levels-same l) ∙ ap (λ (m : ℕ). Σ (frameOf b) s t (λ x y. share m q (level (frameOf b) x y) (guide (frameOf b) x y)))
+        λ q l. e q (rw levels-same l) ∙ ap (λ (m : ℕ). Σ (frameWith b vs) s t
+        (λ x y. share m q (level (frameWith b vs) x y) (guide (frameWith b vs) x y)))
         levels-same;
   }
 
@@ -131,7 +134,7 @@ module _ {b : List ℕ} {z : Plan} (pl : Planned b z) where
       over-high k _ 256
       (λ x y w. omega (
         arith,
-        share-le L (level (frameOf b) x y) (guide (frameOf b) x y) q,
+        share-le L (level (frameWith b vs) x y) (guide (frameWith b vs) x y) q,
         k .good .guide-low x y (w .wide) (w .high),
         k .good .sound
             .guides-high,

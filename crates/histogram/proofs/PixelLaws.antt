@@ -7,8 +7,8 @@ use Prim.Native.Nat.{ℕ, _+_, _-_, _≤_, _<_}
 use native.Mathlib.Omega.{arith}
 use lib.ListN.{length, getD}
 use Rattle.spec.specs.declared.Plan.{Plan}
-use Rattle.spec.specs.Frame.{frameOf}
-use Rattle.spec.specs.Checks.{Planned}
+use Rattle.spec.specs.Frame.{frameWith}
+use Rattle.spec.specs.Checks.{Pictured}
 use Rattle.spec.specs.Window.{span}
 use Rattle.window.specs.declared.line.Line.{Line}
 use Rattle.window.specs.declared.line.Step.{Step}
@@ -56,20 +56,20 @@ module _ {l : ℕ} {p : List ℕ} (v : PixelsBelow l 256 p) where
       )
 
 -- a plan's pixels have at most 256 guides
-below : {b : List ℕ} {z : Plan} {p : List ℕ} → Planned b z → PixelsBelow (z .levels) (z .guides) p → PixelsBelow (z .levels) 256 p
+below : {b vs : List ℕ} {z : Plan} {p : List ℕ} → Pictured b vs z → PixelsBelow (z .levels) (z .guides) p → PixelsBelow (z .levels) 256 p
 below pl u = record { few = u .few; level = u .level; guide = λ k h. omega (arith, u .guide k h, guides-high pl) }
 
 -- ---- column by column
-module _ {b : List ℕ} {z : Plan} (pl : Planned b z) where
-  pub filled-start : (x t : ℕ) {xs : List ℕ} → Blank (z .levels) xs → HistogramFilled b z x t 0 xs
+module _ {b vs : List ℕ} {z : Plan} (pl : Pictured b vs z) where
+  pub filled-start : (x t : ℕ) {xs : List ℕ} → Blank (z .levels) xs → HistogramFilled b vs z x t 0 xs
   filled-start x t o = record {
     long = o .long;
     low = λ q l. omega (arith, o .zeros q l);
-    cells = λ q l. o .zeros q l ∙ sym (columns-none _+_ 0 b z x t (share (z .levels) q));
+    cells = λ q l. o .zeros q l ∙ sym (columns-none _+_ 0 b vs z x t (share (z .levels) q));
   }
 
-  module _ {x t n : ℕ} {xs : List ℕ} (v : HistogramFilled b z x t n xs) {d : Line} (ed : d ≡ columnLine z (x + n) t)
-      {p : List ℕ} (r : LinePixels b z d p)
+  module _ {x t n : ℕ} {xs : List ℕ} (v : HistogramFilled b vs z x t n xs) {d : Line} (ed : d ≡ columnLine z (x + n) t)
+      {p : List ℕ} (r : LinePixels b vs z d p)
     where
       pub fill-asks : n < 31 →
           ((z .levels ≤ 1024) × (z .levels + z .levels ≤ length xs) × PixelsBelow (z .levels) 256 p) × RoomFor true (z .levels) p xs
@@ -80,7 +80,7 @@ module _ {b : List ℕ} {z : Plan} (pl : Planned b z) where
 
       pub filled-next : {ys : List ℕ} → length ys ≡ length xs →
           PassedTo _+_ 0 (shareAt (z .levels)) changed true p (countOf p) (numberAt (z .levels) xs) (numberAt (z .levels) ys) →
-          HistogramFilled b z x t (n + 1) ys
+          HistogramFilled b vs z x t (n + 1) ys
       unfolding changed
       filled-next e g = record {
         long = rw e (v .long);
@@ -88,16 +88,24 @@ module _ {b : List ℕ} {z : Plan} (pl : Planned b z) where
             let a : HistogramPlace (z .levels) = record { at = q; low = l } in
             omega (arith, g .cells a, v .low q l, list-high (below pl (r .below)) a);
         cells = λ q l. let h =
-            share (z .levels) q in omega (arith, g .cells (record { at = q; low = l }), v .cells q l, columns-more _+_ 0 b z x t h n p ed (r .sum h));
+            share (z .levels) q in omega (
+              arith,
+              g .cells (record { at = q; low = l }),
+              v .cells q l,
+              columns-more _+_ 0 b vs z x t h n p ed
+                  (r .sum h),
+            );
       }
 
-  pub filled-end : {s t n x : ℕ} {xs : List ℕ} → x ≡ s - z .radius → n ≡ span (z .radius) s (z .width) → HistogramFilled b z x t n xs →
-      Histogram (frameOf b) s t xs
-  filled-end {s} {t} {x = x} ex en v = histogram-of pl (v .long) (λ q l. v .cells q l ∙ columns-window _+_ 0 b z x t (share (z .levels) q) pl s ex en)
+  pub filled-end : {s t n x : ℕ} {xs : List ℕ} → x ≡ s - z .radius → n ≡ span (z .radius) s (z .width) → HistogramFilled b vs z x t n xs →
+      Histogram (frameWith b vs) s t xs
+  filled-end {s} {t} {x = x} ex en v = histogram-of pl (v .long)
+      (λ q l. v .cells q l ∙ columns-window _+_ 0 b vs z x t (share (z .levels) q) pl s ex en)
 
 -- ---- a step of the window
-module _ {b : List ℕ} {z : Plan} (pl : Planned b z) {s t s′ t′ : ℕ} (adj : Adjacent z s t s′ t′) {d : Step} (ed : d ≡ stepOf z s t s′ t′)
-    {e l : List ℕ} (re : LinePixels b z (d .entering) e) (rl : LinePixels b z (d .leaving) l) {xs : List ℕ} (v : Histogram (frameOf b) s t xs) where
+module _ {b vs : List ℕ} {z : Plan} (pl : Pictured b vs z) {s t s′ t′ : ℕ} (adj : Adjacent z s t s′ t′) {d : Step} (ed : d ≡ stepOf z s t s′ t′)
+    {e l : List ℕ} (re : LinePixels b vs z (d .entering) e) (rl : LinePixels b vs z (d .leaving) l) {xs : List ℕ}
+    (v : Histogram (frameWith b vs) s t xs) where
   abbrev L : ℕ
   L = z .levels
 
@@ -117,7 +125,7 @@ module _ {b : List ℕ} {z : Plan} (pl : Planned b z) {s t s′ t′ : ℕ} (adj
   )
 
   pub exchanged-histogram : {ys : List ℕ} → length ys ≡ length xs → Exchanged _+_ 0 (shareAt L) e l (numberAt L xs) (numberAt L ys) →
-      Histogram (frameOf b) s′ t′ ys
+      Histogram (frameWith b vs) s′ t′ ys
   exchanged-histogram n x =
       histogram-of pl (rw n long)
       (λ q lo. slid naturals (shareAt L) pl adj ed e l (re .sum) (rl .sum) x (record { at = q; low = lo }) (place-of pl v q lo))

@@ -28,10 +28,10 @@ pub record Blank (l : ℕ) (xs : List ℕ) : Type 0 where
   pub zeros : (k : ℕ) → k < l + l → getD xs k 0 ≡ 0
 
 -- the first n columns from column x of the windows of row t
-pub record HistogramFilled (b : List ℕ) (plan : Plan) (x t n : ℕ) (xs : List ℕ) : Type 0 where
+pub record HistogramFilled (b vs : List ℕ) (plan : Plan) (x t n : ℕ) (xs : List ℕ) : Type 0 where
   pub long : plan .levels + plan .levels ≤ length xs
   pub low : (k : ℕ) → k < plan .levels + plan .levels → getD xs k 0 ≤ 7936 * n
-  pub cells : (k : ℕ) → k < plan .levels + plan .levels → getD xs k 0 ≡ columnsFold _+_ 0 b plan x t (share (plan .levels) k) n
+  pub cells : (k : ℕ) → k < plan .levels + plan .levels → getD xs k 0 ≡ columnsFold _+_ 0 b vs plan x t (share (plan .levels) k) n
 
 -- the window at (s, t)
 pub record Histogram (p : Frame) (s t : ℕ) (xs : List ℕ) : Type 0 where

@@ -4,7 +4,7 @@ use Prim.Native.Nat.{ℕ, _+_, _*_, _≤_, _<_}
 use mathlib.Core.Path.{_≡_, refl, ap, ap₂, sym, _∙_, subst}
 use mathlib.Core.Bool.{true, false}
 use mathlib.Core.Logic.{_⊎_, inl, inr}
-use mathlib.Core.List.{List, _++_}
+use mathlib.Core.List.{List, [], _++_}
 use lib.IntN.{pos}
 use lib.ListN.{length, take, drop, take-append-drop}
 use Rattle.spec.specs.declared.Settings.{Settings}
@@ -21,8 +21,6 @@ use Rattle.spec.specs.Explain.{Grounded}
 use Rattle.spec.specs.Calls.{wayOf, BothKinds, roomOf, countsOf, wordsOf, walkOutcome, filterOutcome, balanceOutcome, explainOutcome}
 use Rattle.spec.proofs.Plans.{facts}
 use Rattle.spec.proofs.Calls.{way-serves, RoomFits, walk-accepted, filter-accepted, balance-accepted, explain-accepted}
-use Rattle.frame.specs.declared.plan.Opened.{Opened}
-use Rattle.frame.specs.Plan.{openedPlan}
 use Rattle.ice_step.specs.declared.Walked.{Walked}
 use Rattle.ice.specs.declared.Balanced.{Balanced}
 use Rattle.ice.specs.declared.Explained.{Explained}
@@ -32,14 +30,6 @@ use Rattle.ice.specs.Result.{Zeroed, Unexplained}
 use Rattle.ice.specs.Contract.{Untouched, Ended, Walks, Filters, Balances, Explains}
 use Rattle.ways.proofs.WayLaws.{settings-same}
 use Rattle.ice.proofs.OutcomeLaws.{set-of, stopped, fires-not, quiet}
-
--- an opened file that no check refuses has its plan
-pub planned-of : {b : List ℕ} (h : Opened) → (numbered (h .verdict) ≡ verdict b) × (h .plan ≡ openedPlan b) → fires (numbered (h .verdict)) ≡ false →
-    Planned b (h .plan)
-unfolding openedPlan
-planned-of {b} h e f =
-    let q : fires (verdict b) ≡ false = ap fires (sym (e .0)) ∙ f in
-    record { accepts = quiet (verdict b) q; plan = e .1 ∙ rw q refl }
 
 -- ---- the outcome, by who decides
 module _ (b : List ℕ) (own : Outcome) (v : Verdict) (e : numbered v ≡ verdict b) where
@@ -126,9 +116,9 @@ module _ (b : List ℕ) (way : ℕ) (y : Way) (ey : y ≡ wayOf way) (a z : Lent
 
 -- ---- what an accepted call hands on
 module _ {b : List ℕ} {z : Plan} (k : Planned b z) (way : ℕ) (y : Way) (ey : y ≡ wayOf way) where
-  serves-by : BothKinds (wayOf way) ⊎ (settingsOf b .kind ≡ 2) → Serves y z
-  serves-by (inl e) = inl (subst BothKinds (sym ey) e)
-  serves-by (inr e) = inr (facts k .kind ∙ ap (λ (s : Settings). s .kind) (set-of b) ∙ e)
+  serves-by : BothKinds (wayOf way) ⊎ (settingsOf b .kind ≡ 2) → Serves y z []
+  serves-by (inl e) = (inl (subst BothKinds (sym ey) e), inl refl)
+  serves-by (inr e) = (inr (facts k .kind ∙ ap (λ (s : Settings). s .kind) (set-of b) ∙ e), inl refl)
 
   fits-by : (a : Lent) → RoomFits (roomOf (wayOf way) (settingsOf b)) (roomIn a) → LentFits y (settingsIn z) a
   fits-by a f =
@@ -140,7 +130,7 @@ module _ {b : List ℕ} {z : Plan} (k : Planned b z) (way : ℕ) (y : Way) (ey :
       record { stores = record { counts = g .counts; words = g .words; numbers = g .numbers }; summary = g .summary }
 
   pub record Granted (s t n : ℕ) (a : Lent) (out : ℕ) : Type 0 where
-    pub serves : Serves y z
+    pub serves : Serves y z []
     pub pixel : (s < z .width) × (t < z .height)
     pub moves : n ≤ 1048576
     pub fit : LentFits y (settingsIn z) a
@@ -159,7 +149,7 @@ module _ {b : List ℕ} {z : Plan} (k : Planned b z) (way : ℕ) (y : Way) (ey :
       }
 
   pub record FilterGranted (a : Lent) (out : ℕ) : Type 0 where
-    pub serves : Serves y z
+    pub serves : Serves y z []
     pub fit : LentFits y (settingsIn z) a
     pub plane : z .width * z .height ≤ out
 

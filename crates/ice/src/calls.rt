@@ -114,7 +114,18 @@ pub fn filter(
         return refused(w);
     }
     let by = checks_room::way_of(way);
-    sweep(file, plan, by, counts, words, numbers, summary, output)
+    let none: [u16; 0] = [];
+    sweep(
+        file,
+        &none,
+        plan,
+        by,
+        counts,
+        words,
+        numbers,
+        summary,
+        output,
+    )
 }
 
 // The balance of the window at a pixel, at a level. The level is a number like the column and the row until check 9 has passed.

@@ -15,12 +15,12 @@ use Rattle.spec.specs.declared.Settings.{Settings}
 use Rattle.spec.specs.declared.Plan.{Plan}
 use Rattle.spec.specs.declared.Way.{Way}
 use Rattle.spec.specs.Base.{tabulate}
-use Rattle.spec.specs.Frame.{Frame, pixels, frameOf}
+use Rattle.spec.specs.Frame.{Frame, pixels, frameOf, frameWith}
 use Rattle.spec.specs.Median.{answer}
 use Rattle.spec.specs.Walk.{State, answerNumber, arrive, start, step, after, walkEnd}
 use Rattle.spec.specs.Filter.{turn, serpentine, filtered, filterEnd}
 use Rattle.spec.proofs.First.{length-tabulate, getD-tabulate}
-use Rattle.spec.specs.Checks.{Planned, SettingsLimits}
+use Rattle.spec.specs.Checks.{Pictured, SettingsLimits}
 use Rattle.spec.proofs.Limits.{FrameLimits}
 use Rattle.spec.proofs.Plans.{Facts, facts}
 use Rattle.spec.proofs.Walks.{StateBounded}
@@ -92,26 +92,26 @@ module _ (p : Frame) (g : FrameLimits p) (O : List ℕ) (long : pixels (p .set) 
       sym (take-append-drop n O) ∙ cc
 
 -- ---- the invariant: i moves are done; O₀ is the output where the loop begins
-pub record Sweeping (way : Way) (b : List ℕ) (x : State) (a : Stores) (O₀ : List ℕ) (z : Stores) (O hs : List ℕ) (d : List ℤ) (v : Visit) (i : ℕ) :
+pub record Sweeping (way : Way) (b vs : List ℕ) (x : State) (a : Stores) (O₀ : List ℕ) (z : Stores) (O hs : List ℕ) (d : List ℤ) (v : Visit) (i : ℕ) :
     Type 0 where
-  pub going : Going way b (serpentine (frameOf b .set)) x a z hs d v i
-  pub at : At (frameOf b) (stateOf way v) (columnAfter (frameOf b .set .width) i) (i / frameOf b .set .width)
-  pub plane : Plane (frameOf b) O i
+  pub going : Going way b vs (serpentine (frameOf b .set)) x a z hs d v i
+  pub at : At (frameWith b vs) (stateOf way v) (columnAfter (frameOf b .set .width) i) (i / frameOf b .set .width)
+  pub plane : Plane (frameWith b vs) O i
   pub rest : KeptBeyond (pixels (frameOf b .set)) O₀ O
   pub inside : i < pixels (frameOf b .set)
 
-module _ (way : Way) (b : List ℕ) (g : FrameLimits (frameOf b)) where
+module _ (way : Way) (b vs : List ℕ) (g : FrameLimits (frameWith b vs)) where
   abbrev p : Frame
-  p = frameOf b
+  p = frameWith b vs
 
   pub pixels-some : 0 < pixels (p .set)
   pixels-some = mul-pos (g .sound .width-low) (g .sound .height-low)
 
   -- where a turn's step goes, and the place of its answer
   pub sweep-goes : (x : State) (a : Stores) (O₀ : List ℕ) (z : Stores) (O hs : List ℕ) (d : List ℤ) (v : Visit) (i : ℕ) →
-      Sweeping way b x a O₀ z O hs d v i
+      Sweeping way b vs x a O₀ z O hs d v i
       → i + 1 < pixels (p .set) → (byte : ℕ) → byte ≡ turn (p .set .width) i → (z′ : Stores) (hs′ : List ℕ) (d′ : List ℤ) (v′ : Visit)
-      → Visited way b (step p (stateOf way v) byte) z z′ hs′ d′ v′
+      → Visited way b vs (step p (stateOf way v) byte) z z′ hs′ d′ v′
       → At p (stateOf way v′) (columnAfter (p .set .width) (i + 1)) ((i + 1) / p .set .width)
   sweep-goes x a O₀ z O hs d v i w l byte eb z′ hs′ d′ v′ h =
       subst (λ (q : State). At p q (columnAfter (p .set .width) (i + 1)) ((i + 1) / p .set .width)) (sym (h .state))
@@ -127,15 +127,15 @@ module _ (way : Way) (b : List ℕ) (g : FrameLimits (frameOf b)) where
   sweep-place v i l a = subst (λ (n : ℕ). n < pixels (p .set)) (sym (place v i a)) (visited-low (p .set) (g .sound .width-low) i l)
 
   pub sweep-start : (z : Stores) (O hs : List ℕ) (d : List ℤ) (v : Visit) → pixels (p .set) ≤ length O → stateOf way v ≡ start way p 0 0 →
-      AtWindow way b z hs d v
+      AtWindow way b vs z hs d v
       → StateBounded p (stateOf way v) 1 → (m : ℕ) → m ≡ answerNumber (v .answer)
-      → Sweeping way b (stateOf way v) z (set O 0 m) z (set O 0 m) hs d v 0
+      → Sweeping way b vs (stateOf way v) z (set O 0 m) z (set O 0 m) hs d v 0
   sweep-start z O hs d v long e h on m em =
       let k : At p (stateOf way v) (columnAfter (p .set .width) 0) (0 / p .set .width) =
       subst (λ (q : State). At p q (columnAfter (p .set .width) 0) (0 / p .set .width)) (sym e) (serpentine-begins way g) in
       let o : visited (p .set .width) 0 ≡ 0 = sym (place v 0 k) ∙ zero-place in
       record {
-        going = going-start way b (serpentine (p .set)) z hs d v h on;
+        going = going-start way b vs (serpentine (p .set)) z hs d v h on;
         at = k;
         plane = rw o at (plane-first p g O long m pixels-some (em ∙ k .answer));
         rest = beyond-same _ _;
@@ -150,18 +150,18 @@ module _ (way : Way) (b : List ℕ) (g : FrameLimits (frameOf b)) where
           rw (r, c) (omega arith)
 
   pub sweep-more : (x : State) (a : Stores) (O₀ : List ℕ) (z : Stores) (O hs : List ℕ) (d : List ℤ) (v : Visit) (i : ℕ) →
-      Sweeping way b x a O₀ z O hs d v i
+      Sweeping way b vs x a O₀ z O hs d v i
       → i + 1 < pixels (p .set) → pixels (p .set) ≤ length O₀ → (byte : ℕ) → byte ≡ turn (p .set .width) i →
       (z′ : Stores) (hs′ : List ℕ) (d′ : List ℤ) (v′ : Visit)
-      → Visited way b (step p (stateOf way v) byte) z z′ hs′ d′ v′ → (m : ℕ) → m ≡ answerNumber (v′ .answer)
-      → Sweeping way b x a O₀ z′ (set O (v′ .row * p .set .width + v′ .column) m) hs′ d′ v′ (i + 1)
+      → Visited way b vs (step p (stateOf way v) byte) z z′ hs′ d′ v′ → (m : ℕ) → m ≡ answerNumber (v′ .answer)
+      → Sweeping way b vs x a O₀ z′ (set O (v′ .row * p .set .width + v′ .column) m) hs′ d′ v′ (i + 1)
   sweep-more x a O₀ z O hs d v i w l long byte eb z′ hs′ d′ v′ h m em =
       let k = sweep-goes x a O₀ z O hs d v i w l byte eb z′ hs′ d′ v′ h in
       let e : v′ .row * p .set .width + v′ .column ≡ visited (p .set .width) (i + 1) = place v′ (i + 1) k in
       let lo : length O ≡ length O₀ = w .rest .long in
       record {
         going =
-            going-more way b (serpentine (p .set)) x a z hs d v i (w .going) (omega (arith, serpentine-length (p .set))) byte
+            going-more way b vs (serpentine (p .set)) x a z hs d v i (w .going) (omega (arith, serpentine-length (p .set))) byte
             (eb ∙ sym (serpentine-byte (p .set) i l)) z′ hs′ d′ v′ h;
         at = k;
         plane = rw e (plane-more p g O (omega arith) i m l (em ∙ k .answer) (w .plane));
@@ -173,21 +173,21 @@ module _ (way : Way) (b : List ℕ) (g : FrameLimits (frameOf b)) where
       }
 
   pub sweep-end : (y : State) (a₀ a : Stores) (O₁ O₀ : List ℕ) (z : Stores) (O hs : List ℕ) (d : List ℤ) (v : Visit) (i : ℕ) →
-      Sweeping way b y a O₀ z O hs d v i
+      Sweeping way b vs y a O₀ z O hs d v i
       → pixels (p .set) ≤ i + 1 → pixels (p .set) ≤ length O₀ → y ≡ start way p 0 0 → RestKept way (p .set) a₀ a → (q : ℕ) → O₀ ≡ set O₁ 0 q
-      → Visited way b (filterEnd way p) a₀ z hs d v × (O ≡ filtered p ++ drop (pixels (p .set)) O₁)
+      → Visited way b vs (filterEnd way p) a₀ z hs d v × (O ≡ filtered p ++ drop (pixels (p .set)) O₁)
   unfolding filterEnd walkEnd
   sweep-end y a₀ a O₁ O₀ z O hs d v i w l long e kept q e₀ =
       let lo : length O ≡ length O₀ = w .rest .long in
       let dd : drop (pixels (p .set)) O ≡ drop (pixels (p .set)) O₁ =
       w .rest .beyond ∙ ap (drop (pixels (p .set))) e₀ ∙ drop-set-lt (pixels (p .set)) O₁ 0 q pixels-some in (
-        going-end way b (serpentine (p .set)) (start way p 0 0) y a₀ a z hs d v i (w .going) (omega (arith, serpentine-length (p .set))) e kept,
+        going-end way b vs (serpentine (p .set)) (start way p 0 0) y a₀ a z hs d v i (w .going) (omega (arith, serpentine-length (p .set))) e kept,
         plane-all
             p g O (omega arith) i l (w .plane) O₁ dd,
       )
 
 -- ---- the same with the plan's own numbers, as the code has them
-module _ (way : Way) {b : List ℕ} {z : Plan} (k : Planned b z) where
+module _ (way : Way) {b vs : List ℕ} {z : Plan} (k : Pictured b vs z) where
   abbrev n : ℕ
   n = z .width * z .height
 
@@ -195,24 +195,24 @@ module _ (way : Way) {b : List ℕ} {z : Plan} (k : Planned b z) where
   count-is = let f = facts k in ap₂ _*_ (f .width) (f .height)
 
   pub some : 0 < n
-  some = rw count-is (pixels-some way b (facts k .limits))
+  some = rw count-is (pixels-some way b vs (facts k .limits))
 
   pub first-in : (0 < z .width) × (0 < z .height)
   first-in = let f = facts k in (rw (f .width) (f .limits .sound .width-low), rw (f .height) (f .limits .sound .height-low))
 
-  pub sweeping-start : (s : Stores) (O hs : List ℕ) (d : List ℤ) (v : Visit) → n ≤ length O → stateOf way v ≡ start way (frameOf b) 0 0 →
-      AtWindow way b s hs d v
-      → (m : ℕ) → m ≡ answerNumber (v .answer) → Sweeping way b (stateOf way v) s (set O 0 m) s (set O 0 m) hs d v 0
+  pub sweeping-start : (s : Stores) (O hs : List ℕ) (d : List ℤ) (v : Visit) → n ≤ length O → stateOf way v ≡ start way (frameWith b vs) 0 0 →
+      AtWindow way b vs s hs d v
+      → (m : ℕ) → m ≡ answerNumber (v .answer) → Sweeping way b vs (stateOf way v) s (set O 0 m) s (set O 0 m) hs d v 0
   sweeping-start s O hs d v long e h m em =
-      sweep-start way b (facts k .limits) s O hs d v (rw count-is at long) e h (held-first way k 0 0 v (first-in .0) (first-in .1) e) m em
+      sweep-start way b vs (facts k .limits) s O hs d v (rw count-is at long) e h (held-first way k 0 0 v (first-in .0) (first-in .1) e) m em
 
   module _ (x : State) (a : Stores) (O₀ : List ℕ) (s : Stores) (O hs : List ℕ) (d : List ℤ) (v : Visit) (i : ℕ)
-      (w : Sweeping way b x a O₀ s O hs d v i) where
+      (w : Sweeping way b vs x a O₀ s O hs d v i) where
     pub sweeping-low : i < 262144
     sweeping-low = omega (arith, w .inside, facts k .limits .sound .pixels-high)
 
     module _ (l : i + 1 < n) (byte : ℕ) (eb : byte ≡ turn (z .width) i) (s′ : Stores) (hs′ : List ℕ) (d′ : List ℤ) (v′ : Visit)
-        (h : Visited way b (step (frameOf b) (stateOf way v) byte) s s′ hs′ d′ v′) where
+        (h : Visited way b vs (step (frameWith b vs) (stateOf way v) byte) s s′ hs′ d′ v′) where
       inside : i + 1 < pixels (frameOf b .set)
       inside = rw count-is at l
 
@@ -222,18 +222,19 @@ module _ (way : Way) {b : List ℕ} {z : Plan} (k : Planned b z) where
       pub sweeping-place : v′ .row * z .width + v′ .column < n
       sweeping-place =
           rw (count-is, facts k .width)
-          (sweep-place way b (facts k .limits) v′ (i + 1) inside
-          (sweep-goes way b (facts k .limits) x a O₀ s O hs d v i w inside byte byte-is s′ hs′ d′ v′ h))
+          (sweep-place way b vs (facts k .limits) v′ (i + 1) inside
+          (sweep-goes way b vs (facts k .limits) x a O₀ s O hs d v i w inside byte byte-is s′ hs′ d′ v′ h))
 
       -- the place is an argument, so that a wrong one is refused as such
       pub sweeping-more : n ≤ length O₀ → (m : ℕ) → m ≡ answerNumber (v′ .answer) → (place : ℕ) → place ≡ v′ .row * z .width + v′ .column
-          → Sweeping way b x a O₀ s′ (set O place m) hs′ d′ v′ (i + 1)
+          → Sweeping way b vs x a O₀ s′ (set O place m) hs′ d′ v′ (i + 1)
       sweeping-more long m em place ep =
           rw (ep, facts k .width)
-          (sweep-more way b (facts k .limits) x a O₀ s O hs d v i w inside (rw count-is at long) byte byte-is s′ hs′ d′ v′ h m em)
+          (sweep-more way b vs (facts k .limits) x a O₀ s O hs d v i w inside (rw count-is at long) byte byte-is s′ hs′ d′ v′ h m em)
 
-    pub sweeping-end : (a₀ : Stores) (O₁ : List ℕ) → n ≤ i + 1 → n ≤ length O₀ → x ≡ start way (frameOf b) 0 0 → RestKept way (frameOf b .set) a₀ a →
+    pub sweeping-end : (a₀ : Stores) (O₁ : List ℕ) → n ≤ i + 1 → n ≤ length O₀ → x ≡ start way (frameWith b vs) 0 0
+        → RestKept way (frameOf b .set) a₀ a →
         (q : ℕ) → O₀ ≡ set O₁ 0 q
-        → Visited way b (filterEnd way (frameOf b)) a₀ s hs d v × (O ≡ filtered (frameOf b) ++ drop (pixels (frameOf b .set)) O₁)
+        → Visited way b vs (filterEnd way (frameWith b vs)) a₀ s hs d v × (O ≡ filtered (frameWith b vs) ++ drop (pixels (frameOf b .set)) O₁)
     sweeping-end a₀ O₁ l long e kept q e₀ =
-        sweep-end way b (facts k .limits) x a₀ a O₁ O₀ s O hs d v i w (rw count-is at l) (rw count-is at long) e kept q e₀
+        sweep-end way b vs (facts k .limits) x a₀ a O₁ O₀ s O hs d v i w (rw count-is at l) (rw count-is at long) e kept q e₀

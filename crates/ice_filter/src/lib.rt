@@ -13,15 +13,17 @@ ghost use mathlib.Core.Path.{_≡_};
 ghost use mathlib.Core.List.{_++_};
 ghost use Prim.Native.Nat.{ℕ, _+_, _*_, _<_, _≤_};
 ghost use lib.ListN.{length, drop};
-ghost use Rattle.spec.specs.Frame.{frameOf, pixels, settingsIn};
-ghost use Rattle.spec.specs.Checks.{Planned};
+ghost use Rattle.spec.specs.Frame.{frameOf, frameWith, pixels, settingsIn};
+ghost use Rattle.spec.specs.Checks.{Pictured};
 ghost use Rattle.spec.specs.Filter.{filtered, filterEnd};
 ghost use Rattle.ways.specs.Visit.{Serves};
 ghost use Rattle.ice_step.specs.Finished.{lent, LentFits, Finished};
 
-// The filter's work, after the checks. The built-in weights, the box and the histogram are its own, and made once.
+// The filter's work, after the checks. The built-in weights, the box and the histogram are its own, and made once. For way 1 in kind 1 a plane may be
+// given in place of the file's values; an empty one is none.
 pub fn sweep(
     file: &[u8],
+    plane: &[u16],
     plan: Plan,
     way: Way,
     counts: &mut [u16],
@@ -30,13 +32,14 @@ pub fn sweep(
     summary: &mut [i64],
     output: &mut [u16],
 ) -> Walked
-    requires { ⌜ (Planned (now file) plan) × (Serves way plan) ⌝ }
+    requires { ⌜ (Pictured (now file) (now plane) plan) × (Serves way plan (now plane)) ⌝ }
     requires { ⌜ LentFits way (settingsIn plan) (lent (now counts) (now words) (now numbers) (now summary)) ⌝ }
     requires { ⌜ plan .width * plan .height ≤ length (now output) ⌝ }
-    ensures { λ r. ⌜ Finished way (frameOf (now (file .entry))) (filterEnd way (frameOf (now (file .entry))))
+    ensures { λ r. ⌜ Finished way (frameWith (now (file .entry)) (now (plane .entry)))
+        (filterEnd way (frameWith (now (file .entry)) (now (plane .entry))))
         (lent (now (counts .entry)) (now (words .entry)) (now (numbers .entry)) (now (summary .entry)))
         (lent (now (counts .exit)) (now (words .exit)) (now (numbers .exit)) (now (summary .exit))) r ⌝ }
-    ensures { λ _. ⌜ now (output .exit) ≡ filtered (frameOf (now (file .entry)))
+    ensures { λ _. ⌜ now (output .exit) ≡ filtered (frameWith (now (file .entry)) (now (plane .entry)))
         ++ drop (pixels (frameOf (now (file .entry)) .set)) (now (output .entry)) ⌝ }
 {
     let width = plan.width;
@@ -47,6 +50,7 @@ pub fn sweep(
     let mut histogram = [0u32; 2048];
     let mut visit = dispatch::enter(
         file,
+        plane,
         plan,
         way,
         &weights,
@@ -64,6 +68,7 @@ pub fn sweep(
     while i + 1 < n {
         let then = step(
             file,
+            plane,
             plan,
             way,
             &weights,

@@ -3,6 +3,7 @@
 use Prim.Native.Nat.{ℕ, suc, _+_, _-_, _≤_, _<_}
 use mathlib.Core.Path.{_≡_, refl, ap, sym, _∙_, subst}
 use mathlib.Core.Bool.{Bool, true, false, true≢false}
+use mathlib.Core.Logic.{_⊎_, inl, inr}
 use mathlib.Core.List.{List, [], _∷_, _++_, append-assoc}
 use native.Mathlib.Omega.{arith}
 use native.Mathlib.Numerals.{add-one}
@@ -18,8 +19,8 @@ use Rattle.spec.specs.declared.Way.the-variants.{Joint, Columns, Chain, Coarse}
 use Rattle.spec.specs.declared.Move.the-variants.{To, Nowhere}
 use Rattle.spec.specs.declared.Verdict.the-variants.{Accepted}
 use Rattle.spec.specs.Base.{if_then_else_}
-use Rattle.spec.specs.Frame.{Frame, frameOf, settingsIn}
-use Rattle.spec.specs.Checks.{Planned, SettingsLimits}
+use Rattle.spec.specs.Frame.{Frame, frameOf, frameWith, settingsIn}
+use Rattle.spec.specs.Checks.{Pictured, SettingsLimits}
 use Rattle.spec.specs.Coarse.{blockCount, summary}
 use Rattle.spec.specs.Walk.{State, byBlocks, arrive, toIf, move, step, after, answers, start}
 use Rattle.spec.specs.Calls.{roomOf, boxOf, summaryOf, zeros}
@@ -30,18 +31,18 @@ use Rattle.histogram.specs.Histogram.{Blank}
 use Rattle.window.specs.Line.{Adjacent, right, left, down, up}
 use Rattle.visit.specs.declared.Visit.{Visit}
 use Rattle.visit.specs.Visit.{stateOf, Within}
-use Rattle.ways.specs.Visit.{Stores, StoresFit, KeptBeyond, RestKept, ownBox, AtWindow, Visited}
+use Rattle.ways.specs.Visit.{Stores, StoresFit, KeptBeyond, RestKept, Serves, ownBox, AtWindow, Visited}
 use Rattle.ways.proofs.WayLaws.{settings-same, beyond-same}
 use Rattle.ice_step.specs.declared.Walked.{Walked}
-use Rattle.ice_step.specs.Finished.{HandedBack, Finished}
+use Rattle.ice_step.specs.Finished.{EndMade, HandedBack, Finished}
 
 -- ---- the plan's settings are within document 01's limits
-pub settings-limits-in : {b : List ℕ} {z : Plan} → Planned b z → SettingsLimits (settingsIn z)
+pub settings-limits-in : {b vs : List ℕ} {z : Plan} → Pictured b vs z → SettingsLimits (settingsIn z)
 settings-limits-in k = subst SettingsLimits (sym (settings-same k)) (facts k .limits .sound)
 
 -- ---- a new histogram has two numbers for each level of any plan, all 0
-pub histogram-blank : {b : List ℕ} {z : Plan} → Planned b z → Blank (z .levels) (replicate 2048 0)
-histogram-blank {b} {z} k =
+pub histogram-blank : {b vs : List ℕ} {z : Plan} → Pictured b vs z → Blank (z .levels) (replicate 2048 0)
+histogram-blank {z = z} k =
     let f = facts k in
     let l : z .levels ≤ 1024 = omega (arith, f .levels, f .limits .sound .levels-high) in
     record { long = omega (arith, l, length-replicate {A = ℕ} 2048 0); zeros = λ i h. getD-replicate 2048 i 0 0 (omega arith) }
@@ -94,25 +95,25 @@ move-adjacent z s t b s′ t′ hs ht = by (eqb b 0) (eqb b 1) (eqb b 2) (eqb b 
     by false false false false e = let q : _≡_ {A = ℕ} 0 1 = cc in absurd (omega arith)
 
 -- ---- one byte, from a visit x: it moves, or it stays
-module _ (way : Way) {b : List ℕ} {z : Plan} (k : Planned b z) (x : Visit) (byte : ℕ) (hs : List ℕ) (d : List ℤ) (v : Visit) where
+module _ (way : Way) {b vs : List ℕ} {z : Plan} (k : Pictured b vs z) (x : Visit) (byte : ℕ) (hs : List ℕ) (d : List ℤ) (v : Visit) where
   pub visited-moves : (a s : Stores) (column row : ℕ) → move (settingsIn z) (x .column) (x .row) byte ≡ To column row
-      → Visited way b (arrive way (frameOf b) column row (x .cut .0) (x .shifts)) a s hs d v
-      → Visited way b (step (frameOf b) (stateOf way x) byte) a s hs d v
+      → Visited way b vs (arrive way (frameWith b vs) column row (x .cut .0) (x .shifts)) a s hs d v
+      → Visited way b vs (step (frameWith b vs) (stateOf way x) byte) a s hs d v
   visited-moves a s column row e h =
       let m : move (frameOf b .set) (x .column) (x .row) byte ≡ To column row = rw (settings-same k) at e in
-      subst (λ (y : State). Visited way b y a s hs d v) (sym (step-to (frameOf b) (stateOf way x) byte column row m)) h
+      subst (λ (y : State). Visited way b vs y a s hs d v) (sym (step-to (frameWith b vs) (stateOf way x) byte column row m)) h
 
-  pub visited-stays : (s : Stores) (mark : ℕ) → move (settingsIn z) (x .column) (x .row) byte ≡ Nowhere mark → AtWindow way b s hs d v
+  pub visited-stays : (s : Stores) (mark : ℕ) → move (settingsIn z) (x .column) (x .row) byte ≡ Nowhere mark → AtWindow way b vs s hs d v
       → stateOf way v ≡ record { way = way; column = x .column; row = x .row; cut = x .cut .0; shifts = x .shifts; answer = mark }
-      → Visited way b (step (frameOf b) (stateOf way x) byte) s s hs d v
+      → Visited way b vs (step (frameWith b vs) (stateOf way x) byte) s s hs d v
   visited-stays s mark e h q =
       let m : move (frameOf b .set) (x .column) (x .row) byte ≡ Nowhere mark = rw (settings-same k) at e in
-      record { state = q ∙ sym (step-nowhere (frameOf b) (stateOf way x) byte mark m); here = h; kept = kept-same way (frameOf b .set) s }
+      record { state = q ∙ sym (step-nowhere (frameWith b vs) (stateOf way x) byte mark m); here = h; kept = kept-same way (frameOf b .set) s }
 
 -- ---- a walk's state is within the plan
-pub within-of : (way : Way) {b : List ℕ} {z : Plan} → Planned b z → (v : Visit) (n : ℕ)
-    → StateBounded (frameOf b) (stateOf way v) n → n ≤ 1048577 → Within z v
-within-of way {b} {z} k v n h l =
+pub within-of : (way : Way) {b vs : List ℕ} {z : Plan} → Pictured b vs z → (v : Visit) (n : ℕ)
+    → StateBounded (frameWith b vs) (stateOf way v) n → n ≤ 1048577 → Within z v
+within-of way k v n h l =
     let f = facts k in
     record {
       column = rw (f .width) (h .in-column);
@@ -122,30 +123,41 @@ within-of way {b} {z} k v n h l =
     }
 
 -- ---- the first state of a walk that an accepted file makes
-pub held-first : (way : Way) {b : List ℕ} {z : Plan} → Planned b z → (s t : ℕ) (v : Visit) → s < z .width → t < z .height
-    → stateOf way v ≡ start way (frameOf b) s t → StateBounded (frameOf b) (stateOf way v) 1
-held-first way {b} k s t v hs ht e = subst (λ (q : State). StateBounded (frameOf b) q 1) (sym e) (bounded-start (pixel-of k hs ht) way)
+pub held-first : (way : Way) {b vs : List ℕ} {z : Plan} → Pictured b vs z → (s t : ℕ) (v : Visit) → s < z .width → t < z .height
+    → stateOf way v ≡ start way (frameWith b vs) s t → StateBounded (frameWith b vs) (stateOf way v) 1
+held-first way {b} {vs} k s t v hs ht e = subst (λ (q : State). StateBounded (frameWith b vs) q 1) (sym e) (bounded-start (pixel-of k hs ht) way)
 
 -- ---- the end of a loop: the summary and the box, by the rule that the way counts by
-module _ (p : Frame) (x : State) (before after : List ℤ) (box : List ℤ) where
-  pub back-blocks : (way : Way) → byBlocks way ≡ true → box ≡ zeros
-      → after ≡ summary p (x .column) (x .row) ++ drop (blockCount (p .set)) before → HandedBack way p x before after box
-  unfolding roomOf boxOf summaryOf
-  back-blocks Joint e q m = absurd (true≢false (sym e))
-  back-blocks Columns e q m = absurd (true≢false (sym e))
-  back-blocks Chain e q m = absurd (true≢false (sym e))
-  back-blocks Coarse e q m = record { balance-box = q; summary = m }
+module _ (p : Frame) (s t : ℕ) (box before after box′ : List ℤ) where
+  pub made-blocks : (way : Way) → byBlocks way ≡ true → box′ ≡ zeros → after ≡ summary p s t ++ drop (blockCount (p .set)) before
+      → EndMade way p s t box before after box′
+  unfolding roomOf summaryOf
+  made-blocks Joint e q m = absurd (true≢false (sym e))
+  made-blocks Columns e q m = absurd (true≢false (sym e))
+  made-blocks Chain e q m = absurd (true≢false (sym e))
+  made-blocks Coarse e q m = record { blocks = λ _. (q, m); levels = λ d. absurd (true≢false d) }
 
-  pub back-levels : (way : Way) → byBlocks way ≡ false → box ≡ ownBox way p (x .column) (x .row) (x .cut) → after ≡ before
-      → HandedBack way p x before after box
-  unfolding roomOf boxOf summaryOf ownBox
-  back-levels Joint e q m = record { balance-box = q; summary = m }
-  back-levels Columns e q m = record { balance-box = q; summary = m }
-  back-levels Chain e q m = record { balance-box = q; summary = m }
-  back-levels Coarse e q m = absurd (true≢false e)
+  pub made-levels : (way : Way) → byBlocks way ≡ false → box′ ≡ box → after ≡ before → EndMade way p s t box before after box′
+  made-levels way e q m = record { blocks = λ d. absurd (true≢false (sym d ∙ e)); levels = λ _. (q, m) }
+
+-- what the last call leaves is what is handed back; a plane in place of the file's values is for way 1, which has no summary
+pub handed-back : (way : Way) {b vs : List ℕ} {z : Plan} → Pictured b vs z → Serves way z vs → (x : State) {box before made box′ : List ℤ}
+    → box ≡ ownBox way (frameWith b vs) (x .column) (x .row) (x .cut) → EndMade way (frameOf b) (x .column) (x .row) box before made box′
+    → HandedBack way (frameWith b vs) x before made box′
+unfolding roomOf boxOf summaryOf ownBox
+handed-back Joint k s x e m = record { balance-box = m .levels refl .0 ∙ e; summary = m .levels refl .1 }
+handed-back Columns k s x e m = record { balance-box = m .levels refl .0 ∙ e; summary = m .levels refl .1 }
+handed-back Chain k s x e m = record { balance-box = m .levels refl .0 ∙ e; summary = m .levels refl .1 }
+handed-back Coarse {b} {vs} {z} k s x {before = before} {made} {box′} e m =
+    subst (λ (u : List ℕ). HandedBack Coarse (frameWith b u) x before made box′) (sym (none (s .1)))
+    (record { balance-box = m .blocks refl .0; summary = m .blocks refl .1 })
+  where
+    none : (vs ≡ []) ⊎ ((Coarse ≡ Joint) × (z .kind ≡ 1)) → vs ≡ []
+    none (inl q) = q
+    none (inr q) = absurd (true≢false (ap byBlocks (q .0)))
 
 -- the room that the summary needs
-pub blocks-fit : (way : Way) → byBlocks way ≡ true → {b : List ℕ} {z : Plan} → Planned b z → (n : ℕ) → roomOf way (settingsIn z) .summary ≤ n
+pub blocks-fit : (way : Way) → byBlocks way ≡ true → {b vs : List ℕ} {z : Plan} → Pictured b vs z → (n : ℕ) → roomOf way (settingsIn z) .summary ≤ n
     → blockCount (frameOf b .set) ≤ n
 unfolding roomOf
 blocks-fit Joint e k n h = absurd (true≢false (sym e))
@@ -154,12 +166,12 @@ blocks-fit Chain e k n h = absurd (true≢false (sym e))
 blocks-fit Coarse e k n h = subst (λ (q : Settings). blockCount q ≤ n) (settings-same k) h
 
 -- what a visit leaves, and the end made of it
-pub finished : {way : Way} {b : List ℕ} {x : State} {a z : Stores} {hs : List ℕ} {d s s′ : List ℤ} (v : Visit) (r : Walked)
+pub finished : {way : Way} {b vs : List ℕ} {x : State} {a z : Stores} {hs : List ℕ} {d s s′ : List ℤ} (v : Visit) (r : Walked)
     → r .verdict ≡ Accepted → r .shifts ≡ v .shifts → r .cut .0 ≡ v .cut .0
-    → Visited way b x a z hs d v → HandedBack way (frameOf b) (stateOf way v) s s′ (r .«balance_box»)
-    → Finished way (frameOf b) x (record { stores = a; summary = s }) (record { stores = z; summary = s′ }) r
-finished {way} {b} {x} {a} {z} {hs} {d} {s} {s′} v r told shifts cut h back =
-    subst (λ (w : State). Finished way (frameOf b) w (record { stores = a; summary = s }) (record { stores = z; summary = s′ }) r) (h .state)
+    → Visited way b vs x a z hs d v → HandedBack way (frameWith b vs) (stateOf way v) s s′ (r .«balance_box»)
+    → Finished way (frameWith b vs) x (record { stores = a; summary = s }) (record { stores = z; summary = s′ }) r
+finished {way} {b} {vs} {x} {a} {z} {hs} {d} {s} {s′} v r told shifts cut h back =
+    subst (λ (w : State). Finished way (frameWith b vs) w (record { stores = a; summary = s }) (record { stores = z; summary = s′ }) r) (h .state)
     (record {
       closed = record { verdict = told; shifts = shifts; cut = cut; handed-back = back };
       holds = h .here .holds;
@@ -184,24 +196,25 @@ told-more front A A₀ i a n l e =
     ∙ ap (λ (q : ℕ). front ++ (a ∷ drop q A₀)) m ∙ sym (append-assoc front (a ∷ []) (drop (i + 1 + 1) A₀))
 
 -- ---- what holds in any loop of steps: i bytes of the list ms are done, from the state x; a are the stores where the loop begins
-pub record Going (way : Way) (b : List ℕ) (ms : List ℕ) (x : State) (a z : Stores) (hs : List ℕ) (d : List ℤ) (v : Visit) (i : ℕ) : Type 0 where
+pub record Going (way : Way) (b vs : List ℕ) (ms : List ℕ) (x : State) (a z : Stores) (hs : List ℕ) (d : List ℤ) (v : Visit) (i : ℕ) : Type 0 where
   pub most : i ≤ length ms
-  pub visited : Visited way b (after (frameOf b) x (take i ms)) a z hs d v
-  pub held : StateBounded (frameOf b) (stateOf way v) (1 + i)
+  pub visited : Visited way b vs (after (frameWith b vs) x (take i ms)) a z hs d v
+  pub held : StateBounded (frameWith b vs) (stateOf way v) (1 + i)
 
-module _ (way : Way) (b ms : List ℕ) where
-  pub going-start : (z : Stores) (hs : List ℕ) (d : List ℤ) (v : Visit) → AtWindow way b z hs d v → StateBounded (frameOf b) (stateOf way v) 1 →
-      Going way b ms (stateOf way v) z z hs d v 0
+module _ (way : Way) (b vs ms : List ℕ) where
+  pub going-start : (z : Stores) (hs : List ℕ) (d : List ℤ) (v : Visit) → AtWindow way b vs z hs d v
+      → StateBounded (frameWith b vs) (stateOf way v) 1 →
+      Going way b vs ms (stateOf way v) z z hs d v 0
   unfolding after
   going-start z hs d v h on =
       record { most = omega arith; visited = record { state = refl; here = h; kept = kept-same way (frameOf b .set) z }; held = on }
 
-  pub going-more : (x : State) (a z : Stores) (hs : List ℕ) (d : List ℤ) (v : Visit) (i : ℕ) → Going way b ms x a z hs d v i → i < length ms →
+  pub going-more : (x : State) (a z : Stores) (hs : List ℕ) (d : List ℤ) (v : Visit) (i : ℕ) → Going way b vs ms x a z hs d v i → i < length ms →
       (byte : ℕ) → byte ≡ getD ms i 0
-      → (z′ : Stores) (hs′ : List ℕ) (d′ : List ℤ) (v′ : Visit) → Visited way b (step (frameOf b) (stateOf way v) byte) z z′ hs′ d′ v′ →
-      Going way b ms x a z′ hs′ d′ v′ (i + 1)
+      → (z′ : Stores) (hs′ : List ℕ) (d′ : List ℤ) (v′ : Visit) → Visited way b vs (step (frameWith b vs) (stateOf way v) byte) z z′ hs′ d′ v′ →
+      Going way b vs ms x a z′ hs′ d′ v′ (i + 1)
   going-more x a z hs d v i w l byte eb z′ hs′ d′ v′ h =
-      let p = frameOf b in
+      let p = frameWith b vs in
       let e : after p x (take (i + 1) ms) ≡ step p (stateOf way v) byte =
       rw (eb, add-one i, take-suc ms i 0 l)
       (after-one p x (take i ms) (getD ms i 0) ∙ ap (λ (q : State). step p q (getD ms i 0)) (sym (w .visited .state))) in
@@ -213,19 +226,19 @@ module _ (way : Way) (b ms : List ℕ) where
             (subst (λ (q : State). StateBounded p q (suc (1 + i))) (sym (h .state)) (bounded-step (w .held) byte));
       }
 
-  pub going-end : (x y : State) (a₀ a z : Stores) (hs : List ℕ) (d : List ℤ) (v : Visit) (i : ℕ) → Going way b ms y a z hs d v i → length ms ≤ i →
+  pub going-end : (x y : State) (a₀ a z : Stores) (hs : List ℕ) (d : List ℤ) (v : Visit) (i : ℕ) → Going way b vs ms y a z hs d v i → length ms ≤ i →
       y ≡ x
-      → RestKept way (frameOf b .set) a₀ a → Visited way b (after (frameOf b) x ms) a₀ z hs d v
+      → RestKept way (frameOf b .set) a₀ a → Visited way b vs (after (frameWith b vs) x ms) a₀ z hs d v
   going-end x y a₀ a z hs d v i w l e kept =
       let j : i ≡ length ms = omega (arith, w .most) in
       let all : take i ms ≡ ms = ap (λ (n : ℕ). take n ms) j ∙ take-length ms in
-      let s : after (frameOf b) y (take i ms) ≡ after (frameOf b) x ms = cc in
-      let h : Visited way b (after (frameOf b) x ms) a z hs d v = rw s at (w .visited) in
+      let s : after (frameWith b vs) y (take i ms) ≡ after (frameWith b vs) x ms = cc in
+      let h : Visited way b vs (after (frameWith b vs) x ms) a z hs d v = rw s at (w .visited) in
       record { state = h .state; here = h .here; kept = kept-trans way _ a₀ a z kept (h .kept) }
 
 -- what a turn's call asks: room is kept
-pub fit-going : (way : Way) {b : List ℕ} {z : Plan} → Planned b z → (a₀ a s : Stores) → StoresFit way (settingsIn z) a₀ →
+pub fit-going : (way : Way) {b vs : List ℕ} {z : Plan} → Pictured b vs z → (a₀ a s : Stores) → StoresFit way (settingsIn z) a₀ →
     RestKept way (frameOf b .set) a₀ a
     → RestKept way (frameOf b .set) a s → StoresFit way (settingsIn z) s
-fit-going way {b} {z} k a₀ a s h x y = let e =
+fit-going way {b} {z = z} k a₀ a s h x y = let e =
     sym (settings-same k) in fit-kept way (settingsIn z) a₀ s h (rw e at (kept-trans way (frameOf b .set) a₀ a s x y))

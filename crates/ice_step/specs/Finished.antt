@@ -1,6 +1,7 @@
 -- What a caller lends, and what a loop leaves.
 -- Assumes nothing.
 use mathlib.Core.Path.{_≡_}
+use mathlib.Core.Bool.{true, false}
 use mathlib.Core.List.{List, _++_}
 use Prim.Native.Nat.{ℕ, _≤_}
 use lib.IntN.{ℤ}
@@ -10,8 +11,8 @@ use Rattle.spec.specs.declared.Settings.{Settings}
 use Rattle.spec.specs.declared.Verdict.the-variants.{Accepted}
 use Rattle.spec.specs.declared.Way.{Way}
 use Rattle.spec.specs.Frame.{Frame}
-use Rattle.spec.specs.Walk.{State}
-use Rattle.spec.specs.Calls.{roomOf, boxOf, summaryOf}
+use Rattle.spec.specs.Walk.{State, byBlocks}
+use Rattle.spec.specs.Calls.{roomOf, boxOf, summaryOf, zeros}
 use Rattle.ways.specs.Visit.{Stores, stores, StoresFit, StoresHold, RestKept}
 use Rattle.ice_step.specs.declared.Walked.{Walked}
 
@@ -37,6 +38,11 @@ roomIn held =
 pub record LentFits (way : Way) (settings : Settings) (held : Lent) : Type 0 where
   pub stores : StoresFit way settings (held .stores)
   pub summary : roomOf way settings .summary ≤ length (held .summary)
+
+-- a loop's last call, at the window at (s, t) of a frame: by blocks the summary is made and the box zeroed, else both stay
+pub record EndMade (way : Way) (p : Frame) (s t : ℕ) (box before after box′ : List ℤ) : Type 0 where
+  pub blocks : byBlocks way ≡ true → (box′ ≡ zeros) × (after ≡ summaryOf way p s t ++ drop (roomOf way (p .set) .summary) before)
+  pub levels : byBlocks way ≡ false → (box′ ≡ box) × (after ≡ before)
 
 -- at the end in the state x: the summary, and the box for the result
 pub record HandedBack (way : Way) (p : Frame) (x : State) (before after : List ℤ) (box : List ℤ) : Type 0 where

@@ -12,14 +12,14 @@ use ways::dispatch;
 ghost use mathlib.Core.Path.{_≡_};
 ghost use Prim.Native.Nat.{_≤_};
 ghost use lib.ListN.{length};
-ghost use Rattle.spec.specs.Frame.{frameOf, settingsIn};
-ghost use Rattle.spec.specs.Checks.{Planned};
+ghost use Rattle.spec.specs.Frame.{frameOf, frameWith, settingsIn};
+ghost use Rattle.spec.specs.Checks.{Planned, Pictured};
 ghost use Rattle.spec.specs.Walk as definitions;
 ghost use Rattle.spec.specs.Calls.{roomOf};
 ghost use Rattle.joint_rows.specs.Rows.{WeightRows};
 ghost use Rattle.visit.specs.Visit.{stateOf, Within};
-ghost use Rattle.ways.specs.Visit.{stores, StoresFit, Serves, ownBox, AtWindow, Visited};
-ghost use Rattle.ice_step.specs.Finished.{HandedBack};
+ghost use Rattle.ways.specs.Visit.{stores, StoresFit, Serves, AtWindow, Visited};
+ghost use Rattle.ice_step.specs.Finished.{EndMade};
 
 // What walk and filter give back beside the buffers: the verdict; the shift count, the last cut point and, for the joint way, the balance box (zeros
 // for the other ways; all zeros where refused).
@@ -30,9 +30,10 @@ pub struct Walked {
     pub balance_box: [i16; 256],
 }
 
-// One byte of the list: the window that it leads to, or the mark.
+// One byte of the list: the window that it leads to, or the mark. A plane may be given in place of the file's values, as for the ways.
 pub fn step(
     file: &[u8],
+    plane: &[u16],
     plan: Plan,
     way: Way,
     weights: &[u16],
@@ -44,11 +45,12 @@ pub fn step(
     words: &mut [u64],
     numbers: &mut [u32],
 ) -> Visit
-    requires { ⌜ (Planned (now file) plan) × (WeightRows plan (now weights)) × (Serves way plan) ⌝ }
+    requires { ⌜ (Pictured (now file) (now plane) plan) × (WeightRows plan (now weights)) × (Serves way plan (now plane)) ⌝ }
     requires { ⌜ Within plan visit ⌝ }
     requires { ⌜ StoresFit way (settingsIn plan) (stores (now counts) (now words) (now numbers)) ⌝ }
-    requires { ⌜ AtWindow way (now file) (stores (now counts) (now words) (now numbers)) (now histogram) (now «balance_box») visit ⌝ }
-    ensures { λ r. ⌜ Visited way (now (file .entry)) (definitions.step (frameOf (now (file .entry))) (stateOf way visit) byte)
+    requires { ⌜ AtWindow way (now file) (now plane) (stores (now counts) (now words) (now numbers)) (now histogram) (now «balance_box») visit ⌝ }
+    ensures { λ r. ⌜ Visited way (now (file .entry)) (now (plane .entry))
+        (definitions.step (frameWith (now (file .entry)) (now (plane .entry))) (stateOf way visit) byte)
         (stores (now (counts .entry)) (now (words .entry)) (now (numbers .entry)))
         (stores (now (counts .exit)) (now (words .exit)) (now (numbers .exit)))
         (now (histogram .exit)) (now («balance_box» .exit)) r ⌝ }
@@ -57,6 +59,7 @@ pub fn step(
     match m {
         Move::To(column, row) => dispatch::slide(
             file,
+            plane,
             plan,
             way,
             weights,
@@ -95,10 +98,9 @@ pub fn finish(
     summary: &mut [i64],
 )
     requires { ⌜ (Planned (now file) plan) × (Within plan visit) ⌝ }
-    requires { ⌜ (now «balance_box» ≡ ownBox way (frameOf (now file)) (visit .column) (visit .row) (visit .cut .0))
-        × (roomOf way (settingsIn plan) .summary ≤ length (now summary)) ⌝ }
-    ensures { λ _. ⌜ HandedBack way (frameOf (now (file .entry))) (stateOf way visit) (now (summary .entry)) (now (summary .exit))
-        (now («balance_box» .exit)) ⌝ }
+    requires { ⌜ roomOf way (settingsIn plan) .summary ≤ length (now summary) ⌝ }
+    ensures { λ _. ⌜ EndMade way (frameOf (now (file .entry))) (visit .column) (visit .row) (now («balance_box» .entry))
+        (now (summary .entry)) (now (summary .exit)) (now («balance_box» .exit)) ⌝ }
 {
     if by_blocks(way) {
         summary::fill(file, plan, visit.column, visit.row, summary);

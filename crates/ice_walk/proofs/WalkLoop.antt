@@ -24,17 +24,17 @@ use Rattle.ice_step.proofs.Laws.{Going, going-start, going-more, going-end, ans
 -- A₀ are the answers where the loop begins
 pub record Walking (way : Way) (b ms : List ℕ) (x : State) (a : Stores) (A₀ : List ℕ) (z : Stores) (A hs : List ℕ) (d : List ℤ) (v : Visit) (i : ℕ) :
     Type 0 where
-  pub going : Going way b ms x a z hs d v i
+  pub going : Going way b [] ms x a z hs d v i
   pub told : A ≡ answers (frameOf b) x (take i ms) ++ drop (i + 1) A₀
 
 module _ (way : Way) (b ms : List ℕ) where
-  pub walking-start : (z : Stores) (A hs : List ℕ) (d : List ℤ) (v : Visit) → 0 < length A → AtWindow way b z hs d v →
+  pub walking-start : (z : Stores) (A hs : List ℕ) (d : List ℤ) (v : Visit) → 0 < length A → AtWindow way b [] z hs d v →
       StateBounded (frameOf b) (stateOf way v) 1 → (m : ℕ) → m ≡ answerNumber (v .answer)
       → Walking way b ms (stateOf way v) z (set A 0 m) z (set A 0 m) hs d v 0
   unfolding answers
   walking-start z A hs d v l h on m em =
       record {
-        going = going-start way b ms z hs d v h on;
+        going = going-start way b [] ms z hs d v h on;
         told = set-split A 0 m l ∙ ap₂ (λ (n : ℕ) (q : List ℕ). n ∷ q) em (sym (drop-set-lt 1 A 0 m (omega arith)));
       }
 
@@ -48,7 +48,7 @@ module _ (way : Way) (b ms : List ℕ) where
   pub walking-more : (x : State) (a : Stores) (A₀ : List ℕ) (z : Stores) (A hs : List ℕ) (d : List ℤ) (v : Visit) (i : ℕ) →
       Walking way b ms x a A₀ z A hs d v i
       → i < length ms → length ms + 1 ≤ length A₀ → (z′ : Stores) (hs′ : List ℕ) (d′ : List ℤ) (v′ : Visit)
-      → Visited way b (step (frameOf b) (stateOf way v) (getD ms i 0)) z z′ hs′ d′ v′ → (m : ℕ) → m ≡ answerNumber (v′ .answer)
+      → Visited way b [] (step (frameOf b) (stateOf way v) (getD ms i 0)) z z′ hs′ d′ v′ → (m : ℕ) → m ≡ answerNumber (v′ .answer)
       → Walking way b ms x a A₀ z′ (set A (i + 1) m) hs′ d′ v′ (i + 1)
   walking-more x a A₀ z A hs d v i w l long z′ hs′ d′ v′ h m em =
       let p = frameOf b in
@@ -61,7 +61,7 @@ module _ (way : Way) (b ms : List ℕ) where
       ∙ ap (λ (q : ℕ). front ++ (q ∷ [])) (sym said)) in
       let n : length front ≡ i + 1 = omega (arith, length-answers p x (take i ms), length-take i ms) in
       record {
-        going = going-more way b ms x a z hs d v i (w .going) l _ refl z′ hs′ d′ v′ h;
+        going = going-more way b [] ms x a z hs d v i (w .going) l _ refl z′ hs′ d′ v′ h;
         told =
             rw g (told-more front A A₀ i _ n (omega arith) (w .told));
       }
@@ -69,7 +69,7 @@ module _ (way : Way) (b ms : List ℕ) where
   pub walking-end : (s t : ℕ) (y : State) (a₀ a : Stores) (A₁ A₀ : List ℕ) (z : Stores) (A hs : List ℕ) (d : List ℤ) (v : Visit) (i : ℕ) →
       Walking way b ms y a A₀ z A hs d v i
       → length ms ≤ i → y ≡ start way (frameOf b) s t → RestKept way (frameOf b .set) a₀ a → (q : ℕ) → A₀ ≡ set A₁ 0 q
-      → Visited way b (walkEnd way (frameOf b) s t ms) a₀ z hs d v × (A ≡ walkAnswers (frameOf b) s t ms ++ drop (length ms + 1) A₁)
+      → Visited way b [] (walkEnd way (frameOf b) s t ms) a₀ z hs d v × (A ≡ walkAnswers (frameOf b) s t ms ++ drop (length ms + 1) A₁)
   unfolding walkEnd
   walking-end s t y a₀ a A₁ A₀ z A hs d v i w l e kept q e₀ =
       let x = start way (frameOf b) s t in
@@ -77,4 +77,4 @@ module _ (way : Way) (b ms : List ℕ) where
       let all : take i ms ≡ ms = ap (λ (n : ℕ). take n ms) j ∙ take-length ms in
       let r : drop (i + 1) A₀ ≡ drop (length ms + 1) A₁ = rw (e₀, j) (drop-set-lt (length ms + 1) A₁ 0 q (omega arith)) in
       let told : answers (frameOf b) x ms ≡ walkAnswers (frameOf b) s t ms = walk-answers way (frameOf b) s t ms in
-      (going-end way b ms x y a₀ a z hs d v i (w .going) l e kept, w .told ∙ cc)
+      (going-end way b [] ms x y a₀ a z hs d v i (w .going) l e kept, w .told ∙ cc)

@@ -9,7 +9,7 @@ use spec::Way;
 use spec::answer_number;
 use ways::dispatch;
 ghost use mathlib.Core.Path.{_≡_};
-ghost use mathlib.Core.List.{_++_};
+ghost use mathlib.Core.List.{[], _++_};
 ghost use Prim.Native.Nat.{ℕ, _+_, _<_, _≤_};
 ghost use lib.ListN.{length, drop};
 ghost use Rattle.spec.specs.Frame.{frameOf, settingsIn};
@@ -18,7 +18,8 @@ ghost use Rattle.spec.specs.Walk as definitions;
 ghost use Rattle.ways.specs.Visit.{Serves};
 ghost use Rattle.ice_step.specs.Finished.{lent, LentFits, Finished};
 
-// The walk's work, after the checks. The built-in weights, the box and the histogram are its own, and made once.
+// The walk's work, after the checks. The built-in weights, the box and the histogram are its own, and made once; no plane is given in place of the
+// file's values.
 pub fn travel(
     file: &[u8],
     plan: Plan,
@@ -32,7 +33,7 @@ pub fn travel(
     summary: &mut [i64],
     answers: &mut [u16],
 ) -> Walked
-    requires { ⌜ (Planned (now file) plan) × (Serves way plan) ⌝ }
+    requires { ⌜ (Planned (now file) plan) × (Serves way plan []) ⌝ }
     requires { ⌜ (column < plan .width) × (row < plan .height) ⌝ }
     requires { ⌜ length (now moves) ≤ 1048576 ⌝ }
     requires { ⌜ LentFits way (settingsIn plan) (lent (now counts) (now words) (now numbers) (now summary)) ⌝ }
@@ -44,12 +45,14 @@ pub fn travel(
     ensures { λ _. ⌜ now (answers .exit) ≡ definitions.walkAnswers (frameOf (now (file .entry))) column row (now (moves .entry))
         ++ drop (length (now (moves .entry)) + 1) (now (answers .entry)) ⌝ }
 {
+    let none: [u16; 0] = [];
     let mut weights = [0u16; 511];
     rows::built_rows(plan, &mut weights);
     let mut balance_box = [0i16; 256];
     let mut histogram = [0u32; 2048];
     let mut visit = dispatch::enter(
         file,
+        &none,
         plan,
         way,
         &weights,
@@ -67,6 +70,7 @@ pub fn travel(
     while i < moves.len() {
         let then = step(
             file,
+            &none,
             plan,
             way,
             &weights,

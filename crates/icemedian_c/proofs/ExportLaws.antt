@@ -13,7 +13,7 @@ use Rattle.spec.specs.declared.Verdict.{Verdict}
 use Rattle.spec.specs.declared.Verdict.the-variants.{Refused}
 use Rattle.spec.specs.Refusal.{Outcome, accepted, refused, numbered}
 use Rattle.spec.specs.Checks.{settingsOutcome}
-use Rattle.spec.specs.Frame.{Frame}
+use Rattle.spec.specs.Frame.{Frame, frameOf, withValues}
 use Rattle.spec.specs.Walk.{State}
 use Rattle.spec.specs.Writer.{writerOutcome}
 use Rattle.ice_step.specs.declared.Walked.{Walked}
@@ -21,6 +21,8 @@ use Rattle.ice_step.specs.Finished.{Lent, lent}
 use Rattle.ice.specs.declared.Balanced.{Balanced}
 use Rattle.ice.specs.declared.Explained.{Explained}
 use Rattle.ice.specs.Contract.{Untouched, Ended, Walks, Filters, Balances, Explains}
+use Rattle.tolerance.specs.declared.Tolerated.{Tolerated}
+use Rattle.tolerance.specs.Contract.{Buffers, outcomeOf, BothFiltered, Tolerates}
 use Rattle.frame_write.specs.declared.Written.{Written}
 use Rattle.frame_write.specs.declared.Written.the-variants as written
 use Rattle.frame_write.specs.Write.{declined, reportOf, Writes}
@@ -28,7 +30,17 @@ use Rattle.frame_write.proofs.Reopening.{answered}
 use Rattle.c_values.specs.Results.{statusOf, given, Reported, causeNumber, LentGrounds, GroundsGiven}
 use Rattle.c_values.specs.Settings.{Narrowed}
 use Rattle.c_values.proofs.ResultLaws.{passes}
-use Rattle.icemedian_c.specs.Exports.{Called, resultAt, WalkCall, FilterCall, BalanceCall, ExplainCall, WriteCall}
+use Rattle.icemedian_c.specs.Exports.{
+  Called,
+  resultAt,
+  toleratedAt,
+  WalkCall,
+  FilterCall,
+  ToleranceCall,
+  BalanceCall,
+  ExplainCall,
+  WriteCall,
+}
 
 module _ (v : Verdict) {o : Outcome} {r old new : ℕ} (is : numbered v ≡ o) (h : Reported (numbered v) r old new) where
   pub reported : Reported o r old new
@@ -119,6 +131,52 @@ module _ {b : List ℕ} {way : ℕ} {a z : Lent} {before after : List ℕ} {w : 
       record {
         reported = reported (w .verdict) (h .verdict) q;
         called = called (h .refused) (h .filtered) (es ∙ h .filtered e .shifts ∙ gained _ _ _ e);
+      }
+
+-- ---- tolerance
+module _ {b u : List ℕ} {a z : Buffers} {w : Tolerated} (h : Tolerates b u a z w) where
+  all-kept : (outcomeOf b u a ≡ accepted → ⊥) → z ≡ a
+  all-kept n =
+      let k = h .refused n in
+      λ i. record { counts = k .counts i; words = k .words i; least = k .least i; greatest = k .greatest i }
+
+  both-filtered : outcomeOf b u a ≡ accepted
+      → BothFiltered (frameOf b) (withValues (frameOf b) u) a z (toleratedAt (frameOf b) (withValues (frameOf b) u))
+  both-filtered e =
+      let k = h .filtered e in
+      record {
+        verdict = refl;
+        least-shifts = refl;
+        greatest-shifts = refl;
+        least = k .least;
+        greatest = k .greatest;
+        counts = k .counts;
+        words = k .words;
+      }
+
+module _ {b u : List ℕ} {a z : Buffers} {w : Tolerated} (h : Tolerates b u a z w) {r offset₀ offset : ℕ}
+    (q : Reported (numbered (w .verdict)) r offset₀ offset) {least₀ greatest₀ : ℕ} where
+  pub tolerance-stopped : 0 < r → ToleranceCall b u a z r least₀ least₀ greatest₀ greatest₀ offset₀ offset
+  tolerance-stopped l =
+      let n = stopped (w .verdict) (h .verdict) q l in
+      record {
+        reported = reported (w .verdict) (h .verdict) q;
+        least-is = kept _ _ _ n;
+        greatest-is = kept _ _ _ n;
+        refused-keeps = all-kept h;
+        accepted-ends = both-filtered h;
+      }
+
+  pub tolerance-passed : {least greatest : ℕ} → r ≡ 0 → least ≡ w .«least_shifts» → greatest ≡ w .«greatest_shifts»
+      → ToleranceCall b u a z r least₀ least greatest₀ greatest offset₀ offset
+  tolerance-passed l el eg =
+      let e = passed (w .verdict) (h .verdict) q l in
+      record {
+        reported = reported (w .verdict) (h .verdict) q;
+        least-is = el ∙ h .filtered e .least-shifts ∙ gained _ _ _ e;
+        greatest-is = eg ∙ h .filtered e .greatest-shifts ∙ gained _ _ _ e;
+        refused-keeps = all-kept h;
+        accepted-ends = both-filtered h;
       }
 
 -- ---- balance

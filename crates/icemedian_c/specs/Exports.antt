@@ -7,9 +7,10 @@ use lib.IntN.{ℤ}
 use lib.ListN.{length, drop}
 use Rattle.spec.specs.declared.Settings.{Settings}
 use Rattle.spec.specs.declared.Way.{Way}
+use Rattle.spec.specs.declared.Way.the-variants.{Joint}
 use Rattle.spec.specs.declared.Verdict.the-variants.{Accepted}
 use Rattle.spec.specs.Refusal.{Outcome, accepted}
-use Rattle.spec.specs.Frame.{Frame, frameOf, pixels}
+use Rattle.spec.specs.Frame.{Frame, frameOf, withValues, pixels}
 use Rattle.spec.specs.Window.{pixelCount}
 use Rattle.spec.specs.Median.{totalWeight, cumulative, balance, answer}
 use Rattle.spec.specs.Explain.{cumulativeBelow, causeOf}
@@ -21,6 +22,8 @@ use Rattle.c_values.specs.Results.{given, Reported, causeNumber, LentGrounds}
 use Rattle.ice_step.specs.declared.Walked.{Walked}
 use Rattle.ice_step.specs.Finished.{Lent, roomIn}
 use Rattle.ice.specs.Contract.{Ended}
+use Rattle.tolerance.specs.declared.Tolerated.{Tolerated}
+use Rattle.tolerance.specs.Contract.{Buffers, outcomeOf, BothFiltered}
 
 -- ---- walk and filter
 
@@ -55,6 +58,22 @@ pub record FilterCall (b : List ℕ) (way : ℕ) (before after : Lent) (old new 
   pub reported : Reported (filterOutcome b way (roomIn before) (length old)) r offset₀ offset
   pub called : Called (filterOutcome b way (roomIn before) (length old)) (wayOf way) (frameOf b) (filterEnd (wayOf way) (frameOf b)) before after
       (filtered (frameOf b) ++ drop (pixels (frameOf b .set)) old) old new shifts₀ shifts
+
+-- ---- tolerance
+
+-- the result of the call on two frames
+abbrev pub toleratedAt : Frame → Frame → Tolerated
+toleratedAt p q =
+    record { verdict = Accepted; «least_shifts» = filterEnd Joint p .shifts; «greatest_shifts» = filterEnd Joint q .shifts }
+
+-- each shift count before and after
+pub record ToleranceCall (b upper : List ℕ) (before after : Buffers) (r least₀ least greatest₀ greatest offset₀ offset : ℕ) : Type 0 where
+  pub reported : Reported (outcomeOf b upper before) r offset₀ offset
+  pub least-is : least ≡ given (outcomeOf b upper before) (filterEnd Joint (frameOf b) .shifts) least₀
+  pub greatest-is : greatest ≡ given (outcomeOf b upper before) (filterEnd Joint (withValues (frameOf b) upper) .shifts) greatest₀
+  pub refused-keeps : (outcomeOf b upper before ≡ accepted → ⊥) → after ≡ before
+  pub accepted-ends : outcomeOf b upper before ≡ accepted
+      → BothFiltered (frameOf b) (withValues (frameOf b) upper) before after (toleratedAt (frameOf b) (withValues (frameOf b) upper))
 
 -- ---- balance
 

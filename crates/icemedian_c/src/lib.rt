@@ -1,6 +1,6 @@
-// The calls for C and Rust: numbers and slices as pointer and length, a status out (0, or document 01's number), every other result through a lent
+// The calls for C and Rust: numbers and slices as pointer and length, a status out (0, or the documents' number), every other result through a lent
 // number. A refused call writes nothing but the offset of number 7. include/icemedian.h documents them. Each takes any arguments; the work and the
-// promises are those of frame, frame_write and ice.
+// promises are those of frame, frame_write, ice and tolerance.
 use c_values::give_grounds;
 use c_values::give_walk;
 use c_values::report;
@@ -10,9 +10,10 @@ use ice::calls;
 use spec::Verdict;
 ghost use Rattle.spec.specs.Checks.{verdict};
 ghost use Rattle.ice_step.specs.Finished.{lent};
+ghost use Rattle.tolerance.specs.Contract.{buffers};
 ghost use Rattle.c_values.specs.Results.{Reported, lentGrounds};
 ghost use Rattle.c_values.specs.Settings.{settingsFrom};
-ghost use Rattle.icemedian_c.specs.Exports.{WalkCall, FilterCall, BalanceCall, ExplainCall, WriteCall};
+ghost use Rattle.icemedian_c.specs.Exports.{WalkCall, FilterCall, ToleranceCall, BalanceCall, ExplainCall, WriteCall};
 
 // Checks 1 to 7.
 #[no_mangle]
@@ -97,6 +98,35 @@ pub extern "C" fn icemedian_filter(
     let status = report(v, offset);
     if status == 0 {
         *shifts = filtered.shifts;
+    }
+    status
+}
+
+// Filters a frame with its own values, and then with the upper levels in their place, into two output planes.
+#[no_mangle]
+pub extern "C" fn icemedian_tolerance(
+    file: &[u8],
+    upper: &[u16],
+    counts: &mut [u16],
+    words: &mut [u64],
+    least: &mut [u16],
+    greatest: &mut [u16],
+    least_shifts: &mut u64,
+    greatest_shifts: &mut u64,
+    offset: &mut u64,
+) -> u32
+    ensures { λ r. ⌜ ToleranceCall (now (file .entry)) (now (upper .entry))
+        (buffers (now (counts .entry)) (now (words .entry)) (now (least .entry)) (now (greatest .entry)))
+        (buffers (now (counts .exit)) (now (words .exit)) (now (least .exit)) (now (greatest .exit)))
+        r (now («least_shifts» .entry)) (now («least_shifts» .exit)) (now («greatest_shifts» .entry)) (now («greatest_shifts» .exit))
+        (now (offset .entry)) (now (offset .exit)) ⌝ }
+{
+    let found = tolerance::tolerance(file, upper, counts, words, least, greatest);
+    let v = found.verdict;
+    let status = report(v, offset);
+    if status == 0 {
+        *least_shifts = found.least_shifts;
+        *greatest_shifts = found.greatest_shifts;
     }
     status
 }

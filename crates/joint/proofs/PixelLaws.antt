@@ -16,7 +16,7 @@ use lib.IntN.{ℤ, pos, natAbs, _+ℤ_}
 use Rattle.ints.specs.Order.{eq-or-ne}
 use Rattle.spec.specs.declared.Plan.{Plan}
 use Rattle.spec.specs.Base.{indicator}
-use Rattle.spec.specs.Frame.{frameOf}
+use Rattle.spec.specs.Frame.{frameWith}
 use Rattle.spec.specs.Window.{count}
 use Rattle.spec.proofs.Plans.{pixel-of}
 use Rattle.spec.proofs.Levels.{cell, box-cell}
@@ -244,23 +244,24 @@ module _ (e l : List ℕ) {bx : List ℤ} (br : BoxRoom (countOf e + countOf l) 
     box-exchanged o = record { long = o .long ∙ g .long; exchanged = exchangedℤ (sideOf c) (g .passed) (o .passed) }
 
 -- ---- a window's stores and box, moved to a neighbour
-module _ {b : List ℕ} {z : Plan} {s t c : ℕ} {xs ws : List ℕ} {bx : List ℤ} (hd : Held b z s t c xs ws bx) {s′ t′ : ℕ} {d : Step}
+module _ {b vs : List ℕ} {z : Plan} {s t c : ℕ} {xs ws : List ℕ} {bx : List ℤ} (hd : Held b vs z s t c xs ws bx) {s′ t′ : ℕ} {d : Step}
     (adj : Adjacent z s t s′ t′) (ed : d ≡ stepOf z s t s′ t′)
-    {e l : List ℕ} (re : LinePixels b z (d .entering) e) (rl : LinePixels b z (d .leaving) l) where
+    {e l : List ℕ} (re : LinePixels b vs z (d .entering) e) (rl : LinePixels b vs z (d .leaving) l) where
   abbrev at : ℕ → ℕ → ℕ → ℕ → ℕ
   at i f v g = hit v g i f
 
-  pub counts-step : (i f : ℕ) → count (frameOf b) s′ t′ i f + pixelFold _+_ 0 l (at i f) ≡ count (frameOf b) s t i f + pixelFold _+_ 0 e (at i f)
+  pub counts-step : (i f : ℕ) → count (frameWith b vs) s′ t′ i f + pixelFold _+_ 0 l (at i f)
+      ≡ count (frameWith b vs) s t i f + pixelFold _+_ 0 e (at i f)
   unfolding count hit
-  counts-step i f = stepped (λ (h : ℕ → ℕ → ℕ). h) (hd .planned) adj ed re rl (at i f)
+  counts-step i f = stepped (λ (h : ℕ → ℕ → ℕ). h) (hd .pictured) adj ed re rl (at i f)
 
   unfoldable pub entering-countable : Countable true (z .guides) e xs ws
   entering-countable = record {
     levels = z .levels;
-    levels-high = levels-high (hd .planned);
-    guides-high = guides-high (hd .planned);
-    cells = rw (plan-cells (hd .planned)) (held-cells hd);
-    words = rw (plan-words (hd .planned)) (held-words hd);
+    levels-high = levels-high (hd .pictured);
+    guides-high = guides-high (hd .pictured);
+    cells = rw (plan-cells (hd .pictured)) (held-cells hd);
+    words = rw (plan-words (hd .pictured)) (held-words hd);
     held = rep-self _ _ _ xs ws (held-rep hd);
     below = re .below;
     fits = λ i f hi hf. omega (arith, held-rep hd .cells i f hi hf, count-high (held-pixel hd) i f, list-le e (countOf e) i f, re .below .few);
@@ -279,20 +280,21 @@ module _ {b : List ℕ} {z : Plan} {s t c : ℕ} {xs ws : List ℕ} {bx : List �
 
   pub exchanged-joint : {xs₂ ws₂ : List ℕ} {bx₂ : List ℤ} →
       ((a : Exchangeable (z .guides) e l xs ws) → CountsExchanged (a .entering .levels) (z .guides) e l xs ws xs₂ ws₂)
-      → BoxExchanged c e l bx bx₂ → JointAt (frameOf b) s′ t′ c xs ws xs₂ ws₂ bx₂
+      → BoxExchanged c e l bx bx₂ → JointAt (frameWith b vs) s′ t′ c xs ws xs₂ ws₂ bx₂
   unfolding exchange-asks entering-countable
   exchanged-joint {xs₂} {ws₂} {bx₂} after u =
       let o = after (exchange-asks .0) in
       let q = both-in adj in
-      joint-of (hd .planned) (pixel-of (hd .planned) (q .2) (q .3))
+      joint-of (hd .pictured) (pixel-of (hd .pictured) (q .2) (q .3))
       (o .kept)
       (held-cells hd) (held-words hd)
-      (rep-eq _ _ _ (count (frameOf b) s′ t′) xs₂ ws₂ (λ i f h. omega (arith, rep-own _ _ _ xs ws (held-rep hd) i f h, counts-step i f)) (o .held))
+      (rep-eq _ _ _ (count (frameWith b vs) s′ t′) xs₂ ws₂ (λ i f h. omega (arith, rep-own _ _ _ xs ws (held-rep hd) i f h, counts-step i f))
+      (o .held))
       (o .fits)
       (u .long ∙ held-long hd) each
     where
-      each : (f : ℕ) → f < 256 → boxAt bx₂ f ≡ cell (frameOf b) s′ t′ c f
+      each : (f : ℕ) → f < 256 → boxAt bx₂ f ≡ cell (frameWith b vs) s′ t′ c f
       each f h =
-          slid integers (sideOf c) (hd .planned) adj ed e l (re .sumℤ) (rl .sumℤ) (u .exchanged) f
-          (ap (λ (y : List ℤ). boxAt y f) (hd .joint .box) ∙ box-cell (frameOf b) s t c f h ∙ cell-sum (frameOf b) s t c f)
-          ∙ sym (cell-sum (frameOf b) s′ t′ c f)
+          slid integers (sideOf c) (hd .pictured) adj ed e l (re .sumℤ) (rl .sumℤ) (u .exchanged) f
+          (ap (λ (y : List ℤ). boxAt y f) (hd .joint .box) ∙ box-cell (frameWith b vs) s t c f h ∙ cell-sum (frameWith b vs) s t c f)
+          ∙ sym (cell-sum (frameWith b vs) s′ t′ c f)

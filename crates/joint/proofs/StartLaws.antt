@@ -25,8 +25,8 @@ use lib.ListN.{
 use lib.Seq.{drop-cons, set-at, append-snoc, drop-at}
 use lib.IntN.{ℤ, pos, _+ℤ_}
 use Rattle.spec.specs.declared.Plan.{Plan}
-use Rattle.spec.specs.Frame.{frameOf}
-use Rattle.spec.specs.Checks.{Planned}
+use Rattle.spec.specs.Frame.{frameWith}
+use Rattle.spec.specs.Checks.{Pictured}
 use Rattle.spec.specs.Window.{span, count}
 use Rattle.spec.proofs.Plans.{pixel-of}
 use Rattle.spec.proofs.Levels.{cell}
@@ -74,7 +74,7 @@ zero-box f = go 256 f
     go (suc n) (suc f) = go n f
 
 -- ---- the columns
-module _ {b : List ℕ} {z : Plan} (pl : Planned b z) where
+module _ {b vs : List ℕ} {z : Plan} (pl : Pictured b vs z) where
   abbrev L : ℕ
   L = z .levels
 
@@ -87,7 +87,7 @@ module _ {b : List ℕ} {z : Plan} (pl : Planned b z) where
   -- after the zeros nothing is held
   pub cleared : (x t c : ℕ) {xs ws xs₁ ws₁ : List ℕ} → L * M ≤ length xs → L * K ≤ length ws → xs₁ ≡ replicate (L * M) 0 ++ drop (L * M) xs →
       ws₁ ≡ replicate (L * K) 0 ++ drop (L * K) ws
-      → (Filled b z x t c 0 xs₁ ws₁ xs₁ ws₁ (replicate 256 (pos 0))) × RestKept (z .levels) (z .guides) xs ws xs₁ ws₁
+      → (Filled b vs z x t c 0 xs₁ ws₁ xs₁ ws₁ (replicate 256 (pos 0))) × RestKept (z .levels) (z .guides) xs ws xs₁ ws₁
   cleared x t c {xs} {ws} {xs₁} {ws₁} hx hw ex ew =
       let lx : length xs₁ ≡ length xs = ap length ex ∙ clear-long xs (L * M) hx in
       let lw : length ws₁ ≡ length ws = ap length ew ∙ clear-long ws (L * K) hw in
@@ -100,14 +100,14 @@ module _ {b : List ℕ} {z : Plan} (pl : Planned b z) where
           words = rw lw hw;
           kept = record { long = refl; long-words = refl; rest = refl; rest-words = refl };
           held = record {
-            outside = λ i g u h. columns-none _+_ 0 b z x t (λ v f. hit v f i g);
-            cells = λ i f h k. cell0 i f h k ∙ sym (columns-none _+_ 0 b z x t (λ v g. hit v g i f));
+            outside = λ i g u h. columns-none _+_ 0 b vs z x t (λ v f. hit v f i g);
+            cells = λ i f h k. cell0 i f h k ∙ sym (columns-none _+_ 0 b vs z x t (λ v g. hit v g i f));
             marks = λ i g h k. mark i g (word0 i (g / 64) h (omega arith));
           };
           low = λ i f h k. omega (arith, cell0 i f h k);
           box-long = length-replicate 256 (pos 0);
           box-low = λ f. rw (zero-box f) (omega arith);
-          box = λ f. zero-box f ∙ sym (columns-none _+ℤ_ (pos 0) b z x t (sideOf c f));
+          box = λ f. zero-box f ∙ sym (columns-none _+ℤ_ (pos 0) b vs z x t (sideOf c f));
         },
         record {
           long = lx;
@@ -118,16 +118,16 @@ module _ {b : List ℕ} {z : Plan} (pl : Planned b z) where
       )
     where
       mark : (i g : ℕ) → getD ws₁ (wordAt M i g) 0 ≡ 0 →
-          bit (getD ws₁ (wordAt M i g) 0) (g % 64) ≡ min 1 (columnsFold _+_ 0 b z x t (λ v f. hit v f i g) 0)
-      mark i g e = rw (e, columns-none _+_ 0 b z x t (λ v f. hit v f i g)) (bit-high 0 0 (g % 64) (lit< tt) (omega arith))
+          bit (getD ws₁ (wordAt M i g) 0) (g % 64) ≡ min 1 (columnsFold _+_ 0 b vs z x t (λ v f. hit v f i g) 0)
+      mark i g e = rw (e, columns-none _+_ 0 b vs z x t (λ v f. hit v f i g)) (bit-high 0 0 (g % 64) (lit< tt) (omega arith))
 
   -- one column more
   module _ {x n t c k : ℕ} {xs ws xs₁ ws₁ : List ℕ} {bx₁ : List ℤ} {d : Line} (co : Columns z x n t) (h : k < n)
-      (fl : Filled b z x t c k xs ws xs₁ ws₁ bx₁) (ed : d ≡ columnLine z (x + k) t) where
+      (fl : Filled b vs z x t c k xs ws xs₁ ws₁ bx₁) (ed : d ≡ columnLine z (x + k) t) where
     pub column-planes : InPlanes z d
     column-planes = rw ed (column-in (plan-limits pl) (x + k) t (omega (arith, co .wide)))
 
-    module _ {p : List ℕ} (r : LinePixels b z d p) where
+    module _ {p : List ℕ} (r : LinePixels b vs z d p) where
       unfoldable column-countable : Countable true M p xs₁ ws₁
       column-countable = record {
         levels = L;
@@ -145,7 +145,7 @@ module _ {b : List ℕ} {z : Plan} (pl : Planned b z) where
 
       pub fill-again : {xs₂ ws₂ : List ℕ} {bx₂ : List ℤ} →
           ((a : Countable true M p xs₁ ws₁) → CountsPassed true (a .levels) M p (countOf p) xs₁ ws₁ xs₂ ws₂)
-          → BoxPassed true c p (countOf p) bx₁ bx₂ → Filled b z x t c (k + 1) xs ws xs₂ ws₂ bx₂
+          → BoxPassed true c p (countOf p) bx₁ bx₂ → Filled b vs z x t c (k + 1) xs ws xs₂ ws₂ bx₂
       unfolding changed changedℤ column-countable
       fill-again {xs₂} {ws₂} after u = let g = after column-countable in record {
         cells = fl .cells;
@@ -163,22 +163,22 @@ module _ {b : List ℕ} {z : Plan} (pl : Planned b z) where
         box-low = λ f. rw (u .passed .cells f) (omega (arith, list-abs true c p (countOf p) f (boxAt bx₁ f), fl .box-low f, r .below .few));
         box = λ f.
             u .passed .cells f ∙ ap (λ (y : ℤ). y +ℤ pixelFold _+ℤ_ (pos 0) p (sideOf c f)) (fl .box f)
-            ∙ sym (columns-more _+ℤ_ (pos 0) b z x t (sideOf c f) k p ed (r .sumℤ (sideOf c f)));
+            ∙ sym (columns-more _+ℤ_ (pos 0) b vs z x t (sideOf c f) k p ed (r .sumℤ (sideOf c f)));
       }
         where
-          more : (i f : ℕ) → i < L → countIn M xs₁ i f + listCount p (countOf p) i f ≡ columnsFold _+_ 0 b z x t (λ v g. hit v g i f) (k + 1)
+          more : (i f : ℕ) → i < L → countIn M xs₁ i f + listCount p (countOf p) i f ≡ columnsFold _+_ 0 b vs z x t (λ v g. hit v g i f) (k + 1)
           more i f l =
               ap (λ (y : ℕ). y + listCount p (countOf p) i f) (sym (rep-own _ _ _ xs₁ ws₁ (fl .held) i f l))
-              ∙ sym (columns-more _+_ 0 b z x t (λ v g. hit v g i f) k p ed (r .sum (λ v g. hit v g i f)))
+              ∙ sym (columns-more _+_ 0 b vs z x t (λ v g. hit v g i f) k p ed (r .sum (λ v g. hit v g i f)))
 
   -- all columns are the window
   module _ (s t : ℕ) {x n : ℕ} (ex : x ≡ s - z .radius) (en : n ≡ span (z .radius) s (z .width)) where
-    window-count : (i f : ℕ) → columnsFold _+_ 0 b z x t (λ v g. hit v g i f) n ≡ count (frameOf b) s t i f
+    window-count : (i f : ℕ) → columnsFold _+_ 0 b vs z x t (λ v g. hit v g i f) n ≡ count (frameWith b vs) s t i f
     unfolding count hit
-    window-count i f = columns-window _+_ 0 b z x t (λ v g. hit v g i f) pl s ex en
+    window-count i f = columns-window _+_ 0 b vs z x t (λ v g. hit v g i f) pl s ex en
 
-    window-cell : (c f : ℕ) → columnsFold _+ℤ_ (pos 0) b z x t (sideOf c f) n ≡ cell (frameOf b) s t c f
-    window-cell c f = columns-window _+ℤ_ (pos 0) b z x t (sideOf c f) pl s ex en ∙ sym (cell-sum (frameOf b) s t c f)
+    window-cell : (c f : ℕ) → columnsFold _+ℤ_ (pos 0) b vs z x t (sideOf c f) n ≡ cell (frameWith b vs) s t c f
+    window-cell c f = columns-window _+ℤ_ (pos 0) b vs z x t (sideOf c f) pl s ex en ∙ sym (cell-sum (frameWith b vs) s t c f)
 
   pub cells-small : L * M ≤ 262144
   cells-small = mul-le-mul {n₂ = 1024} (levels-high pl) (guides-high pl)
@@ -193,23 +193,23 @@ columns-wide : (r s w : ℕ) → s < w → s - r + span r s w ≤ w
 unfolding span
 columns-wide r s w k = omega arith
 
-module _ {b : List ℕ} {z : Plan} {s t c x n : ℕ} {xs ws xs₁ ws₁ : List ℕ} (fr : Fresh b z s t xs ws)
+module _ {b vs : List ℕ} {z : Plan} {s t c x n : ℕ} {xs ws xs₁ ws₁ : List ℕ} (fr : Fresh b vs z s t xs ws)
     (ex : xs₁ ≡ replicate (z .levels * z .guides) 0 ++ drop (z .levels * z .guides) xs)
     (ew : ws₁ ≡ replicate (z .levels * wordsPer (z .guides)) 0 ++ drop (z .levels * wordsPer (z .guides)) ws)
     (e : x ≡ s - z .radius) (d : n ≡ span (z .radius) s (z .width)) where
-  zeros : (Filled b z x t c 0 xs₁ ws₁ xs₁ ws₁ (replicate 256 (pos 0))) × RestKept (z .levels) (z .guides) xs ws xs₁ ws₁
-  zeros = cleared (fr .planned) x t c (rw (plan-cells (fr .planned)) (fr .cells)) (rw (plan-words (fr .planned)) (fr .words)) ex ew
+  zeros : (Filled b vs z x t c 0 xs₁ ws₁ xs₁ ws₁ (replicate 256 (pos 0))) × RestKept (z .levels) (z .guides) xs ws xs₁ ws₁
+  zeros = cleared (fr .pictured) x t c (rw (plan-cells (fr .pictured)) (fr .cells)) (rw (plan-words (fr .pictured)) (fr .words)) ex ew
 
-  pub build-asks : (Planned b z × Columns z x n t) × Filled b z x t c 0 xs₁ ws₁ xs₁ ws₁ (replicate 256 (pos 0))
+  pub build-asks : (Pictured b vs z × Columns z x n t) × Filled b vs z x t c 0 xs₁ ws₁ xs₁ ws₁ (replicate 256 (pos 0))
   build-asks =
-      let few = span-high (z .radius) s (z .width) (plan-limits (fr .planned) .radius) in
-      ((fr .planned, record { wide = rw (e, d) (columns-wide (z .radius) s (z .width) (fr .column)); few = rw d few; row = fr .row }), zeros .0)
+      let few = span-high (z .radius) s (z .width) (plan-limits (fr .pictured) .radius) in
+      ((fr .pictured, record { wide = rw (e, d) (columns-wide (z .radius) s (z .width) (fr .column)); few = rw d few; row = fr .row }), zeros .0)
 
-  pub built : {xs₂ ws₂ : List ℕ} {bx₂ : List ℤ} → ((k : ℕ) → getD ws₂ k 0 < 2 ^ 64) → Filled b z x t c n xs₁ ws₁ xs₂ ws₂ bx₂ →
-      JointAt (frameOf b) s t c xs ws xs₂ ws₂ bx₂
+  pub built : {xs₂ ws₂ : List ℕ} {bx₂ : List ℤ} → ((k : ℕ) → getD ws₂ k 0 < 2 ^ 64) → Filled b vs z x t c n xs₁ ws₁ xs₂ ws₂ bx₂ →
+      JointAt (frameWith b vs) s t c xs ws xs₂ ws₂ bx₂
   built {xs₂} {ws₂} fit fl =
       let kp = zeros .1 in
-      joint-of (fr .planned) (pixel-of (fr .planned) (fr .column) (fr .row))
+      joint-of (fr .pictured) (pixel-of (fr .pictured) (fr .column) (fr .row))
       (record {
         long = fl .kept .long ∙ kp .long;
         long-words = fl .kept .long-words ∙ kp .long-words;
@@ -217,5 +217,5 @@ module _ {b : List ℕ} {z : Plan} {s t c x n : ℕ} {xs ws xs₁ ws₁ : List �
         rest-words = fl .kept .rest-words ∙ kp .rest-words;
       })
       (fr .cells) (fr .words)
-      (rep-eq _ _ _ (count (frameOf b) s t) xs₂ ws₂ (λ i f u. window-count (fr .planned) s t e d i f) (fl .held)) fit
-      (fl .box-long) (λ f h. fl .box f ∙ window-cell (fr .planned) s t e d c f)
+      (rep-eq _ _ _ (count (frameWith b vs) s t) xs₂ ws₂ (λ i f u. window-count (fr .pictured) s t e d i f) (fl .held)) fit
+      (fl .box-long) (λ f h. fl .box f ∙ window-cell (fr .pictured) s t e d c f)

@@ -10,8 +10,8 @@ use lib.Seq.{ext-getD, drop-at}
 use lib.IntN.{ℤ, pos, natAbs, _+ℤ_}
 use Rattle.ints.specs.Order.{lt-or-le}
 use Rattle.spec.specs.declared.Plan.{Plan}
-use Rattle.spec.specs.Frame.{Frame, frameOf}
-use Rattle.spec.specs.Checks.{Planned}
+use Rattle.spec.specs.Frame.{Frame, frameWith}
+use Rattle.spec.specs.Checks.{Pictured}
 use Rattle.spec.specs.Window.{count}
 use Rattle.spec.specs.Joint.{jointCounts, occupancyWords, balanceBox}
 use Rattle.spec.proofs.First.{length-tabulate}
@@ -54,27 +54,28 @@ box-is p s t c bx l e =
     (λ f h. let k : f < 256 = subst (λ (n : ℕ). f < n) l h in e f k ∙ sym (box-cell p s t c f k))
 
 -- ---- the stores
-module _ {b : List ℕ} {z : Plan} (pl : Planned b z) where
-  pub plan-cells : z .levels * z .guides ≡ cellCount (frameOf b)
+module _ {b vs : List ℕ} {z : Plan} (pl : Pictured b vs z) where
+  pub plan-cells : z .levels * z .guides ≡ cellCount (frameWith b vs)
   plan-cells = let f = facts pl in ap₂ (λ (u v : ℕ). u * v) (f .levels) (f .guides)
 
-  pub plan-words : z .levels * wordsPer (z .guides) ≡ wordCount (frameOf b)
+  pub plan-words : z .levels * wordsPer (z .guides) ≡ wordCount (frameWith b vs)
   plan-words = let f = facts pl in ap₂ (λ (u v : ℕ). u * wordsPer v) (f .levels) (f .guides)
 
-  module _ {s t : ℕ} (px : Pixel (frameOf b) s t) where
-    pub rep-of : {c : ℕ} {xs ws : List ℕ} {bx : List ℤ} → JointAt (frameOf b) s t c xs ws xs ws bx →
-        Rep (z .levels) (z .guides) (count (frameOf b) s t) xs ws
+  module _ {s t : ℕ} (px : Pixel (frameWith b vs) s t) where
+    pub rep-of : {c : ℕ} {xs ws : List ℕ} {bx : List ℤ} → JointAt (frameWith b vs) s t c xs ws xs ws bx →
+        Rep (z .levels) (z .guides) (count (frameWith b vs) s t) xs ws
     rep-of {c} {xs} {ws} j =
         let f = facts pl in
-        rw (f .levels, f .guides) (lists-rep (frameOf b) s t px xs ws (j .counts) (j .words))
+        rw (f .levels, f .guides) (lists-rep (frameWith b vs) s t px xs ws (j .counts) (j .words))
 
     pub joint-of : {c : ℕ} {xs ws xs′ ws′ : List ℕ} {bx′ : List ℤ} → RestKept (z .levels) (z .guides) xs ws xs′ ws′ →
-        cellCount (frameOf b) ≤ length xs → wordCount (frameOf b) ≤ length ws
-        → Rep (z .levels) (z .guides) (count (frameOf b) s t) xs′ ws′ → ((k : ℕ) → getD ws′ k 0 < 2 ^ 64)
-        → length bx′ ≡ 256 → ((f : ℕ) → f < 256 → getD bx′ f (pos 0) ≡ cell (frameOf b) s t c f) → JointAt (frameOf b) s t c xs ws xs′ ws′ bx′
+        cellCount (frameWith b vs) ≤ length xs → wordCount (frameWith b vs) ≤ length ws
+        → Rep (z .levels) (z .guides) (count (frameWith b vs) s t) xs′ ws′ → ((k : ℕ) → getD ws′ k 0 < 2 ^ 64)
+        → length bx′ ≡ 256 → ((f : ℕ) → f < 256 → getD bx′ f (pos 0) ≡ cell (frameWith b vs) s t c f)
+        → JointAt (frameWith b vs) s t c xs ws xs′ ws′ bx′
     joint-of {c} {xs} {ws} {xs′} {ws′} {bx′} kp hx hw r fit l e =
         let f = facts pl in
-        let p = frameOf b in
+        let p = frameWith b vs in
         let q : Rep (p .set .levels) (p .set .guides) (count p s t) xs′ ws′ = rw (f .levels, f .guides) at r in
         record {
           counts = rep-counts p s t px xs′ ws′ q (rw (kp .long) hx) ∙ ap (λ (y : List ℕ). jointCounts p s t ++ y) (rw plan-cells at (kp .rest));
@@ -98,21 +99,21 @@ settled {p} {s} {t} {c} {xs} {ws} {xs′} {ws′} px j = record {
 }
 
 -- ---- a held window
-module _ {b : List ℕ} {z : Plan} {s t c : ℕ} {xs ws : List ℕ} {bx : List ℤ} (hd : Held b z s t c xs ws bx) where
-  pub held-pixel : Pixel (frameOf b) s t
-  held-pixel = pixel-of (hd .planned) (hd .column) (hd .row)
+module _ {b vs : List ℕ} {z : Plan} {s t c : ℕ} {xs ws : List ℕ} {bx : List ℤ} (hd : Held b vs z s t c xs ws bx) where
+  pub held-pixel : Pixel (frameWith b vs) s t
+  held-pixel = pixel-of (hd .pictured) (hd .column) (hd .row)
 
-  pub held-rep : Rep (z .levels) (z .guides) (count (frameOf b) s t) xs ws
-  held-rep = rep-of (hd .planned) held-pixel (hd .joint)
+  pub held-rep : Rep (z .levels) (z .guides) (count (frameWith b vs) s t) xs ws
+  held-rep = rep-of (hd .pictured) held-pixel (hd .joint)
 
-  pub held-cells : cellCount (frameOf b) ≤ length xs
-  held-cells = begun-long _ xs (jointCounts (frameOf b) s t) (counts-long (frameOf b) s t held-pixel) (hd .joint .counts)
+  pub held-cells : cellCount (frameWith b vs) ≤ length xs
+  held-cells = begun-long _ xs (jointCounts (frameWith b vs) s t) (counts-long (frameWith b vs) s t held-pixel) (hd .joint .counts)
 
-  pub held-words : wordCount (frameOf b) ≤ length ws
-  held-words = begun-long _ ws (occupancyWords (frameOf b) s t) (bits-long (frameOf b) s t held-pixel) (hd .joint .words)
+  pub held-words : wordCount (frameWith b vs) ≤ length ws
+  held-words = begun-long _ ws (occupancyWords (frameWith b vs) s t) (bits-long (frameWith b vs) s t held-pixel) (hd .joint .words)
 
   pub held-low : (f : ℕ) → natAbs (getD bx f (pos 0)) ≤ 961
   held-low f = rw (hd .joint .box) (box-abs held-pixel c f)
 
   pub held-long : length bx ≡ 256
-  held-long = ap length (hd .joint .box) ∙ box-long (frameOf b) s t c
+  held-long = ap length (hd .joint .box) ∙ box-long (frameWith b vs) s t c

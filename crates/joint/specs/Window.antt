@@ -6,8 +6,8 @@ use Prim.Native.Nat.{ℕ, _+_, _*_, _≤_, _<_}
 use lib.ListN.{length, getD, drop}
 use lib.IntN.{ℤ, pos, natAbs, _+ℤ_}
 use Rattle.spec.specs.declared.Plan.{Plan}
-use Rattle.spec.specs.Frame.{Frame, frameOf}
-use Rattle.spec.specs.Checks.{Planned}
+use Rattle.spec.specs.Frame.{Frame, frameWith}
+use Rattle.spec.specs.Checks.{Pictured}
 use Rattle.spec.specs.Joint.{jointCounts, wordsPerLevel, occupancyWords, balanceBox}
 use Rattle.pixels.specs.Pixels.{columnsFold}
 use Rattle.joint_pixel.specs.Store.{cellAt, wordsPer, hit, Rep}
@@ -28,19 +28,19 @@ pub record JointAt (p : Frame) (s t c : ℕ) (xs ws xs′ ws′ : List ℕ) (bx�
   pub box : bx′ ≡ balanceBox p s t c
 
 -- a window of an accepted file, and the stores and the box that hold it
-pub record Held (b : List ℕ) (plan : Plan) (s t c : ℕ) (xs ws : List ℕ) (bx : List ℤ) : Type 0 where
-  pub planned : Planned b plan
+pub record Held (b vs : List ℕ) (plan : Plan) (s t c : ℕ) (xs ws : List ℕ) (bx : List ℤ) : Type 0 where
+  pub pictured : Pictured b vs plan
   pub column : s < plan .width
   pub row : t < plan .height
-  pub joint : JointAt (frameOf b) s t c xs ws xs ws bx
+  pub joint : JointAt (frameWith b vs) s t c xs ws xs ws bx
 
 -- a window to be built, and stores that are long enough
-pub record Fresh (b : List ℕ) (plan : Plan) (s t : ℕ) (xs ws : List ℕ) : Type 0 where
-  pub planned : Planned b plan
+pub record Fresh (b vs : List ℕ) (plan : Plan) (s t : ℕ) (xs ws : List ℕ) : Type 0 where
+  pub pictured : Pictured b vs plan
   pub column : s < plan .width
   pub row : t < plan .height
-  pub cells : cellCount (frameOf b) ≤ length xs
-  pub words : wordCount (frameOf b) ≤ length ws
+  pub cells : cellCount (frameWith b vs) ≤ length xs
+  pub words : wordCount (frameWith b vs) ≤ length ws
 
 -- n columns from column x of the windows of row t
 pub record Columns (plan : Plan) (x n t : ℕ) : Type 0 where
@@ -49,12 +49,12 @@ pub record Columns (plan : Plan) (x n t : ℕ) : Type 0 where
   pub row : t < plan .height
 
 -- the first k of those columns are in the stores, which held xs and ws, and in the box
-pub record Filled (b : List ℕ) (plan : Plan) (x t c k : ℕ) (xs ws xs′ ws′ : List ℕ) (bx′ : List ℤ) : Type 0 where
+pub record Filled (b vs : List ℕ) (plan : Plan) (x t c k : ℕ) (xs ws xs′ ws′ : List ℕ) (bx′ : List ℤ) : Type 0 where
   pub cells : plan .levels * plan .guides ≤ length xs
   pub words : plan .levels * wordsPer (plan .guides) ≤ length ws
   pub kept : RestKept (plan .levels) (plan .guides) xs ws xs′ ws′
-  pub held : Rep (plan .levels) (plan .guides) (λ i f. columnsFold _+_ 0 b plan x t (λ v g. hit v g i f) k) xs′ ws′
+  pub held : Rep (plan .levels) (plan .guides) (λ i f. columnsFold _+_ 0 b vs plan x t (λ v g. hit v g i f) k) xs′ ws′
   pub low : (i f : ℕ) → i < plan .levels → f < plan .guides → getD xs′ (cellAt (plan .guides) i f) 0 ≤ 31 * k
   pub box-long : length bx′ ≡ 256
   pub box-low : (f : ℕ) → natAbs (boxAt bx′ f) ≤ 31 * k
-  pub box : (f : ℕ) → boxAt bx′ f ≡ columnsFold _+ℤ_ (pos 0) b plan x t (sideOf c f) k
+  pub box : (f : ℕ) → boxAt bx′ f ≡ columnsFold _+ℤ_ (pos 0) b vs plan x t (sideOf c f) k

@@ -1,4 +1,4 @@
-// The stores and the box made for a window, whatever they held.
+// The stores and the box made for a window, whatever they held. A plane given in place of the file's values has them; an empty one is none.
 use crate::list;
 use spec::Level;
 use spec::Plan;
@@ -9,8 +9,8 @@ ghost use mathlib.Core.Path.{_≡_};
 ghost use mathlib.Core.List.{_++_};
 ghost use Prim.Native.Nat.{_≤_};
 ghost use lib.ListN.{length, drop, replicate};
-ghost use Rattle.spec.specs.Frame.{frameOf};
-ghost use Rattle.spec.specs.Checks.{Planned};
+ghost use Rattle.spec.specs.Frame.{frameWith};
+ghost use Rattle.spec.specs.Checks.{Pictured};
 ghost use Rattle.joint.specs.Window.{JointAt, Fresh, Columns, Filled};
 
 // 0 in the first n places.
@@ -39,6 +39,7 @@ pub fn clear_words(s: &mut [u64], n: usize)
 // Adds n columns from column x of the windows of row t to stores and a box that hold no pixel.
 pub fn fill(
     file: &[u8],
+    plane: &[u16],
     plan: Plan,
     x: usize,
     n: usize,
@@ -48,16 +49,17 @@ pub fn fill(
     counts: &mut [u16],
     words: &mut [u64],
 )
-    requires { ⌜ (Planned (now file) plan) × (Columns plan x n t) ⌝ }
-    requires { ⌜ Filled (now file) plan x t (cut .0) 0 (now counts) (now words) (now counts) (now words) (now «balance_box») ⌝ }
-    ensures { λ _. ⌜ Filled (now (file .entry)) plan x t (cut .0) n (now (counts .entry)) (now (words .entry)) (now (counts .exit))
+    requires { ⌜ (Pictured (now file) (now plane) plan) × (Columns plan x n t) ⌝ }
+    requires { ⌜ Filled (now file) (now plane) plan x t (cut .0) 0 (now counts) (now words) (now counts) (now words) (now «balance_box») ⌝ }
+    ensures { λ _. ⌜ Filled (now (file .entry)) (now (plane .entry)) plan x t (cut .0) n (now (counts .entry)) (now (words .entry))
+        (now (counts .exit))
         (now (words .exit)) (now («balance_box» .exit)) ⌝ }
 {
     let mut k = 0;
     while k < n {
         let mut places = [0u16; 62];
         let line = column_line(plan, x + k, t);
-        let p = pixels::read(file, plan, line, &mut places);
+        let p = pixels::read_in(file, plane, plan, line, &mut places);
         list::change_pixels(
             &places[0..p],
             plan.guides,
@@ -74,6 +76,7 @@ pub fn fill(
 // The stores and the box of the window at (s, t), at the cut point.
 pub fn build(
     file: &[u8],
+    plane: &[u16],
     plan: Plan,
     s: usize,
     t: usize,
@@ -82,8 +85,9 @@ pub fn build(
     counts: &mut [u16],
     words: &mut [u64],
 )
-    requires { ⌜ Fresh (now file) plan s t (now counts) (now words) ⌝ }
-    ensures { λ _. ⌜ JointAt (frameOf (now (file .entry))) s t (cut .0) (now (counts .entry)) (now (words .entry)) (now (counts .exit))
+    requires { ⌜ Fresh (now file) (now plane) plan s t (now counts) (now words) ⌝ }
+    ensures { λ _. ⌜ JointAt (frameWith (now (file .entry)) (now (plane .entry))) s t (cut .0) (now (counts .entry)) (now (words .entry))
+        (now (counts .exit))
         (now (words .exit)) (now («balance_box» .exit)) ⌝ }
 {
     let l = plan.levels;
@@ -93,5 +97,5 @@ pub fn build(
     *balance_box = [0i16; 256];
     let x = low(s, plan.radius);
     let n = span_of(s, plan.radius, plan.width);
-    fill(file, plan, x, n, t, cut, balance_box, counts, words);
+    fill(file, plane, plan, x, n, t, cut, balance_box, counts, words);
 }

@@ -7,7 +7,7 @@ use Prim.Native.Nat.{ℕ}
 use lib.ListN.{replicate}
 use Rattle.spec.specs.declared.Plan.{Plan}
 use Rattle.spec.specs.Base.{if_then_else_}
-use Rattle.spec.specs.Frame.{frameOf}
+use Rattle.spec.specs.Frame.{frameWith}
 use Rattle.spec.specs.Window.{empty}
 use Rattle.spec.specs.Weight.{weightless}
 use Rattle.spec.specs.Checks.{SettingsLimits}
@@ -29,12 +29,12 @@ module _ (sizes : Sizes) (cs row : List ℕ) where
   counted-own e = ap (λ (b : Bool). if b then replicate 256 1 else row) e
 
 -- ---- of a window with a reading
-pub counted-weighs : {b : List ℕ} {plan : Plan} {s t : ℕ} {cs ws row : List ℕ} → Counted b plan s t cs ws → empty (frameOf b) s t ≡ false
-    → RowOwn (frameOf b) s t row → RowWeighs (frameOf b) s t (countedRow (sizesOf plan) cs row)
+pub counted-weighs : {b vs : List ℕ} {plan : Plan} {s t : ℕ} {cs ws row : List ℕ} → Counted b vs plan s t cs ws → empty (frameWith b vs) s t ≡ false
+    → RowOwn (frameWith b vs) s t row → RowWeighs (frameWith b vs) s t (countedRow (sizesOf plan) cs row)
 unfolding countedRow
-counted-weighs {b} {plan} {s} {t} {cs} {ws} {row} st r own =
-    rw (weightless-is st r own) (go (weightless (frameOf b) s t) refl)
+counted-weighs {b} {vs} {plan} {s} {t} {cs} {ws} {row} st r own =
+    rw (weightless-is st r own) (go (weightless (frameWith b vs) s t) refl)
   where
-    go : (v : Bool) → weightless (frameOf b) s t ≡ v → RowWeighs (frameOf b) s t (if v then replicate 256 1 else row)
-    go true e = ones-weigh (frameOf b) s t (spot st .good .sound .guides-high) e
-    go false e = own-weighs (frameOf b) s t e own
+    go : (v : Bool) → weightless (frameWith b vs) s t ≡ v → RowWeighs (frameWith b vs) s t (if v then replicate 256 1 else row)
+    go true e = ones-weigh (frameWith b vs) s t (spot st .good .sound .guides-high) e
+    go false e = own-weighs (frameWith b vs) s t e own

@@ -16,6 +16,7 @@ use visit::Visit;
 use window::sums::Sums;
 use window_weights::coefficients;
 ghost use mathlib.Core.Path.{_≡_};
+ghost use mathlib.Core.List.{[]};
 ghost use Prim.Native.Nat.{_+_, _<_, _≤_};
 ghost use lib.ListN.{length};
 ghost use Rattle.spec.specs.Frame.{frameOf};
@@ -56,7 +57,8 @@ pub fn arrive(
     words: &[u64],
     histogram: &[u32],
 ) -> Visit
-    requires { ⌜ (Counted (now file) plan s t (now counts) (now words)) × (plan .kind ≡ 2) × (Histogram (frameOf (now file)) s t (now histogram)) ⌝ }
+    requires { ⌜ (Counted (now file) [] plan s t (now counts) (now words)) × (plan .kind ≡ 2)
+        × (Histogram (frameOf (now file)) s t (now histogram)) ⌝ }
     requires { ⌜ (SumsAt (frameOf (now file)) s t a) × (Carries (frameOf (now file)) (now entering) (now leaving) s t (cut .0 + 1) before) ⌝ }
     requires { ⌜ (cut .0 < plan .levels) × (shifts ≤ 4294967296) × (now «balance_box» ≡ balanceBox (frameOf (now file)) s t (cut .0)) ⌝ }
     ensures { λ r. ⌜ GuidedVisited (frameOf (now (file .entry))) s t (cut .0) shifts r (now («balance_box» .exit)) (now (histogram .entry)) ⌝ }
@@ -158,7 +160,7 @@ pub fn enter(
     words: &[u64],
     histogram: &mut [u32],
 ) -> Visit
-    requires { ⌜ (Counted (now file) plan s t (now counts) (now words)) × (plan .kind ≡ 2) × (Blank (plan .levels) (now histogram)) ⌝ }
+    requires { ⌜ (Counted (now file) [] plan s t (now counts) (now words)) × (plan .kind ≡ 2) × (Blank (plan .levels) (now histogram)) ⌝ }
     requires { ⌜ now «balance_box» ≡ balanceBox (frameOf (now file)) s t 0 ⌝ }
     ensures { λ r. ⌜ GuidedVisited (frameOf (now (file .entry))) s t 0 0 r (now («balance_box» .exit)) (now (histogram .exit)) ⌝ }
 {

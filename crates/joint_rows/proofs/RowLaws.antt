@@ -14,8 +14,8 @@ use lib.IntN.{pos}
 use Rattle.spec.specs.declared.Plan.{Plan}
 use Rattle.spec.specs.Base.{distance}
 use Rattle.spec.specs.Bytes.{AllBytes, be16}
-use Rattle.spec.specs.Frame.{Frame, guide, table, heaviest, plane, pixelGuide, builtIn, frameOf}
-use Rattle.spec.specs.Checks.{Planned}
+use Rattle.spec.specs.Frame.{Frame, guide, table, heaviest, plane, pixelGuide, builtIn, frameOf, frameWith}
+use Rattle.spec.specs.Checks.{Pictured}
 use Rattle.spec.specs.Weight.{weightless}
 use Rattle.spec.proofs.Lists.{part-long, part-cell}
 use Rattle.spec.proofs.Limits.{built-in-low, be16-low}
@@ -39,26 +39,26 @@ built-in-weighs : (f g : ℕ) → f ≤ 255 → g ≤ 255 → 0 < builtIn f g
 unfolding builtIn
 built-in-weighs f g hf hg = le-div-iff-mul-le {k = 16 + distance f g} {x = 1} {y = 4096} (omega arith) .1 (omega arith)
 
-module _ {b : List ℕ} {z : Plan} (pl : Planned b z) {s t : ℕ} (hs : s < z .width) (ht : t < z .height) where
+module _ {b vs : List ℕ} {z : Plan} (pl : Pictured b vs z) {s t : ℕ} (hs : s < z .width) (ht : t < z .height) where
   pub centre-place : t * z .width + s < z .width * z .height
   centre-place = place-low z s t hs ht
 
   -- so that no window is hollow
-  pub built-weighs : z .kind ≡ 1 → z .weights ≡ 0 → weightless (frameOf b) s t ≡ false
+  pub built-weighs : z .kind ≡ 1 → z .weights ≡ 0 → weightless (frameWith b vs) s t ≡ false
   built-weighs one none =
-      let c = guide (frameOf b) s t in
+      let c = guide (frameWith b vs) s t in
       let k = pixel-of pl hs ht in
       let m = k .good .sound .guides-high in
       let low = k .good .guide-low s t (k .in-column) (k .in-row) in
-      table-weighs (frameOf b) s t (sym (facts pl .kind) ∙ one)
-      (λ x y h. rw (table-built pl none c (guide (frameOf b) x y))
-      (built-in-weighs c (guide (frameOf b) x y) (omega (arith, low, m)) (omega (arith, k .good .guide-low x y (h .wide) (h .high), m))))
+      table-weighs (frameWith b vs) s t (sym (facts pl .kind) ∙ one)
+      (λ x y h. rw (table-built pl none c (guide (frameWith b vs) x y))
+      (built-in-weighs c (guide (frameWith b vs) x y) (omega (arith, low, m)) (omega (arith, k .good .guide-low x y (h .wide) (h .high), m))))
 
   module _ {f : ℕ} (ef : f ≡ pixelGuide b (t * z .width + s)) where
-    pub centre-is : f ≡ guide (frameOf b) s t
+    pub centre-is : f ≡ guide (frameWith b vs) s t
     centre-is = ef ∙ facts pl .guide-at s t
 
-    in-frame : f < frameOf b .set .guides
+    in-frame : f < frameWith b vs .set .guides
     in-frame = let k = pixel-of pl hs ht in rw centre-is (k .good .guide-low s t (k .in-column) (k .in-row))
 
     pub centre-low : f < z .guides
@@ -68,34 +68,35 @@ module _ {b : List ℕ} {z : Plan} (pl : Planned b z) {s t : ℕ} (hs : s < z .w
     centre-small = let k = pixel-of pl hs ht in omega (arith, in-frame, k .good .sound .guides-high)
 
     -- kind 1: a row of the table
-    table-own-row : {row : List ℕ} → z .kind ≡ 1 → frameOf b .set .guides ≤ length row →
-        ((h : ℕ) → h < frameOf b .set .guides → getD row h 0 ≡ table (frameOf b) f h) →
-        ((h : ℕ) → h < frameOf b .set .guides → getD row h 0 ≤ heaviest) → RowOwn (frameOf b) s t row
+    table-own-row : {row : List ℕ} → z .kind ≡ 1 → frameWith b vs .set .guides ≤ length row →
+        ((h : ℕ) → h < frameWith b vs .set .guides → getD row h 0 ≡ table (frameWith b vs) f h) →
+        ((h : ℕ) → h < frameWith b vs .set .guides → getD row h 0 ≤ heaviest) → RowOwn (frameWith b vs) s t row
     table-own-row one inside value low = record {
       in-row = record { inside = inside; low = low };
       is =
-          λ h l. own-table (frameOf b) s t h (sym (facts pl .kind) ∙ one) ∙ ap (λ (q : ℕ). pos (table (frameOf b) q h)) (sym centre-is) ∙ ap pos
+          λ h l. own-table (frameWith b vs) s t h (sym (facts pl .kind) ∙ one) ∙ ap (λ (q : ℕ). pos (table (frameWith b vs) q h)) (sym centre-is)
+          ∙ ap pos
           (sym (value h l));
     }
 
-    few : frameOf b .set .guides ≤ 256
+    few : frameWith b vs .set .guides ≤ 256
     few = pixel-of pl hs ht .good .sound .guides-high
 
     -- the built-in weights, as they are lent: the 256 constants from the centre's place on
     pub mirror-weighs : {row : List ℕ} {from end : ℕ} → z .kind ≡ 1 → z .weights ≡ 0 → Mirror row → from ≡ 255 - f → end ≡ from + 256 →
-        RowWeighs (frameOf b) s t (take (end - from) (drop from row))
+        RowWeighs (frameWith b vs) s t (take (end - from) (drop from row))
     mirror-weighs {row} {from} {end} one none mi ef ee =
         let n : end - from ≡ 256 = omega arith in
         let inside = part-long row from (end - from) (omega (arith, mi .long, centre-small)) in
-        let built : (h : ℕ) → h < frameOf b .set .guides → getD (take (end - from) (drop from row)) h 0 ≡ builtIn f h =
+        let built : (h : ℕ) → h < frameWith b vs .set .guides → getD (take (end - from) (drop from row)) h 0 ≡ builtIn f h =
         λ h l. part-cell row from (end - from) h (omega (arith, few)) ∙ mi .is (from + h)
         (omega (arith, few, centre-small)) ∙ ap (λ (q : ℕ). builtIn 255 (q + h)) ef ∙ mirror-built f h centre-small in
-        own-weighs (frameOf b) s t (built-weighs one none)
+        own-weighs (frameWith b vs) s t (built-weighs one none)
         (table-own-row {row = take (end - from) (drop from row)} one (omega (arith, inside, few)) (λ h l. built h l ∙ sym (table-built pl none f h))
         (λ h l. rw (built h l) (built-in-low f h)))
 
     -- a row of 256 numbers that are the table's: the file's own, or made weight by weight
-    pub row-weighs-own : {row : List ℕ} → z .kind ≡ 1 → TableRow (frameOf b) (z .guides) f row → RowOwn (frameOf b) s t row
+    pub row-weighs-own : {row : List ℕ} → z .kind ≡ 1 → TableRow (frameOf b) (z .guides) f row → RowOwn (frameWith b vs) s t row
     row-weighs-own one r =
         table-own-row one (omega (arith, r .long, few)) (λ h l. r .is h (rw (facts pl .guides) l)) (λ h l. r .low h (rw (facts pl .guides) l))
 
@@ -109,7 +110,7 @@ row-made r e h same low = record {
 }
 
 -- ---- the file's own row
-module _ {b : List ℕ} {z : Plan} (pl : Planned b z) {f : ℕ} (hf : f < z .guides) (own : z .weights ≡ 0 → ⊥) where
+module _ {b vs : List ℕ} {z : Plan} (pl : Pictured b vs z) {f : ℕ} (hf : f < z .guides) (own : z .weights ≡ 0 → ⊥) where
   row-place : (g : ℕ) → z .table + 2 * (f * z .guides) + 2 * g ≡ z .table + 2 * (f * z .guides + g)
   row-place g = omega arith
 

@@ -12,7 +12,7 @@ use lib.ListN.{length}
 use Rattle.spec.specs.declared.Plan.{Plan}
 use Rattle.spec.specs.Base.{if_then_else_, distance}
 use Rattle.spec.specs.Frame.{tableSize, settingsOf, trailerOf, ownWeights, planOf}
-use Rattle.spec.specs.Checks.{Planned}
+use Rattle.spec.specs.Checks.{Pictured}
 use Rattle.spec.proofs.Plans.{facts}
 use Rattle.window.proofs.PixelLaws.{guides-range}
 
@@ -25,7 +25,7 @@ own-count : (b : List ℕ) → (planOf b .weights ≡ 0 → ⊥) → planOf b .w
 unfolding planOf ownWeights trailerOf
 own-count b h = own-cases (eqb (trailerOf b .table) 0) (tableSize (settingsOf b)) h
 
-module _ {b : List ℕ} {z : Plan} (pl : Planned b z) where
+module _ {b vs : List ℕ} {z : Plan} (pl : Pictured b vs z) where
   -- the constants reach as far as two guides can be apart
   pub apart-low : {f g d : ℕ} → f < z .guides → g < z .guides → d ≡ distance f g → d < 256
   apart-low hf hg e = omega (arith, guides-range pl .1)

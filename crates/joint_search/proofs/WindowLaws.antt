@@ -14,7 +14,7 @@ use borrow.Author.Tests.{le-leb}
 use Rattle.ints.specs.Polynomial.{_⊕_, _⊖_, _⊗_, #_, _≐_, solve2}
 use Rattle.spec.specs.declared.Plan.{Plan}
 use Rattle.spec.specs.Base.{if_then_else_, indicator, sum, sumℤ}
-use Rattle.spec.specs.Frame.{Frame, level, guide, frameOf}
+use Rattle.spec.specs.Frame.{Frame, level, guide, frameWith}
 use Rattle.spec.specs.Window.{inCell, count, pixelCount, empty}
 use Rattle.spec.specs.Median.{totalWeight, cumulative, balance, median}
 use Rattle.spec.specs.Weight.{ownWeight, ownTotal, isZero, weightless}
@@ -109,45 +109,47 @@ module _ {p : Frame} {s t : ℕ} (k : Pixel p s t) where
   cell-is c f h = cell-from (p .set .levels - 1 - c) c f (omega arith)
 
 -- ---- the stores
-module _ {b : List ℕ} {plan : Plan} {s t : ℕ} {cs ws : List ℕ} (st : Counted b plan s t cs ws) where
-  pub spot : Pixel (frameOf b) s t
-  spot = pixel-of (st .planned) (st .column) (st .row)
+module _ {b vs : List ℕ} {plan : Plan} {s t : ℕ} {cs ws : List ℕ} (st : Counted b vs plan s t cs ws) where
+  pub spot : Pixel (frameWith b vs) s t
+  spot = pixel-of (st .pictured) (st .column) (st .row)
 
-  rep : Rep (frameOf b .set .levels) (frameOf b .set .guides) (count (frameOf b) s t) cs ws
-  rep = lists-rep (frameOf b) s t spot cs ws (st .counts) (st .words)
+  rep : Rep (frameWith b vs .set .levels) (frameWith b vs .set .guides) (count (frameWith b vs) s t) cs ws
+  rep = lists-rep (frameWith b vs) s t spot cs ws (st .counts) (st .words)
 
-  pub guides-eq : plan .guides ≡ frameOf b .set .guides
-  guides-eq = facts (st .planned) .guides
+  pub guides-eq : plan .guides ≡ frameWith b vs .set .guides
+  guides-eq = facts (st .pictured) .guides
 
-  pub levels-eq : plan .levels ≡ frameOf b .set .levels
-  levels-eq = facts (st .planned) .levels
+  pub levels-eq : plan .levels ≡ frameWith b vs .set .levels
+  levels-eq = facts (st .pictured) .levels
 
   last : (i l n : ℕ) → i < l → i * n + n ≤ l * n
   last i l n h = let e : suc i ≤ l = omega arith in subst (λ (q : ℕ). q ≤ l * n) (suc-mul i n) (mul-le-mul e (le-refl n))
 
-  level-cells : (i : ℕ) → i < frameOf b .set .levels →
-      cellSum (frameOf b .set .guides) i cs (frameOf b .set .guides) ≡ sum (λ f. count (frameOf b) s t i f) 0 (frameOf b .set .guides)
+  level-cells : (i : ℕ) → i < frameWith b vs .set .levels →
+      cellSum (frameWith b vs .set .guides) i cs (frameWith b vs .set .guides)
+      ≡ sum (λ f. count (frameWith b vs) s t i f) 0 (frameWith b vs .set .guides)
   unfolding cellSum
   level-cells i h = let M =
-      frameOf b .set .guides in fold-same _+_ 0 natSums _ _ 0 M (λ f u v. rep .cells i f h (subst (λ (q : ℕ). f < q) (zero-add M) v))
+      frameWith b vs .set .guides in fold-same _+_ 0 natSums _ _ 0 M (λ f u v. rep .cells i f h (subst (λ (q : ℕ). f < q) (zero-add M) v))
 
-  all-cells : sum (λ i. cellSum (frameOf b .set .guides) i cs (frameOf b .set .guides)) 0 (frameOf b .set .levels) ≤ 961
+  all-cells : sum (λ i. cellSum (frameWith b vs .set .guides) i cs (frameWith b vs .set .guides)) 0 (frameWith b vs .set .levels) ≤ 961
   all-cells =
-      le-trans (le-of-eq (fold-same _+_ 0 natSums _ _ 0 (frameOf b .set .levels) (λ i x y. level-cells i (omega arith)) ∙ counts-all spot))
+      le-trans (le-of-eq (fold-same _+_ 0 natSums _ _ 0 (frameWith b vs .set .levels) (λ i x y. level-cells i (omega arith)) ∙ counts-all spot))
       (pixelCount-high spot)
 
-  level-few : (i : ℕ) → i < frameOf b .set .levels → cellSum (frameOf b .set .guides) i cs (frameOf b .set .guides) ≤ 961
+  level-few : (i : ℕ) → i < frameWith b vs .set .levels → cellSum (frameWith b vs .set .guides) i cs (frameWith b vs .set .guides) ≤ 961
   level-few i h =
       le-trans
-      (sum-term (λ i. cellSum (frameOf b .set .guides) i cs (frameOf b .set .guides)) 0 (frameOf b .set .levels) i (omega arith) (omega arith))
+      (sum-term (λ i. cellSum (frameWith b vs .set .guides) i cs (frameWith b vs .set .guides)) 0 (frameWith b vs .set .levels) i (omega arith)
+      (omega arith))
       all-cells
 
-  marked : (i : ℕ) → i < frameOf b .set .levels → Marked (frameOf b .set .guides) i cs ws
+  marked : (i : ℕ) → i < frameWith b vs .set .levels → Marked (frameWith b vs .set .guides) i cs ws
   marked i h = record {
     guides = spot .good .sound .guides-high;
     level = omega (arith, spot .good .sound .levels-high);
-    cells = le-trans (last i _ _ h) (begun-long _ cs (jointCounts (frameOf b) s t) (counts-long (frameOf b) s t spot) (st .counts));
-    words = le-trans (last i _ _ h) (begun-long _ ws (occupancyWords (frameOf b) s t) (bits-long (frameOf b) s t spot) (st .words));
+    cells = le-trans (last i _ _ h) (begun-long _ cs (jointCounts (frameWith b vs) s t) (counts-long (frameWith b vs) s t spot) (st .counts));
+    words = le-trans (last i _ _ h) (begun-long _ ws (occupancyWords (frameWith b vs) s t) (bits-long (frameWith b vs) s t spot) (st .words));
     marks = λ g l. rep .marks i g h l ∙ ap (min 1) (rep-own _ _ _ cs ws rep i g h);
     few = level-few i h;
   }
@@ -162,38 +164,38 @@ module _ {b : List ℕ} {plan : Plan} {s t : ℕ} {cs ws : List ℕ} (st : Count
   }
 
   -- the box
-  pub box-of : (c : ℕ) → c < plan .levels → balanceBox (frameOf b) s t c ≡ boxIn (sizesOf plan) cs c
+  pub box-of : (c : ℕ) → c < plan .levels → balanceBox (frameWith b vs) s t c ≡ boxIn (sizesOf plan) cs c
   box-of c h =
-      let h′ : c < frameOf b .set .levels = rw levels-eq at h in
-      box-is (sizesOf plan) cs c (balanceBox (frameOf b) s t c) (joint.box-long (frameOf b) s t c)
-      (λ f l. box-cell (frameOf b) s t c f l ∙ cell-is spot c f h′
+      let h′ : c < frameWith b vs .set .levels = rw levels-eq at h in
+      box-is (sizesOf plan) cs c (balanceBox (frameWith b vs) s t c) (joint.box-long (frameWith b vs) s t c)
+      (λ f l. box-cell (frameWith b vs) s t c f l ∙ cell-is spot c f h′
       ∙ levels.balance-same (λ i u. ap pos (rep-own _ _ _ cs ws rep i f u)) c h′
       ∙ sym (ap₂ (λ (m n : ℕ). balanceOf (λ i. pos (countIn m cs i f)) n c) guides-eq levels-eq))
 
   -- a box that is the counts' at x is the window's at k, where the two are one level
-  pub box-at : {x k : ℕ} {bx : List ℤ} → bx ≡ boxIn (sizesOf plan) cs x → x ≡ k → k < plan .levels → bx ≡ balanceBox (frameOf b) s t k
+  pub box-at : {x k : ℕ} {bx : List ℤ} → bx ≡ boxIn (sizesOf plan) cs x → x ≡ k → k < plan .levels → bx ≡ balanceBox (frameWith b vs) s t k
   box-at {k = k} e d h = e ∙ ap (boxIn (sizesOf plan) cs) d ∙ sym (box-of k h)
 
   -- ---- with a row of weights of the window
-  module _ {row : List ℕ} {weigh : ℕ → ℤ} (gives : RowGives weigh (frameOf b .set .guides) row) where
+  module _ {row : List ℕ} {weigh : ℕ → ℤ} (gives : RowGives weigh (frameWith b vs .set .guides) row) where
     pub row-fits : RowFits (plan .guides) row
     row-fits = rw guides-eq (gives .in-row)
 
     level-by : (i : ℕ) → i < plan .levels →
-        levelWeightIn (plan .guides) cs row i ≡ sumℤ (λ f. pos (count (frameOf b) s t i f) *ℤ weigh f) 0 (frameOf b .set .guides)
+        levelWeightIn (plan .guides) cs row i ≡ sumℤ (λ f. pos (count (frameWith b vs) s t i f) *ℤ weigh f) 0 (frameWith b vs .set .guides)
     level-by i h =
-        let M = frameOf b .set .guides in
-        let h′ : i < frameOf b .set .levels = rw levels-eq at h in
+        let M = frameWith b vs .set .guides in
+        let h′ : i < frameWith b vs .set .levels = rw levels-eq at h in
         ap (λ (m : ℕ). levelWeightIn m cs row i) guides-eq ∙ level-guides M i cs row
         ∙ fold-same _+ℤ_ (pos 0) intSums _ _ 0 M (λ f u v. let l : f < M = subst (λ (q : ℕ). f < q) (zero-add M) v in
         ap₂ (λ (n : ℕ) (x : ℤ). pos n *ℤ x) (rep .cells i f h′ l) (sym (gives .is f l)))
 
   -- its own weights: the hollow test, where there is a reading
-  pub weightless-is : {row : List ℕ} → empty (frameOf b) s t ≡ false → RowOwn (frameOf b) s t row
-      → weightlessIn (sizesOf plan) cs row ≡ weightless (frameOf b) s t
+  pub weightless-is : {row : List ℕ} → empty (frameWith b vs) s t ≡ false → RowOwn (frameWith b vs) s t row
+      → weightlessIn (sizesOf plan) cs row ≡ weightless (frameWith b vs) s t
   unfolding weightlessOf weightless totalOf ownTotal
   weightless-is {row} r own =
-      let p = frameOf b in
+      let p = frameWith b vs in
       rw r
       (ap isZero
       (fold-same _+ℤ_ (pos 0) intSums _ _ 0 (plan .levels) (λ i x y. level-by own i (omega arith)
@@ -202,39 +204,39 @@ module _ {b : List ℕ} {plan : Plan} {s t : ℕ} {cs ws : List ℕ} (st : Count
       ∙ sym (over-joint _+ℤ_ (pos 0) intSums p s t (λ i f. ownWeight p s t f) (spot .good .level-low) (spot .good .guide-low))))
 
   -- the weights that it is counted with
-  module _ {row : List ℕ} (weighs : RowWeighs (frameOf b) s t row) where
-    level-is : (i : ℕ) → i < plan .levels → levelWeightIn (plan .guides) cs row i ≡ levelWeight (frameOf b) s t i
+  module _ {row : List ℕ} (weighs : RowWeighs (frameWith b vs) s t row) where
+    level-is : (i : ℕ) → i < plan .levels → levelWeightIn (plan .guides) cs row i ≡ levelWeight (frameWith b vs) s t i
     level-is i h = level-by weighs i h ∙ sym (level-joint spot i)
 
-    cumulative-is : (c : ℕ) → c < plan .levels → cumulativeOf (levelWeightIn (plan .guides) cs row) c ≡ cumulative (frameOf b) s t c
-    cumulative-is zero h = levels.cumulative-zero _ ∙ level-is 0 h ∙ sym (cumulative-zero (frameOf b) s t)
+    cumulative-is : (c : ℕ) → c < plan .levels → cumulativeOf (levelWeightIn (plan .guides) cs row) c ≡ cumulative (frameWith b vs) s t c
+    cumulative-is zero h = levels.cumulative-zero _ ∙ level-is 0 h ∙ sym (cumulative-zero (frameWith b vs) s t)
     cumulative-is (suc c) h =
         levels.cumulative-next _ c ∙ ap₂ (λ (x y : ℤ). x +ℤ y) (cumulative-is c (omega arith)) (level-is (suc c) h) ∙ sym
-        (cumulative-next (frameOf b) s t c)
+        (cumulative-next (frameWith b vs) s t c)
 
     some : 0 < plan .levels
     some = omega (arith, levels-eq, spot .good .sound .levels-low)
 
-    pub total-is : totalOf (levelWeightIn (plan .guides) cs row) (plan .levels) ≡ totalWeight (frameOf b) s t
+    pub total-is : totalOf (levelWeightIn (plan .guides) cs row) (plan .levels) ≡ totalWeight (frameWith b vs) s t
     total-is =
         sym (levels.cumulative-last _ (plan .levels) some) ∙ cumulative-is (plan .levels - 1) (omega (arith, some)) ∙ ap
-        (λ (l : ℕ). cumulative (frameOf b) s t (l - 1)) levels-eq ∙ cumulative-last spot
+        (λ (l : ℕ). cumulative (frameWith b vs) s t (l - 1)) levels-eq ∙ cumulative-last spot
 
-    pub balance-is : (c : ℕ) → c < plan .levels → balanceIn (sizesOf plan) cs row c ≡ balance (frameOf b) s t c
+    pub balance-is : (c : ℕ) → c < plan .levels → balanceIn (sizesOf plan) cs row c ≡ balance (frameWith b vs) s t c
     unfolding balanceOf balance
     balance-is c h = ap₂ (λ (u v : ℤ). pos 2 *ℤ u -ℤ v) (cumulative-is c h) total-is
 
-    pub median-is : medianIn (sizesOf plan) cs row ≡ median (frameOf b) s t
+    pub median-is : medianIn (sizesOf plan) cs row ≡ median (frameWith b vs) s t
     unfolding medianOf
     median-is =
-        let f = median-first (frameOf b) s t in
+        let f = median-first (frameWith b vs) s t in
         let same : (i : ℕ) → i < plan .levels →
         leZ (totalOf (levelWeightIn (plan .guides) cs row) (plan .levels)) (pos 2 *ℤ cumulativeOf (levelWeightIn (plan .guides) cs row) i) ≡
-        leZ (totalWeight (frameOf b) s t) (pos 2 *ℤ cumulative (frameOf b) s t i) =
+        leZ (totalWeight (frameWith b vs) s t) (pos 2 *ℤ cumulative (frameWith b vs) s t i) =
         λ i h. ap₂ (λ (u v : ℤ). leZ u (pos 2 *ℤ v)) total-is (cumulative-is i h) in
-        first-unique _ (plan .levels) (median (frameOf b) s t)
+        first-unique _ (plan .levels) (median (frameWith b vs) s t)
         (record {
           within = rw levels-eq (f .within);
-          passes = λ h. same (median (frameOf b) s t) h ∙ f .passes (rw levels-eq at h);
+          passes = λ h. same (median (frameWith b vs) s t) h ∙ f .passes (rw levels-eq at h);
           before = λ j h. same j (omega (arith, f .within, levels-eq)) ∙ f .before j h;
         })

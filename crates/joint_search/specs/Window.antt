@@ -6,8 +6,8 @@ use Prim.Native.Nat.{ℕ, _<_}
 use lib.IntN.{ℤ, pos}
 use lib.ListN.{getD, drop}
 use Rattle.spec.specs.declared.Plan.{Plan}
-use Rattle.spec.specs.Frame.{Frame, frameOf}
-use Rattle.spec.specs.Checks.{Planned}
+use Rattle.spec.specs.Frame.{Frame, frameWith}
+use Rattle.spec.specs.Checks.{Pictured}
 use Rattle.spec.specs.Weight.{ownWeight, weight}
 use Rattle.spec.specs.Joint.{jointCounts, occupancyWords}
 use Rattle.joint.specs.Window.{cellCount, wordCount}
@@ -18,12 +18,12 @@ abbrev pub sizesOf : Plan → Sizes
 sizesOf plan = record { levels = plan .levels; guides = plan .guides }
 
 -- a window of an accepted file, and the stores that hold it
-pub record Counted (b : List ℕ) (plan : Plan) (s t : ℕ) (cs ws : List ℕ) : Type 0 where
-  pub planned : Planned b plan
+pub record Counted (b vs : List ℕ) (plan : Plan) (s t : ℕ) (cs ws : List ℕ) : Type 0 where
+  pub pictured : Pictured b vs plan
   pub column : s < plan .width
   pub row : t < plan .height
-  pub counts : cs ≡ jointCounts (frameOf b) s t ++ drop (cellCount (frameOf b)) cs
-  pub words : ws ≡ occupancyWords (frameOf b) s t ++ drop (wordCount (frameOf b)) ws
+  pub counts : cs ≡ jointCounts (frameWith b vs) s t ++ drop (cellCount (frameWith b vs)) cs
+  pub words : ws ≡ occupancyWords (frameWith b vs) s t ++ drop (wordCount (frameWith b vs)) ws
 
 -- a row whose numbers are what m guides weigh
 pub record RowGives (weigh : ℕ → ℤ) (m : ℕ) (row : List ℕ) : Type 0 where

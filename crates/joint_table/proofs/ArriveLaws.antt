@@ -12,8 +12,8 @@ use borrow.Author.Tests.{eq-eqb, eqb-false}
 use Rattle.spec.specs.declared.Plan.{Plan}
 use Rattle.spec.specs.declared.Way.{Way}
 use Rattle.spec.specs.Base.{if_then_else_}
-use Rattle.spec.specs.Frame.{Frame, level, guide, noReading, pixelLevel, frameOf}
-use Rattle.spec.specs.Checks.{Planned}
+use Rattle.spec.specs.Frame.{Frame, level, guide, noReading, frameWith, valueOf}
+use Rattle.spec.specs.Checks.{Pictured}
 use Rattle.spec.specs.Window.{InWindow, empty}
 use Rattle.spec.specs.Weight.{monotone}
 use Rattle.spec.specs.Median.{median}
@@ -33,23 +33,23 @@ use Rattle.joint_answer.specs.Answer.{AnsweredBy}
 use Rattle.joint_table.specs.Arrive.{Arrives}
 
 -- every window of kind 1 is monotone, a hollow one too
-table-monotone : {b : List ℕ} {plan : Plan} → Planned b plan → (s t : ℕ) → plan .kind ≡ 1 → monotone (frameOf b) s t ≡ true
+table-monotone : {b vs : List ℕ} {plan : Plan} → Pictured b vs plan → (s t : ℕ) → plan .kind ≡ 1 → monotone (frameWith b vs) s t ≡ true
 unfolding monotone
-table-monotone {b} pl s t e = rw (eq-eqb (frameOf b .set .kind) 1 (kind-of pl e)) refl
+table-monotone {b} {vs} pl s t e = rw (eq-eqb (frameWith b vs .set .kind) 1 (kind-of pl e)) refl
 
-pub arrives-of : {b : List ℕ} {plan : Plan} {s t : ℕ} {cs ws row : List ℕ} → Counted b plan s t cs ws → empty (frameOf b) s t ≡ false
-    → RowWeighs (frameOf b) s t row → plan .kind ≡ 1 → (way : Way) {c n : ℕ} {r : SearchEnd} {bx : List ℤ}
+pub arrives-of : {b vs : List ℕ} {plan : Plan} {s t : ℕ} {cs ws row : List ℕ} → Counted b vs plan s t cs ws → empty (frameWith b vs) s t ≡ false
+    → RowWeighs (frameWith b vs) s t row → plan .kind ≡ 1 → (way : Way) {c n : ℕ} {r : SearchEnd} {bx : List ℤ}
     → AnsweredBy (byBlocks way) (sizesOf plan) cs row c n r bx
-    → Arrives way (frameOf b) s t c n r bx
-arrives-of {b} {plan} {s} {t} st read weighs one way {c} {n} {r} a =
-    let p = frameOf b in
+    → Arrives way (frameWith b vs) s t c n r bx
+arrives-of {b} {vs} {plan} {s} {t} st read weighs one way {c} {n} {r} a =
+    let p = frameWith b vs in
     let m = median p s t in
     let k : r .level .0 ≡ m = a .level ∙ median-is st weighs in
     record {
       level = k ∙ sym (arrive-cut way p s t c n ∙ cut-read p s t c read);
       shifts =
           a .shifts ∙ ap (λ (q : ℕ). n + shiftsTo (byBlocks way) q c) k
-          ∙ ap (λ (u : Bool). n + (if u then shiftsTo (byBlocks way) m c else m)) (sym (table-monotone (st .planned) s t one))
+          ∙ ap (λ (u : Bool). n + (if u then shiftsTo (byBlocks way) m c else m)) (sym (table-monotone (st .pictured) s t one))
           ∙ sym (arrive-shifts way p s t c n ∙ ap (λ (q : ℕ). n + q) (adds-read way p s t c read));
       box = box-at st (a .box) k (rw (levels-eq st) (median-low (spot st))) ∙ ap (balanceBox p s t) (sym k);
     }
@@ -64,25 +64,25 @@ not-true : (a : Bool) → not a ≡ true → a ≡ false
 not-true true e = absurd (true≢false (sym e))
 not-true false e = refl
 
-pub centre-some : {b : List ℕ} {plan : Plan} {s t : ℕ} {cs ws row : List ℕ} → Counted b plan s t cs ws → empty (frameOf b) s t ≡ false
-    → RowOwn (frameOf b) s t row → plan .kind ≡ 1 → {f : ℕ} → f ≡ guide (frameOf b) s t
-    → (not (eqb (getD row f 0) 0) && not (eqb (pixelLevel b (t * plan .width + s)) noReading)) ≡ true
+pub centre-some : {b vs : List ℕ} {plan : Plan} {s t : ℕ} {cs ws row : List ℕ} → Counted b vs plan s t cs ws → empty (frameWith b vs) s t ≡ false
+    → RowOwn (frameWith b vs) s t row → plan .kind ≡ 1 → {f : ℕ} → f ≡ guide (frameWith b vs) s t
+    → (not (eqb (getD row f 0) 0) && not (eqb (valueOf b vs (t * plan .width + s)) noReading)) ≡ true
     → weightlessIn (sizesOf plan) cs row ≡ false
-centre-some {b} {plan} {s} {t} {cs} {row = row} st read own one {f} ef e = go (weightlessIn (sizesOf plan) cs row) refl
+centre-some {b} {vs} {plan} {s} {t} {cs} {row = row} st read own one {f} ef e = go (weightlessIn (sizesOf plan) cs row) refl
   where
     p : Frame
-    p = frameOf b
+    p = frameWith b vs
 
     k : Pixel p s t
     k = spot st
 
-    tests : (not (eqb (getD row f 0) 0) ≡ true) × (not (eqb (pixelLevel b (t * plan .width + s)) noReading) ≡ true)
-    tests = both (not (eqb (getD row f 0) 0)) (not (eqb (pixelLevel b (t * plan .width + s)) noReading)) e
+    tests : (not (eqb (getD row f 0) 0) ≡ true) × (not (eqb (valueOf b vs (t * plan .width + s)) noReading) ≡ true)
+    tests = both (not (eqb (getD row f 0) 0)) (not (eqb (valueOf b vs (t * plan .width + s)) noReading)) e
 
     live : eqb (level p s t) noReading ≡ false
     live =
-        ap (λ (i : ℕ). eqb i noReading) (sym (facts (st .planned) .level-at s t))
-        ∙ not-true (eqb (pixelLevel b (t * plan .width + s)) noReading) (tests .1)
+        ap (λ (i : ℕ). eqb i noReading) (sym (facts (st .pictured) .level-at s t))
+        ∙ not-true (eqb (valueOf b vs (t * plan .width + s)) noReading) (tests .1)
 
     centre : InWindow p s t s t
     centre =
@@ -101,7 +101,7 @@ centre-some {b} {plan} {s} {t} {cs} {row = row} st read own one {f} ef e = go (w
 
     zero : weightlessIn (sizesOf plan) cs row ≡ true → getD row f 0 ≡ 0
     zero d =
-        let none = weightless-zero p s t (table-light p s t (kind-of (st .planned) one)) (sym (weightless-is st read own) ∙ d) s t centre in
+        let none = weightless-zero p s t (table-light p s t (kind-of (st .pictured) one)) (sym (weightless-is st read own) ∙ d) s t centre in
         ap (λ (q : ℕ). getD row q 0) ef ∙ ap natAbs (sym (own .is (guide p s t) low) ∙ none)
 
     go : (v : Bool) → weightlessIn (sizesOf plan) cs row ≡ v → v ≡ false

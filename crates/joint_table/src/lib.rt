@@ -1,5 +1,6 @@
 // Ways 1 and 4, joint and coarse, in kind 1: a window's part in a walk, its stores and its box being made. The built-in weights are above 0, so that
-// only a file's own can leave a window without weight (document 01: hollow).
+// only a file's own can leave a window without weight (document 01: hollow). A plane given in place of the file's values has them; an empty one is
+// none.
 use chain_nodes::FreeList;
 use joint_answer as search;
 use joint_rows::rows;
@@ -18,8 +19,8 @@ ghost use mathlib.Core.Path.{_≡_};
 ghost use mathlib.Core.Bool.{false, not, _&&_};
 ghost use Prim.Native.Nat.{_*_, _<_, _≤_};
 ghost use lib.Dec.{eqb};
-ghost use Rattle.spec.specs.Frame.{noReading, pixelLevel, frameOf};
-ghost use Rattle.spec.specs.Checks.{Planned};
+ghost use Rattle.spec.specs.Frame.{noReading, frameWith, valueOf};
+ghost use Rattle.spec.specs.Checks.{Pictured};
 ghost use Rattle.spec.specs.Window.{pixelCount, empty};
 ghost use Rattle.spec.specs.Joint.{balanceBox};
 ghost use Rattle.spec.specs.Walk.{arrive};
@@ -30,20 +31,21 @@ ghost use Rattle.joint_table.specs.Arrive.{Arrives};
 
 // Whether the centre, which is the pixel at a place of the planes, is one of the window's pixels and weighs something: a dead one does not, whatever
 // its weight.
-pub fn centre_weighs(file: &[u8], plan: Plan, place: usize, weight: u16) -> bool
-    requires { ⌜ (Planned (now file) plan) × (place < plan .width * plan .height) ⌝ }
-    ensures { λ r. ⌜ r ≡ (not (eqb weight 0) && not (eqb (pixelLevel (now (file .entry)) place) noReading)) ⌝ }
+pub fn centre_weighs(file: &[u8], plane: &[u16], plan: Plan, place: usize, weight: u16) -> bool
+    requires { ⌜ (Pictured (now file) (now plane) plan) × (place < plan .width * plan .height) ⌝ }
+    ensures { λ r. ⌜ r ≡ (not (eqb weight 0) && not (eqb (valueOf (now (file .entry)) (now (plane .entry)) place) noReading)) ⌝ }
 {
     if weight == 0 {
         return false;
     }
-    pixel::value_at(file, plan, place) != NO_READING
+    pixel::value_in(file, plane, plan, place) != NO_READING
 }
 
 // A window with a reading, by the row of the centre's guide: a part of the built-in weights, or the file's own. In most tables the centre weighs
 // something for itself, and then the window is not hollow.
 pub fn arrive(
     file: &[u8],
+    plane: &[u16],
     plan: Plan,
     way: Way,
     weights: &[u16],
@@ -55,10 +57,11 @@ pub fn arrive(
     counts: &[u16],
     words: &[u64],
 ) -> SearchEnd
-    requires { ⌜ (Counted (now file) plan s t (now counts) (now words)) × (WeightRows plan (now weights)) × (plan .kind ≡ 1)
-        × (empty (frameOf (now file)) s t ≡ false) ⌝ }
-    requires { ⌜ (cut .0 < plan .levels) × (shifts < 1099511627776) × (now «balance_box» ≡ balanceBox (frameOf (now file)) s t (cut .0)) ⌝ }
-    ensures { λ r. ⌜ Arrives way (frameOf (now (file .entry))) s t (cut .0) shifts r (now («balance_box» .exit)) ⌝ }
+    requires { ⌜ (Counted (now file) (now plane) plan s t (now counts) (now words)) × (WeightRows plan (now weights)) × (plan .kind ≡ 1)
+        × (empty (frameWith (now file) (now plane)) s t ≡ false) ⌝ }
+    requires { ⌜ (cut .0 < plan .levels) × (shifts < 1099511627776)
+        × (now «balance_box» ≡ balanceBox (frameWith (now file) (now plane)) s t (cut .0)) ⌝ }
+    ensures { λ r. ⌜ Arrives way (frameWith (now (file .entry)) (now (plane .entry))) s t (cut .0) shifts r (now («balance_box» .exit)) ⌝ }
 {
     let sizes = Sizes {
         levels: plan.levels,
@@ -82,7 +85,7 @@ pub fn arrive(
     }
     let mut row = [0u16; 256];
     rows::own_row(file, plan, centre, &mut row);
-    let weighs = centre_weighs(file, plan, place, row[centre.0 as usize]);
+    let weighs = centre_weighs(file, plane, plan, place, row[centre.0 as usize]);
     search::ones_if_hollow(sizes, weighs, cut, counts, words, &mut row);
     search::arrive(sizes, &row, way, cut, shifts, balance_box, counts, words)
 }
@@ -90,6 +93,7 @@ pub fn arrive(
 // The visit of a window of so many pixels: one of none has no reading. Nothing else runs along.
 pub fn visit(
     file: &[u8],
+    plane: &[u16],
     plan: Plan,
     way: Way,
     weights: &[u16],
@@ -102,12 +106,12 @@ pub fn visit(
     counts: &[u16],
     words: &[u64],
 ) -> Visit
-    requires { ⌜ (Counted (now file) plan column row (now counts) (now words)) × (WeightRows plan (now weights)) × (plan .kind ≡ 1)
-        × (count ≡ pixelCount (frameOf (now file)) column row) ⌝ }
+    requires { ⌜ (Counted (now file) (now plane) plan column row (now counts) (now words)) × (WeightRows plan (now weights)) × (plan .kind ≡ 1)
+        × (count ≡ pixelCount (frameWith (now file) (now plane)) column row) ⌝ }
     requires { ⌜ (cut .0 < plan .levels) × (shifts ≤ 4294967296)
-        × (now «balance_box» ≡ balanceBox (frameOf (now file)) column row (cut .0)) ⌝ }
-    ensures { λ r. ⌜ (stateOf way r ≡ arrive way (frameOf (now (file .entry))) column row (cut .0) shifts)
-        × (now («balance_box» .exit) ≡ balanceBox (frameOf (now (file .entry))) column row (r .cut .0))
+        × (now «balance_box» ≡ balanceBox (frameWith (now file) (now plane)) column row (cut .0)) ⌝ }
+    ensures { λ r. ⌜ (stateOf way r ≡ arrive way (frameWith (now (file .entry)) (now (plane .entry))) column row (cut .0) shifts)
+        × (now («balance_box» .exit) ≡ balanceBox (frameWith (now (file .entry)) (now (plane .entry))) column row (r .cut .0))
         × (r .running .sums .count ≡ count) ⌝ }
 {
     let sums = Sums {
@@ -123,6 +127,7 @@ pub fn visit(
     let running = Running { sums, below, free };
     let r = arrive(
         file,
+        plane,
         plan,
         way,
         weights,

@@ -3,10 +3,11 @@
 use mathlib.Core.Path.{_≡_}
 use mathlib.Core.Bool.{Bool}
 use mathlib.Core.Logic.{_⊎_}
-use mathlib.Core.List.{List}
+use mathlib.Core.List.{List, []}
 use Prim.Native.Nat.{ℕ}
 use lib.Dec.{eqb}
 use lib.IntN.{ℤ}
+use Rattle.spec.specs.declared.Plan.{Plan}
 use Rattle.spec.specs.declared.Way.{Way}
 use Rattle.spec.specs.declared.Way.the-variants.{Joint, Coarse}
 use Rattle.spec.specs.Base.{if_then_else_}
@@ -23,6 +24,10 @@ use Rattle.visit.specs.Visit.{stateOf}
 -- ways 1 and 4
 abbrev pub JointWay : Way → Type 0
 JointWay way = (way ≡ Joint) ⊎ (way ≡ Coarse)
+
+-- a plane given in place of the file's values is for kind 1 alone
+abbrev pub PlaneServes : Plan → List ℕ → Type 0
+PlaneServes plan values = plan .kind ≡ 2 → values ≡ []
 
 -- the level that the box is kept at, with the walk's cut point c
 unfoldable pub boxCut : Bool → ℕ → ℕ → ℕ

@@ -1,6 +1,6 @@
 // Ways 1 and 4, joint and coarse, at a window of a walk: the stores made or moved, its answer, the cut point moved to it, and the shifts counted.
-// The walk lends file, rows, box, stores and histogram, and hands the visit on. Way 4's box is the walk's own: kind 1 searches by it, and in kind 2,
-// which has no use for it, it stays at level 0.
+// The walk lends file, rows, box, stores and histogram, and hands the visit on; in kind 1 also a plane in place of the file's values, or an empty one
+// for none. Way 4's box is the walk's own: kind 1 searches by it, and in kind 2, which has no use for it, it stays at level 0.
 use joint::list;
 use joint::start as store_start;
 use pixels::sums;
@@ -11,14 +11,14 @@ use spec::by_blocks;
 use visit::Visit;
 use window::line;
 ghost use mathlib.Core.Path.{_≡_};
-ghost use Rattle.spec.specs.Frame.{frameOf};
+ghost use Rattle.spec.specs.Frame.{frameWith};
 ghost use Rattle.spec.specs.Walk.{byBlocks, arrive};
 ghost use Rattle.window.specs.Line.{Adjacent};
 ghost use Rattle.joint.specs.Window.{Fresh, Held};
 ghost use Rattle.histogram.specs.Histogram.{Blank};
 ghost use Rattle.joint_rows.specs.Rows.{WeightRows};
 ghost use Rattle.visit.specs.Visit.{Within};
-ghost use Rattle.joint_visit.specs.Visit.{boxCut, JointWay, JointCarried, JointVisited};
+ghost use Rattle.joint_visit.specs.Visit.{PlaneServes, boxCut, JointWay, JointCarried, JointVisited};
 
 // The level that the box is kept at, with the walk's cut point.
 pub fn box_cut(blocks: bool, kind: usize, cut: Level) -> Level
@@ -36,6 +36,7 @@ pub fn box_cut(blocks: bool, kind: usize, cut: Level) -> Level
 // A walk comes to its first window, whatever the stores and the box held.
 pub fn enter(
     file: &[u8],
+    plane: &[u16],
     plan: Plan,
     way: Way,
     weights: &[u16],
@@ -46,14 +47,16 @@ pub fn enter(
     words: &mut [u64],
     histogram: &mut [u32],
 ) -> Visit
-    requires { ⌜ (Fresh (now file) plan column row (now counts) (now words)) × (Blank (plan .levels) (now histogram)) ⌝ }
-    requires { ⌜ (WeightRows plan (now weights)) × (JointWay way) ⌝ }
-    ensures { λ r. ⌜ JointVisited way (frameOf (now (file .entry))) (arrive way (frameOf (now (file .entry))) column row 0 0) r
+    requires { ⌜ (Fresh (now file) (now plane) plan column row (now counts) (now words)) × (Blank (plan .levels) (now histogram)) ⌝ }
+    requires { ⌜ (WeightRows plan (now weights)) × (JointWay way) × (PlaneServes plan (now plane)) ⌝ }
+    ensures { λ r. ⌜ JointVisited way (frameWith (now (file .entry)) (now (plane .entry)))
+        (arrive way (frameWith (now (file .entry)) (now (plane .entry))) column row 0 0) r
         (now (counts .entry)) (now (words .entry)) (now (counts .exit)) (now (words .exit))
         (now («balance_box» .exit)) (now (histogram .exit)) ⌝ }
 {
     store_start::build(
         file,
+        plane,
         plan,
         column,
         row,
@@ -80,6 +83,7 @@ pub fn enter(
     let a = sums::start(file, plan, column, row);
     joint_table::visit(
         file,
+        plane,
         plan,
         way,
         weights,
@@ -97,6 +101,7 @@ pub fn enter(
 // It goes on to the neighbouring window at (column, row).
 pub fn slide(
     file: &[u8],
+    plane: &[u16],
     plan: Plan,
     way: Way,
     weights: &[u16],
@@ -108,20 +113,20 @@ pub fn slide(
     words: &mut [u64],
     histogram: &mut [u32],
 ) -> Visit
-    requires { ⌜ (Held (now file) plan (from .column) (from .row) (boxCut (byBlocks way) (plan .kind) (from .cut .0))
+    requires { ⌜ (Held (now file) (now plane) plan (from .column) (from .row) (boxCut (byBlocks way) (plan .kind) (from .cut .0))
         (now counts) (now words) (now «balance_box»)) × (Adjacent plan (from .column) (from .row) column row)
-        × (JointCarried (frameOf (now file)) (from .column) (from .row) (from .cut .0) (from .running .sums) (from .running .below)
+        × (JointCarried (frameWith (now file) (now plane)) (from .column) (from .row) (from .cut .0) (from .running .sums) (from .running .below)
         (now histogram)) ⌝ }
-    requires { ⌜ (WeightRows plan (now weights)) × (Within plan from) × (JointWay way) ⌝ }
-    ensures { λ r. ⌜ JointVisited way (frameOf (now (file .entry)))
-        (arrive way (frameOf (now (file .entry))) column row (from .cut .0) (from .shifts)) r
+    requires { ⌜ (WeightRows plan (now weights)) × (Within plan from) × (JointWay way) × (PlaneServes plan (now plane)) ⌝ }
+    ensures { λ r. ⌜ JointVisited way (frameWith (now (file .entry)) (now (plane .entry)))
+        (arrive way (frameWith (now (file .entry)) (now (plane .entry))) column row (from .cut .0) (from .shifts)) r
         (now (counts .entry)) (now (words .entry)) (now (counts .exit)) (now (words .exit)) (now («balance_box» .exit)) (now (histogram .exit)) ⌝ }
 {
     let step = line::step_to(plan, from.column, from.row, column, row);
     let mut entering = [0u16; 62];
     let mut leaving = [0u16; 62];
-    let n = pixels::read(file, plan, step.entering, &mut entering);
-    let k = pixels::read(file, plan, step.leaving, &mut leaving);
+    let n = pixels::read_in(file, plane, plan, step.entering, &mut entering);
+    let k = pixels::read_in(file, plane, plan, step.leaving, &mut leaving);
     let blocks = by_blocks(way);
     let cut = from.cut;
     let kept = box_cut(blocks, plan.kind, cut);
@@ -174,6 +179,7 @@ pub fn slide(
     let count = former.count + n / 2 - k / 2;
     joint_table::visit(
         file,
+        plane,
         plan,
         way,
         weights,

@@ -9,8 +9,8 @@ use lib.Dec.{ltb}
 use Rattle.spec.specs.declared.Plan.{Plan}
 use Rattle.spec.specs.Base.{if_then_else_}
 use lib.ListN.{length}
-use Rattle.spec.specs.Frame.{Frame, frameOf}
-use Rattle.spec.specs.Checks.{Planned}
+use Rattle.spec.specs.Frame.{Frame, frameWith}
+use Rattle.spec.specs.Checks.{Pictured}
 use Rattle.spec.proofs.Limits.{Pixel}
 use Rattle.spec.proofs.Bounds.{if-high}
 use Rattle.spec.proofs.Plans.{pixel-of}
@@ -56,8 +56,9 @@ module _ {p : List ℕ} (v : PixelsBelow 1024 256 p) (n : ℕ) {k : ℕ} (h : k 
   }
 
 -- ---- a step of the window
-module _ {b : List ℕ} {z : Plan} (pl : Planned b z) {s t s′ t′ : ℕ} (adj : Adjacent z s t s′ t′) {d : Step} (ed : d ≡ stepOf z s t s′ t′)
-    {e l : List ℕ} (re : LinePixels b z (d .entering) e) (rl : LinePixels b z (d .leaving) l) {n : ℕ} {a : Tally} (v : BelowAt (frameOf b) s t n a)
+module _ {b vs : List ℕ} {z : Plan} (pl : Pictured b vs z) {s t s′ t′ : ℕ} (adj : Adjacent z s t s′ t′) {d : Step} (ed : d ≡ stepOf z s t s′ t′)
+    {e l : List ℕ} (re : LinePixels b vs z (d .entering) e) (rl : LinePixels b vs z (d .leaving) l) {n : ℕ} {a : Tally}
+    (v : BelowAt (frameWith b vs) s t n a)
   where
     pub carriable : Carriable e l n a
     unfolding belowSum
@@ -70,14 +71,14 @@ module _ {b : List ℕ} {z : Plan} (pl : Planned b z) {s t s′ t′ : ℕ} (adj
           sum-enough = omega (arith, stepped (λ (h : ℕ → ℕ → ℕ). h) pl adj ed re rl (guideBelow n), v .sum);
         }
 
-    pub carried-below : {r : Tally} → CarriedBy e l n a r → BelowAt (frameOf b) s′ t′ n r
+    pub carried-below : {r : Tally} → CarriedBy e l n a r → BelowAt (frameWith b vs) s′ t′ n r
     unfolding belowSum
     carried-below m = record {
       count = omega (arith, stepped (λ (h : ℕ → ℕ → ℕ). h) pl adj ed re rl (oneBelow n), v .count, m .count);
       sum = omega (arith, stepped (λ (h : ℕ → ℕ → ℕ). h) pl adj ed re rl (guideBelow n), v .sum, m .sum);
     }
 
-    pub carries-step : Carries (frameOf b) e l s′ t′ n a
+    pub carries-step : Carries (frameWith b vs) e l s′ t′ n a
     carries-step =
         record { entering = below-most pl (re .below); leaving = below-most pl (rl .below); carriable = carriable; carried = λ r m. carried-below m }
 

@@ -12,8 +12,8 @@ use Rattle.ints.specs.Bound.{abs-add, abs-sub-le}
 use Rattle.ints.specs.Polynomial.{_⊕_, _⊖_, _≐_, solve2, solve3}
 use Rattle.spec.specs.declared.Plan.{Plan}
 use Rattle.spec.specs.Base.{fold}
-use Rattle.spec.specs.Frame.{level, guide, frameOf}
-use Rattle.spec.specs.Checks.{Planned}
+use Rattle.spec.specs.Frame.{level, guide, frameWith}
+use Rattle.spec.specs.Checks.{Pictured}
 use Rattle.spec.specs.Window.{span, over}
 use Rattle.spec.proofs.Ranges.{AdditionLaws, natSums, intSums}
 use Rattle.spec.proofs.Sums.{sum-abs, sum-const}
@@ -99,20 +99,20 @@ module _ {A : Type 0} (_⊕_ : A → A → A) (o : A) (p : List ℕ) (h : ℕ �
   pixels-more k = ap (pixelFoldTo _⊕_ o p h) (add-one k) ∙ pixels-next k
 
 -- ---- column by column, for any operation
-module _ {A : Type 0} (_⊕_ : A → A → A) (o : A) (b : List ℕ) (z : Plan) (x t : ℕ) (h : ℕ → ℕ → A) where
+module _ {A : Type 0} (_⊕_ : A → A → A) (o : A) (b vs : List ℕ) (z : Plan) (x t : ℕ) (h : ℕ → ℕ → A) where
   infixl 6 _⊕_
-  pub columns-none : columnsFold _⊕_ o b z x t h 0 ≡ o
+  pub columns-none : columnsFold _⊕_ o b vs z x t h 0 ≡ o
   columns-none = fold-none _⊕_ o _ x
 
   -- a column that was read into the list p
-  pub columns-more : (n : ℕ) (p : List ℕ) {d : Line} → d ≡ columnLine z (x + n) t → pixelFold _⊕_ o p h ≡ lineFold _⊕_ o b d h
-      → columnsFold _⊕_ o b z x t h (n + 1) ≡ columnsFold _⊕_ o b z x t h n ⊕ pixelFold _⊕_ o p h
+  pub columns-more : (n : ℕ) (p : List ℕ) {d : Line} → d ≡ columnLine z (x + n) t → pixelFold _⊕_ o p h ≡ lineFold _⊕_ o b vs d h
+      → columnsFold _⊕_ o b vs z x t h (n + 1) ≡ columnsFold _⊕_ o b vs z x t h n ⊕ pixelFold _⊕_ o p h
   columns-more n p ed e =
-      fold-more _⊕_ o _ x n ∙ ap (λ (q : A). columnsFold _⊕_ o b z x t h n ⊕ q) (sym (e ∙ ap (λ (y : Line). lineFold _⊕_ o b y h) ed))
+      fold-more _⊕_ o _ x n ∙ ap (λ (q : A). columnsFold _⊕_ o b vs z x t h n ⊕ q) (sym (e ∙ ap (λ (y : Line). lineFold _⊕_ o b vs y h) ed))
 
   -- the window's columns are the window
-  pub columns-window : Planned b z → (s : ℕ) {n : ℕ} → x ≡ s - z .radius → n ≡ span (z .radius) s (z .width)
-      → columnsFold _⊕_ o b z x t h n ≡ over _⊕_ o (frameOf b) s t (λ x y. h (level (frameOf b) x y) (guide (frameOf b) x y))
+  pub columns-window : Pictured b vs z → (s : ℕ) {n : ℕ} → x ≡ s - z .radius → n ≡ span (z .radius) s (z .width)
+      → columnsFold _⊕_ o b vs z x t h n ≡ over _⊕_ o (frameWith b vs) s t (λ x y. h (level (frameWith b vs) x y) (guide (frameWith b vs) x y))
   columns-window pl s ex en = rw (ex, en) (sym (columns-law _⊕_ o pl h s t))
 
 -- ---- for plain sums
@@ -153,21 +153,22 @@ module _ {A : Type 0} {_⊕_ : A → A → A} {o : A} {change : Bool → A → A
   }
 
   -- ---- a step of the window, whose lines were read into the lists e and l
-  module _ {b : List ℕ} {z : Plan} (pl : Planned b z) {s t s′ t′ : ℕ} (adj : Adjacent z s t s′ t′) {d : Step} (ed : d ≡ stepOf z s t s′ t′)
+  module _ {b vs : List ℕ} {z : Plan} (pl : Pictured b vs z) {s t s′ t′ : ℕ} (adj : Adjacent z s t s′ t′) {d : Step} (ed : d ≡ stepOf z s t s′ t′)
       (e l : List ℕ)
-      (re : (h : ℕ → ℕ → A) → pixelFold _⊕_ o e h ≡ lineFold _⊕_ o b (d .entering) h) (rl : (h : ℕ → ℕ → A) →
-      pixelFold _⊕_ o l h ≡ lineFold _⊕_ o b (d .leaving) h) where
+      (re : (h : ℕ → ℕ → A) → pixelFold _⊕_ o e h ≡ lineFold _⊕_ o b vs (d .entering) h) (rl : (h : ℕ → ℕ → A) →
+      pixelFold _⊕_ o l h ≡ lineFold _⊕_ o b vs (d .leaving) h) where
     pub window-step : (q : Q) →
-        windowSum _⊕_ o share (frameOf b) s′ t′ q ⊕ pixelFold _⊕_ o l (share q) ≡ windowSum _⊕_ o share (frameOf b) s t q ⊕ pixelFold _⊕_ o e
+        windowSum _⊕_ o share (frameWith b vs) s′ t′ q ⊕ pixelFold _⊕_ o l (share q)
+        ≡ windowSum _⊕_ o share (frameWith b vs) s t q ⊕ pixelFold _⊕_ o e
         (share q)
     window-step q =
-        ap (λ (y : A). windowSum _⊕_ o share (frameOf b) s′ t′ q ⊕ y) (rl (share q))
+        ap (λ (y : A). windowSum _⊕_ o share (frameWith b vs) s′ t′ q ⊕ y) (rl (share q))
         ∙ (rw ed (step-law _⊕_ o pl (share q) (laws .sums) adj))
-        ∙ ap (λ (y : A). windowSum _⊕_ o share (frameOf b) s t q ⊕ y) (sym (re (share q)))
+        ∙ ap (λ (y : A). windowSum _⊕_ o share (frameWith b vs) s t q ⊕ y) (sym (re (share q)))
 
     -- a number that was the old window's is the new one's
-    pub slid : {c c′ : Q → A} → Exchanged _⊕_ o share e l c c′ → (q : Q) → c q ≡ windowSum _⊕_ o share (frameOf b) s t q →
-        c′ q ≡ windowSum _⊕_ o share (frameOf b) s′ t′ q
+    pub slid : {c c′ : Q → A} → Exchanged _⊕_ o share e l c c′ → (q : Q) → c q ≡ windowSum _⊕_ o share (frameWith b vs) s t q →
+        c′ q ≡ windowSum _⊕_ o share (frameWith b vs) s′ t′ q
     slid x q here =
         laws .cancel _ _ (pixelFold _⊕_ o l (share q)) (x .cells q ∙ ap (λ (y : A). y ⊕ pixelFold _⊕_ o e (share q)) here ∙ sym (window-step q))
 
@@ -191,15 +192,16 @@ module _ {Q : Type 0} (share : Q → ℕ → ℕ → ℕ) where
     unfolding changed
     exchanged o = record { cells = λ q. omega (arith, o .cells q, g .cells q, x .there q) }
 
-  module _ {b : List ℕ} {z : Plan} (pl : Planned b z) {s t s′ t′ : ℕ} (adj : Adjacent z s t s′ t′) {d : Step} (ed : d ≡ stepOf z s t s′ t′)
-      {e l : List ℕ} (re : LinePixels b z (d .entering) e) (rl : LinePixels b z (d .leaving) l) where
+  module _ {b vs : List ℕ} {z : Plan} (pl : Pictured b vs z) {s t s′ t′ : ℕ} (adj : Adjacent z s t s′ t′) {d : Step} (ed : d ≡ stepOf z s t s′ t′)
+      {e l : List ℕ} (re : LinePixels b vs z (d .entering) e) (rl : LinePixels b vs z (d .leaving) l) where
     pub stepped : (q : Q) →
-        windowSum _+_ 0 share (frameOf b) s′ t′ q + pixelFold _+_ 0 l (share q) ≡ windowSum _+_ 0 share (frameOf b) s t q + pixelFold _+_ 0 e
+        windowSum _+_ 0 share (frameWith b vs) s′ t′ q + pixelFold _+_ 0 l (share q)
+        ≡ windowSum _+_ 0 share (frameWith b vs) s t q + pixelFold _+_ 0 e
         (share q)
     stepped = window-step naturals share pl adj ed e l (re .sum) (rl .sum)
 
     -- what leaves is there
-    pub leaving-there : {c : Q → ℕ} → ((q : Q) → c q ≡ windowSum _+_ 0 share (frameOf b) s t q) → (q : Q) →
+    pub leaving-there : {c : Q → ℕ} → ((q : Q) → c q ≡ windowSum _+_ 0 share (frameWith b vs) s t q) → (q : Q) →
         pixelFold _+_ 0 l (share q) ≤ c q + pixelFold _+_ 0 e (share q)
     leaving-there here q = omega (arith, here q, stepped q)
 

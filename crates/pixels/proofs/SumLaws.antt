@@ -6,8 +6,8 @@ use Prim.Native.Nat.{ℕ, _+_, _-_, _*_, _≤_, _<_}
 use native.Mathlib.Nat.{mul-le-mul, le-trans, le-of-eq}
 use native.Mathlib.Omega.{arith}
 use Rattle.spec.specs.declared.Plan.{Plan}
-use Rattle.spec.specs.Frame.{frameOf}
-use Rattle.spec.specs.Checks.{Planned}
+use Rattle.spec.specs.Frame.{frameWith}
+use Rattle.spec.specs.Checks.{Pictured}
 use Rattle.spec.specs.Window.{span, pixelCount, guideSum, squareSum}
 use Rattle.spec.proofs.Plans.{pixel-of}
 use Rattle.spec.proofs.Bounds.{pixelCount-high, guideSum-high, squareSum-high}
@@ -26,7 +26,7 @@ abbrev sums : ℕ → ℕ → ℕ → Sums
 sums n s q = record { count = n; sum = s; squares = q }
 
 -- a plan's pixels are below every limit
-pub below-most : {b : List ℕ} {z : Plan} {p : List ℕ} → Planned b z → PixelsBelow (z .levels) (z .guides) p → PixelsBelow 1024 256 p
+pub below-most : {b vs : List ℕ} {z : Plan} {p : List ℕ} → Pictured b vs z → PixelsBelow (z .levels) (z .guides) p → PixelsBelow 1024 256 p
 below-most pl v = record {
   few = v .few;
   level = λ k h. omega (arith, v .level k h, levels-high pl);
@@ -59,36 +59,36 @@ module _ {p : List ℕ} (v : PixelsBelow 1024 256 p) {k : ℕ} (h : k < countOf 
   }
 
 -- ---- column by column
-pub columns-start : (b : List ℕ) (z : Plan) (x t : ℕ) → ColumnSums b z x t 0 (sums 0 0 0)
-columns-start b z x t = record {
-  count = sym (columns-none _+_ 0 b z x t one);
-  sum = sym (columns-none _+_ 0 b z x t itself);
-  squares = sym (columns-none _+_ 0 b z x t squared);
+pub columns-start : (b vs : List ℕ) (z : Plan) (x t : ℕ) → ColumnSums b vs z x t 0 (sums 0 0 0)
+columns-start b vs z x t = record {
+  count = sym (columns-none _+_ 0 b vs z x t one);
+  sum = sym (columns-none _+_ 0 b vs z x t itself);
+  squares = sym (columns-none _+_ 0 b vs z x t squared);
   count-high = omega arith;
   sum-high = omega arith;
   squares-high = omega arith;
 }
 
-module _ {b : List ℕ} {z : Plan} {x t : ℕ} where
-  pub columns-next : {k n u q : ℕ} {d : Line} {p : List ℕ} {a : Sums} → ColumnSums b z x t k (sums n u q) → d ≡ columnLine z (x + k) t →
-      LinePixels b z d p → ListSums p (countOf p) a
-      → ColumnSums b z x t (k + 1) (sums (n + a .count) (u + a .sum) (q + a .squares))
+module _ {b vs : List ℕ} {z : Plan} {x t : ℕ} where
+  pub columns-next : {k n u q : ℕ} {d : Line} {p : List ℕ} {a : Sums} → ColumnSums b vs z x t k (sums n u q) → d ≡ columnLine z (x + k) t →
+      LinePixels b vs z d p → ListSums p (countOf p) a
+      → ColumnSums b vs z x t (k + 1) (sums (n + a .count) (u + a .sum) (q + a .squares))
   columns-next {k} {p = p} v ed r l = record {
-    count = ap₂ _+_ (v .count) (l .count) ∙ sym (columns-more _+_ 0 b z x t one k p ed (r .sum one));
-    sum = ap₂ _+_ (v .sum) (l .sum) ∙ sym (columns-more _+_ 0 b z x t itself k p ed (r .sum itself));
-    squares = ap₂ _+_ (v .squares) (l .squares) ∙ sym (columns-more _+_ 0 b z x t squared k p ed (r .sum squared));
+    count = ap₂ _+_ (v .count) (l .count) ∙ sym (columns-more _+_ 0 b vs z x t one k p ed (r .sum one));
+    sum = ap₂ _+_ (v .sum) (l .sum) ∙ sym (columns-more _+_ 0 b vs z x t itself k p ed (r .sum itself));
+    squares = ap₂ _+_ (v .squares) (l .squares) ∙ sym (columns-more _+_ 0 b vs z x t squared k p ed (r .sum squared));
     count-high = omega (arith, v .count-high, l .count-high, r .below .few);
     sum-high = omega (arith, v .sum-high, l .sum-high, r .below .few);
     squares-high = omega (arith, v .squares-high, l .squares-high, r .below .few);
   }
 
-  pub columns-end : Planned b z → (s : ℕ) {n : ℕ} {a : Sums} → x ≡ s - z .radius → n ≡ span (z .radius) s (z .width) → ColumnSums b z x t n a →
-      SumsAt (frameOf b) s t a
+  pub columns-end : Pictured b vs z → (s : ℕ) {n : ℕ} {a : Sums} → x ≡ s - z .radius → n ≡ span (z .radius) s (z .width) → ColumnSums b vs z x t n a →
+      SumsAt (frameWith b vs) s t a
   unfolding pixelCount guideSum squareSum
   columns-end pl s ex en v = record {
-    count = v .count ∙ columns-window _+_ 0 b z x t one pl s ex en;
-    sum = v .sum ∙ columns-window _+_ 0 b z x t itself pl s ex en;
-    squares = v .squares ∙ columns-window _+_ 0 b z x t squared pl s ex en;
+    count = v .count ∙ columns-window _+_ 0 b vs z x t one pl s ex en;
+    sum = v .sum ∙ columns-window _+_ 0 b vs z x t itself pl s ex en;
+    squares = v .squares ∙ columns-window _+_ 0 b vs z x t squared pl s ex en;
   }
 
 -- ---- one list in, another out
@@ -101,8 +101,9 @@ exchanged m l e = record {
 }
 
 -- ---- a step of the window
-module _ {b : List ℕ} {z : Plan} (pl : Planned b z) {s t s′ t′ : ℕ} (adj : Adjacent z s t s′ t′) {d : Step} (ed : d ≡ stepOf z s t s′ t′)
-    {e l : List ℕ} (re : LinePixels b z (d .entering) e) (rl : LinePixels b z (d .leaving) l) {a : Sums} (v : SumsAt (frameOf b) s t a) where
+module _ {b vs : List ℕ} {z : Plan} (pl : Pictured b vs z) {s t s′ t′ : ℕ} (adj : Adjacent z s t s′ t′) {d : Step} (ed : d ≡ stepOf z s t s′ t′)
+    {e l : List ℕ} (re : LinePixels b vs z (d .entering) e) (rl : LinePixels b vs z (d .leaving) l) {a : Sums}
+    (v : SumsAt (frameWith b vs) s t a) where
   pub movable : MovableByLists e l a
   unfolding pixelCount guideSum squareSum
   movable =
@@ -116,7 +117,7 @@ module _ {b : List ℕ} {z : Plan} (pl : Planned b z) {s t s′ t′ : ℕ} (adj
         squares-enough = omega (arith, stepped (λ (g : ℕ → ℕ → ℕ). g) pl adj ed re rl squared, v .squares);
       }
 
-  pub sums-moved : {r : Sums} → MovedByLists e l a r → SumsAt (frameOf b) s′ t′ r
+  pub sums-moved : {r : Sums} → MovedByLists e l a r → SumsAt (frameWith b vs) s′ t′ r
   unfolding pixelCount guideSum squareSum
   sums-moved m = record {
     count = omega (arith, stepped (λ (g : ℕ → ℕ → ℕ). g) pl adj ed re rl one, v .count, m .count);

@@ -29,8 +29,8 @@ module _ {A : Type 0} (_⊕_ : A → A → A) (e : A) where
   pixelFold p h = pixelFoldTo p h (countOf p)
 
   -- the sum of h over n columns from column x of the windows of row t
-  abbrev pub columnsFold : List ℕ → Plan → ℕ → ℕ → (ℕ → ℕ → A) → ℕ → A
-  columnsFold b z x t h n = fold _⊕_ e (λ a. lineFold _⊕_ e b (columnLine z a t) h) x n
+  abbrev pub columnsFold : (file plane : List ℕ) → Plan → ℕ → ℕ → (ℕ → ℕ → A) → ℕ → A
+  columnsFold b vs z x t h n = fold _⊕_ e (λ a. lineFold _⊕_ e b vs (columnLine z a t) h) x n
 
 -- few pixels, of l levels and m guides
 pub record PixelsBelow (l m : ℕ) (p : List ℕ) : Type 0 where
@@ -38,8 +38,9 @@ pub record PixelsBelow (l m : ℕ) (p : List ℕ) : Type 0 where
   pub level : (k : ℕ) → k < countOf p → levelIn p k < l
   pub guide : (k : ℕ) → k < countOf p → guideIn p k < m
 
--- the list has the line's live pixels: every sum over it is that over the line. Nothing else is said of their order or number.
-pub record LinePixels (b : List ℕ) (plan : Plan) (line : Line) (p : List ℕ) : Type 0 where
+-- the list has the line's live pixels, in a file with its own values or those of a plane: every sum over it is that over the line. Nothing else is
+-- said of their order or number.
+pub record LinePixels (b vs : List ℕ) (plan : Plan) (line : Line) (p : List ℕ) : Type 0 where
   pub below : PixelsBelow (plan .levels) (plan .guides) p
-  pub sum : (h : ℕ → ℕ → ℕ) → pixelFold _+_ 0 p h ≡ lineFold _+_ 0 b line h
-  pub sumℤ : (h : ℕ → ℕ → lib.IntN.ℤ) → pixelFold _+ℤ_ (pos 0) p h ≡ lineFold _+ℤ_ (pos 0) b line h
+  pub sum : (h : ℕ → ℕ → ℕ) → pixelFold _+_ 0 p h ≡ lineFold _+_ 0 b vs line h
+  pub sumℤ : (h : ℕ → ℕ → lib.IntN.ℤ) → pixelFold _+ℤ_ (pos 0) p h ≡ lineFold _+ℤ_ (pos 0) b vs line h

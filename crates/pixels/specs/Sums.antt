@@ -18,10 +18,10 @@ pub record ListSums (p : List ℕ) (k : ℕ) (a : Sums) : Type 0 where
   pub squares-high : a .squares ≤ 65025 * k
 
 -- of the first k columns from column x of the windows of row t
-pub record ColumnSums (b : List ℕ) (plan : Plan) (x t k : ℕ) (a : Sums) : Type 0 where
-  pub count : a .count ≡ columnsFold _+_ 0 b plan x t one k
-  pub sum : a .sum ≡ columnsFold _+_ 0 b plan x t itself k
-  pub squares : a .squares ≡ columnsFold _+_ 0 b plan x t squared k
+pub record ColumnSums (b vs : List ℕ) (plan : Plan) (x t k : ℕ) (a : Sums) : Type 0 where
+  pub count : a .count ≡ columnsFold _+_ 0 b vs plan x t one k
+  pub sum : a .sum ≡ columnsFold _+_ 0 b vs plan x t itself k
+  pub squares : a .squares ≡ columnsFold _+_ 0 b vs plan x t squared k
   pub count-high : a .count ≤ 31 * k
   pub sum-high : a .sum ≤ 7905 * k
   pub squares-high : a .squares ≤ 2015775 * k

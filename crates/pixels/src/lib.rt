@@ -9,14 +9,16 @@ use window::line::Line;
 use window::pixel;
 ghost use Prim.Native.Nat.{_≤_};
 ghost use lib.ListN.{length, take};
-ghost use Rattle.spec.specs.Checks.{Planned};
+ghost use mathlib.Core.List.{[]};
+ghost use Rattle.spec.specs.Checks.{Planned, Pictured};
 ghost use Rattle.window.specs.Line.{InPlanes};
 ghost use Rattle.pixels.specs.Pixels.{LinePixels};
 
-// A line's live pixels, one after the other: each is written, and a dead one written over, so that no branch goes by the reading.
-fn read_live(file: &[u8], plan: Plan, line: Line, places: &mut [u16]) -> usize
-    requires { ⌜ (Planned (now file) plan) × (InPlanes plan line) × (62 ≤ length (now places)) ⌝ }
-    ensures { λ r. ⌜ (r ≤ 62) × (LinePixels (now (file .entry)) plan line (take r (now (places .exit)))) ⌝ }
+// A line's live pixels, one after the other, of the file or of a plane in place of its values: each is written, and a dead one written over, so that no
+// branch goes by the reading.
+fn read_live(file: &[u8], plane: &[u16], plan: Plan, line: Line, places: &mut [u16]) -> usize
+    requires { ⌜ (Pictured (now file) (now plane) plan) × (InPlanes plan line) × (62 ≤ length (now places)) ⌝ }
+    ensures { λ r. ⌜ (r ≤ 62) × (LinePixels (now (file .entry)) (now (plane .entry)) plan line (take r (now (places .exit)))) ⌝ }
 {
     let first = line.first;
     let stride = line.stride;
@@ -25,7 +27,7 @@ fn read_live(file: &[u8], plan: Plan, line: Line, places: &mut [u16]) -> usize
     let mut m = 0;
     while k < n {
         let q = first + k * stride;
-        let value = pixel::value_at(file, plan, q);
+        let value = pixel::value_in(file, plane, plan, q);
         let guide = pixel::guide_at(file, plan, q);
         let here = 2 * m;
         let behind = here + 1;
@@ -43,7 +45,7 @@ fn read_live(file: &[u8], plan: Plan, line: Line, places: &mut [u16]) -> usize
 // one dead pixel says that there is none, as in most lines, and then they stand as they should; the largest sum that they can have says that all are.
 pub fn read(file: &[u8], plan: Plan, line: Line, places: &mut [u16]) -> usize
     requires { ⌜ (Planned (now file) plan) × (InPlanes plan line) × (62 ≤ length (now places)) ⌝ }
-    ensures { λ r. ⌜ (r ≤ 62) × (LinePixels (now (file .entry)) plan line (take r (now (places .exit)))) ⌝ }
+    ensures { λ r. ⌜ (r ≤ 62) × (LinePixels (now (file .entry)) [] plan line (take r (now (places .exit)))) ⌝ }
 {
     let first = line.first;
     let stride = line.stride;
@@ -67,5 +69,18 @@ pub fn read(file: &[u8], plan: Plan, line: Line, places: &mut [u16]) -> usize
     if total == n * NO_READING as usize {
         return 0;
     }
-    read_live(file, plan, line, places)
+    let none: [u16; 0] = [];
+    read_live(file, &none, plan, line, places)
+}
+
+// The same with the values of a plane in place of the file's own, where one is given. The choice is made once for a line: one for each pixel took every
+// filter 2 to 5 % longer.
+pub fn read_in(file: &[u8], plane: &[u16], plan: Plan, line: Line, places: &mut [u16]) -> usize
+    requires { ⌜ (Pictured (now file) (now plane) plan) × (InPlanes plan line) × (62 ≤ length (now places)) ⌝ }
+    ensures { λ r. ⌜ (r ≤ 62) × (LinePixels (now (file .entry)) (now (plane .entry)) plan line (take r (now (places .exit)))) ⌝ }
+{
+    if plane.len() == 0 {
+        return read(file, plan, line, places);
+    }
+    read_live(file, plane, plan, line, places)
 }

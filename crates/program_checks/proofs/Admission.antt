@@ -41,7 +41,7 @@ admitted b {z} e ok =
     let u = neither (ltb 64 (z .width) || ltb 64 (z .levels)) (ltb 64 (z .guides)) t in
     let v = neither (ltb 64 (z .width)) (ltb 64 (z .levels)) (u .0) in
     record {
-      planned = record { accepts = r .0; plan = e };
+      planned = record { accepts = r .0; plan = e; fits = tt };
       size = ltb-false 16384 (length b) (not-fired 12 (ltb 16384 (length b)) (q .0));
       width = ltb-false 64 (z .width) (v .0);
       levels = ltb-false 64 (z .levels) (v .1);

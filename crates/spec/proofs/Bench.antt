@@ -28,6 +28,7 @@ use Rattle.spec.specs.Frame.{
   pixelLevel,
   pixelGuide,
   frameOf,
+  withValues,
 }
 use Rattle.spec.specs.Checks.{
   badMark,
@@ -71,6 +72,7 @@ use Rattle.spec.specs.Calls.{
   explainChecks,
   explainOutcome,
 }
+use Rattle.spec.specs.Tolerance.{badSpan, badUpper, toleranceChecks, toleranceOutcome}
 use Rattle.spec.specs.Writer.{fieldBytes, distanceBytes, written, writtenSize, badLength, scanList, writerOutcome}
 use Rattle.spec.specs.Program.{digits, spaced, rows, ways, tooLarge, programOutcome, beside, outputText, printed}
 
@@ -95,6 +97,7 @@ pub data Question : Type 0 where
   coarseFilter : List ℕ → Question
   explain : List ℕ → ℕ → ℕ → Question
   chain : List ℕ → ℕ → ℕ → Question
+  tolerate : List ℕ → List ℕ → Question
 
 pub data Reply : Type 0 where
   says : Outcome → Reply
@@ -105,6 +108,7 @@ pub data Reply : Type 0 where
   sums : List ℕ → ℕ → List ℤ → Reply
   grounds : ℕ → ℤ → ℕ → ℤ → ℤ → Cause → Reply
   chained : List Entry → Reply
+  between : List ℕ → ℕ → List ℕ → ℕ → Reply
 
 abbrev closed : State → List ℕ → Reply
 closed x l = gives l (x .shifts)
@@ -120,8 +124,8 @@ unfolding fold foldRect first tabulateFrom tabulate be16 be32 to16 to32 all16 tr
     ownWeight ownTotal isZero weightless weight monotone totalWeight cumulative balance median answer differences adds nextCut arrive move follow
     step after answers walkEnd walkAnswers turn serpentine filtered filterEnd jointCounts occupancyWord occupancyWords balanceBox columnSum
     columnStore entryOf entries blockWeight summary wayOf badWay roomOf badPixel lacks short walkChecks walkOutcome filterChecks filterOutcome
-    balanceChecks balanceOutcome explainChecks explainOutcome cumulativeBelow causeOf fieldBytes distanceBytes written writtenSize badLength scanList
-    writerOutcome digits spaced rows ways tooLarge programOutcome beside outputText printed
+    balanceChecks balanceOutcome explainChecks explainOutcome badSpan badUpper toleranceChecks toleranceOutcome cumulativeBelow causeOf fieldBytes
+    distanceBytes written writtenSize badLength scanList writerOutcome digits spaced rows ways tooLarge programOutcome beside outputText printed
 reply (accept b) = says (verdict b)
 reply (walk b s t l) = let p = frameOf b in closed (walkEnd Joint p s t l) (walkAnswers p s t l)
 reply (filter b) = let p = frameOf b in closed (filterEnd Joint p) (filtered p)
@@ -155,6 +159,10 @@ reply (explain b s t) =
     let m = answer p s t in
     grounds (pixelCount p s t) (totalWeight p s t) m (cumulativeBelow p s t m) (cumulative p s t m) (causeOf p s t)
 reply (chain b s t) = let p = frameOf b in chained (entries p s t (p .set .levels))
+reply (tolerate b u) =
+    let p = frameOf b in
+    let q = withValues p u in
+    between (filtered p) (filterEnd Joint p .shifts) (filtered q) (filterEnd Joint q .shifts)
 
 -- ---- the files
 
@@ -235,6 +243,17 @@ fileDeadMiddle = made 3 1 8 4 2 1 1 (5 ∷ 65535 ∷ 3 ∷ []) (0 ∷ 0 ∷ 2 �
 -- two rows; one window's formula is negative at guide 0, another's at M − 1
 abbrev fileTwoRows : List ℕ
 fileTwoRows = made 3 2 8 16 2 1 1 (6 ∷ 1 ∷ 3 ∷ 7 ∷ 1 ∷ 4 ∷ []) (7 ∷ 15 ∷ 3 ∷ 7 ∷ 0 ∷ 3 ∷ []) []
+
+-- document 02, ask 7: the ask's frame; one with a window that has no reading; and two rows with a dead pixel and hollow windows
+abbrev fileSpans : List ℕ
+fileSpans = made 5 1 8 4 1 1 0 (5 ∷ 1 ∷ 3 ∷ 2 ∷ 7 ∷ []) (0 ∷ 0 ∷ 2 ∷ 1 ∷ 3 ∷ []) []
+
+abbrev fileSpansGap : List ℕ
+fileSpansGap = made 6 1 8 2 1 1 0 (2 ∷ 65535 ∷ 65535 ∷ 65535 ∷ 6 ∷ 1 ∷ []) (0 ∷ 1 ∷ 1 ∷ 0 ∷ 0 ∷ 1 ∷ []) []
+
+abbrev fileSpansHollow : List ℕ
+fileSpansHollow =
+    made 3 2 8 3 1 1 0 (1 ∷ 5 ∷ 65535 ∷ 6 ∷ 3 ∷ 0 ∷ []) (0 ∷ 1 ∷ 2 ∷ 1 ∷ 0 ∷ 2 ∷ []) (3 ∷ 1 ∷ 0 ∷ 1 ∷ 3 ∷ 1 ∷ 0 ∷ 0 ∷ 0 ∷ [])
 
 -- bytes and behind them a trailer with these settings and these distances to value plane, guide plane and table
 abbrev placed : List ℕ → Settings → ℕ → ℕ → ℕ → List ℕ
@@ -453,6 +472,30 @@ cases =
     (52 ∷ 32 ∷ 49 ∷ 10 ∷ 54 ∷ 53 ∷ 53 ∷ 51 ∷ 53 ∷ 32 ∷ 54 ∷ 53 ∷ 53 ∷ 51 ∷ 53 ∷ 32 ∷ 53 ∷ 32 ∷ 53 ∷ 10
     ∷ 106 ∷ 111 ∷ 105 ∷ 110 ∷ 116 ∷ 32 ∷ 53 ∷ 10 ∷ 99 ∷ 111 ∷ 97 ∷ 114 ∷ 115 ∷ 101 ∷ 32 ∷ 49 ∷ 48 ∷ 10 ∷ [])
     ∷ chain fileAged 4 0 ⇒ chained (record { level = 3; count = 1; guides = 7 } ∷ record { level = 5; count = 1; guides = 15 } ∷ [])
+    ∷ tolerate fileSpans (6 ∷ 1 ∷ 5 ∷ 4 ∷ 7 ∷ []) ⇒ between (1 ∷ 3 ∷ 2 ∷ 3 ∷ 7 ∷ []) 9 (1 ∷ 5 ∷ 4 ∷ 5 ∷ 7 ∷ []) 9
+    ∷ tolerate fileSpans (5 ∷ 1 ∷ 3 ∷ 2 ∷ 7 ∷ []) ⇒ between (1 ∷ 3 ∷ 2 ∷ 3 ∷ 7 ∷ []) 9 (1 ∷ 3 ∷ 2 ∷ 3 ∷ 7 ∷ []) 9
+    ∷ tolerate fileSpansGap (4 ∷ 65535 ∷ 65535 ∷ 65535 ∷ 6 ∷ 7 ∷ []) ⇒ between (2 ∷ 2 ∷ 65535 ∷ 6 ∷ 6 ∷ 1 ∷ []) 11 (4 ∷ 4 ∷ 65535 ∷ 6 ∷ 6 ∷ 7 ∷ []) 7
+    ∷ tolerate fileSpansHollow (2 ∷ 5 ∷ 65535 ∷ 7 ∷ 3 ∷ 6 ∷ []) ⇒ between (3 ∷ 5 ∷ 3 ∷ 5 ∷ 3 ∷ 3 ∷ []) 9 (3 ∷ 5 ∷ 5 ∷ 5 ∷ 3 ∷ 5 ∷ []) 9
+    ∷ tolerate fileZeroRow (7 ∷ 5 ∷ 6 ∷ []) ⇒ between (2 ∷ 4 ∷ 2 ∷ []) 6 (5 ∷ 6 ∷ 5 ∷ []) 7
+    ∷ call (toleranceOutcome fileSpans (6 ∷ 1 ∷ 5 ∷ 4 ∷ 7 ∷ []) (room 32 8 0) 5 5) ⇒ says accepted
+    ∷ call (toleranceOutcome fileSpans (5 ∷ 1 ∷ 3 ∷ 2 ∷ 7 ∷ []) (room 32 8 0) 5 5) ⇒ says accepted
+    ∷ call (toleranceOutcome fileSpansGap (4 ∷ 65535 ∷ 65535 ∷ 65535 ∷ 6 ∷ 7 ∷ []) (room 16 8 0) 6 6) ⇒ says accepted
+    ∷ call (toleranceOutcome fileSpans (6 ∷ 1 ∷ 5 ∷ 4 ∷ []) (room 32 8 0) 5 5) ⇒ says (refused 13 [])
+    ∷ call (toleranceOutcome fileSpans (6 ∷ 1 ∷ 5 ∷ 4 ∷ 7 ∷ 7 ∷ []) (room 32 8 0) 5 5) ⇒ says (refused 13 [])
+    ∷ call (toleranceOutcome (made 1 1 8 2 1 1 0 (0 ∷ []) (0 ∷ []) []) [] (room 16 8 0) 1 1) ⇒ says (refused 13 [])
+    ∷ call (toleranceOutcome fileSpans (4 ∷ 1 ∷ 5 ∷ 4 ∷ 7 ∷ []) (room 32 8 0) 5 5) ⇒ says (refused 13 [])
+    ∷ call (toleranceOutcome fileSpans (6 ∷ 1 ∷ 5 ∷ 4 ∷ 6 ∷ []) (room 32 8 0) 5 5) ⇒ says (refused 13 [])
+    ∷ call (toleranceOutcome fileSpans (8 ∷ 1 ∷ 5 ∷ 4 ∷ 7 ∷ []) (room 32 8 0) 5 5) ⇒ says (refused 13 [])
+    ∷ call (toleranceOutcome fileSpans (6 ∷ 1 ∷ 65535 ∷ 4 ∷ 7 ∷ []) (room 32 8 0) 5 5) ⇒ says (refused 13 [])
+    ∷ call (toleranceOutcome fileSpansGap (4 ∷ 65535 ∷ 7 ∷ 65535 ∷ 6 ∷ 7 ∷ []) (room 16 8 0) 6 6) ⇒ says (refused 13 [])
+    ∷ call (toleranceOutcome fileA (5 ∷ 1 ∷ 3 ∷ []) (room 32 8 0) 3 3) ⇒ says (refused 8 [])
+    ∷ call (toleranceOutcome fileA (5 ∷ 0 ∷ 3 ∷ 8 ∷ []) (room 0 0 0) 0 0) ⇒ says (refused 8 [])
+    ∷ call (toleranceOutcome fileSpans (6 ∷ 0 ∷ 5 ∷ 4 ∷ 7 ∷ []) (room 0 0 0) 0 0) ⇒ says (refused 13 [])
+    ∷ call (toleranceOutcome fileSpans (6 ∷ 1 ∷ 5 ∷ 4 ∷ 7 ∷ []) (room 31 8 0) 5 5) ⇒ says (refused 11 [])
+    ∷ call (toleranceOutcome fileSpans (6 ∷ 1 ∷ 5 ∷ 4 ∷ 7 ∷ []) (room 32 7 0) 5 5) ⇒ says (refused 11 [])
+    ∷ call (toleranceOutcome fileSpans (6 ∷ 1 ∷ 5 ∷ 4 ∷ 7 ∷ []) (room 32 8 0) 4 5) ⇒ says (refused 11 [])
+    ∷ call (toleranceOutcome fileSpans (6 ∷ 1 ∷ 5 ∷ 4 ∷ 7 ∷ []) (room 32 8 0) 5 4) ⇒ says (refused 11 [])
+    ∷ call (toleranceOutcome (take 39 fileA ++ (0x32 ∷ [])) [] (room 0 0 0) 0 0) ⇒ says (refused 1 [])
     ∷ []
 
 benches : map given cases ≡ map due cases

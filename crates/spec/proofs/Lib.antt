@@ -12,6 +12,8 @@ pub mod Plans
 pub mod Own
 pub mod Levels
 pub mod Totals
+pub mod Warmer
+pub mod Tolerance
 pub mod Monotone
 pub mod Minimum
 pub mod Present

@@ -3,7 +3,7 @@
 use mathlib.Core.Path.{_≡_, refl, subst}
 use mathlib.Core.Bool.{Bool, true, false, not, _||_, true≢false}
 use mathlib.Core.Logic.{_⊎_, inl, inr}
-use mathlib.Core.List.{List}
+use mathlib.Core.List.{List, [], _∷_}
 use Prim.Native.Nat.{ℕ, _+_, _*_, _≤_, _<_}
 use native.Mathlib.Omega.{arith}
 use native.Mathlib.Nat.{div-le-of-le-mul, mul-comm}
@@ -33,6 +33,8 @@ use Rattle.spec.specs.Frame.{
   pixelGuide,
   builtIn,
   frameOf,
+  frameWith,
+  valueOf,
 }
 use Rattle.spec.specs.Checks.{
   outside,
@@ -46,6 +48,8 @@ use Rattle.spec.specs.Checks.{
   guideScan,
   verdict,
   SettingsLimits,
+  ValuesFit,
+  PlaneFits,
 }
 use Rattle.spec.proofs.Checks.{both-accepted, not-fired, neither, inside, scan-accepted, judged-below, FilePassed, passed}
 
@@ -140,11 +144,25 @@ module _ (b : List ℕ) (ok : verdict b ≡ accepted) where
   unfolding pixelGuide guideScan scanFile planOf
   guide-below q h = scan-accepted _ _ _ _ (passed b ok .guides) q h
 
-  pub limits-of : FrameLimits (frameOf b)
+  -- the same of a plane in place of the file's own
+  pub value-live : (vs : List ℕ) → PlaneFits b vs → (q : ℕ) → q < pixels (settingsOf b)
+      → eqb (valueOf b vs q) noReading ≡ false → valueOf b vs q < settingsOf b .levels
+  value-live [] fit q h e = level-live q h e
+  value-live (v ∷ vs) fit q h e = fit .low q h e
+
+  pub value-dead : (vs : List ℕ) → PlaneFits b vs → (q : ℕ) → q < pixels (settingsOf b)
+      → eqb (valueOf b vs q) noReading ≡ eqb (pixelLevel b q) noReading
+  value-dead [] fit q h = refl
+  value-dead (v ∷ vs) fit q h = fit .dead q h
+
+  pub limits-with : (vs : List ℕ) → PlaneFits b vs → FrameLimits (frameWith b vs)
   unfolding frameOf
-  limits-of =
+  limits-with vs fit =
       record {
         sound = settings-limits (settingsOf b) (passed b ok .settings);
-        level-low = λ x y hx hy. level-live _ (in-plane (settingsOf b) x y hx hy);
+        level-low = λ x y hx hy. value-live vs fit _ (in-plane (settingsOf b) x y hx hy);
         guide-low = λ x y hx hy. guide-below _ (in-plane (settingsOf b) x y hx hy);
       }
+
+  pub limits-of : FrameLimits (frameOf b)
+  limits-of = limits-with [] tt

@@ -1,10 +1,10 @@
--- What the plan of an accepted file says: the frame's settings, and where its pixels and its weights stand. Every function on a file begins from
--- `facts`.
+-- What the plan of an accepted file says, with its own values or a plane in their place: the frame's settings, and where its pixels and its weights
+-- stand. Every function on a file begins from `facts`.
 -- Assumes nothing.
 use mathlib.Core.Path.{_≡_, refl, sym, ap₂, subst, _∙_}
 use mathlib.Core.Bool.{Bool, true, false}
 use mathlib.Core.Logic.{_⊎_, inl, inr}
-use mathlib.Core.List.{List}
+use mathlib.Core.List.{List, [], _∷_}
 use Prim.Native.Nat.{ℕ, _+_, _*_, _≤_, _<_}
 use native.Mathlib.Nat.{mul-comm, le-trans, mul-le-mul}
 use native.Mathlib.Omega.{arith}
@@ -32,13 +32,15 @@ use Rattle.spec.specs.Frame.{
   pixelGuide,
   builtIn,
   frameOf,
+  frameWith,
+  valueOf,
 }
-use Rattle.spec.specs.Checks.{verdict, Planned, SettingsLimits}
+use Rattle.spec.specs.Checks.{verdict, PlaneFits, Pictured, Planned, SettingsLimits}
 use Rattle.spec.proofs.Checks.{Near, FilePassed, passed}
-use Rattle.spec.proofs.Limits.{FrameLimits, Pixel, limits-of}
+use Rattle.spec.proofs.Limits.{FrameLimits, Pixel, limits-of, limits-with}
 
-pub record Facts (b : List ℕ) (z : Plan) : Type 0 where
-  pub limits : FrameLimits (frameOf b)
+pub record Facts (b vs : List ℕ) (z : Plan) : Type 0 where
+  pub limits : FrameLimits (frameWith b vs)
   pub width : z .width ≡ frameOf b .set .width
   pub height : z .height ≡ frameOf b .set .height
   pub levels : z .levels ≡ frameOf b .set .levels
@@ -51,16 +53,16 @@ pub record Facts (b : List ℕ) (z : Plan) : Type 0 where
   pub table-last : z .table + 2 * z .weights ≤ length b
   pub level-is : (q : ℕ) → plane b (z .value) q ≡ pixelLevel b q
   pub guide-is : (q : ℕ) → plane b (z .guide) q ≡ pixelGuide b q
-  pub level-at : (x y : ℕ) → pixelLevel b (y * z .width + x) ≡ level (frameOf b) x y
+  pub level-at : (x y : ℕ) → valueOf b vs (y * z .width + x) ≡ level (frameWith b vs) x y
   pub guide-at : (x y : ℕ) → pixelGuide b (y * z .width + x) ≡ guide (frameOf b) x y
 
-own : (b : List ℕ) → verdict b ≡ accepted → Facts b (planOf b)
+own : (b vs : List ℕ) → verdict b ≡ accepted → PlaneFits b vs → Facts b vs (planOf b)
 unfolding planOf frameOf trailerAt trailerOf pixelLevel pixelGuide
-own b ok =
+own b vs ok fit =
     let h = passed b ok in
     let n = h .near in
     record {
-      limits = limits-of b ok;
+      limits = limits-with b ok vs fit;
       width = refl;
       height = refl;
       levels = refl;
@@ -77,19 +79,23 @@ own b ok =
       guide-at = λ x y. refl;
     }
 
-pub facts : {b : List ℕ} {z : Plan} → Planned b z → Facts b z
-facts {b} {z} k = subst (λ (q : Plan). Facts b q) (sym (k .plan)) (own b (k .accepts))
+pub facts : {b vs : List ℕ} {z : Plan} → Pictured b vs z → Facts b vs z
+facts {b} {vs} {z} k = subst (λ (q : Plan). Facts b vs q) (sym (k .plan)) (own b vs (k .accepts) (k .fits))
+
+-- the file by itself
+pub with-own : {b vs : List ℕ} {z : Plan} → Pictured b vs z → Planned b z
+with-own k = record { accepts = k .accepts; plan = k .plan; fits = tt }
 
 -- a pixel of the plan is a pixel of the frame
-pub pixel-of : {b : List ℕ} {z : Plan} → Planned b z → {s t : ℕ} → s < z .width → t < z .height → Pixel (frameOf b) s t
+pub pixel-of : {b vs : List ℕ} {z : Plan} → Pictured b vs z → {s t : ℕ} → s < z .width → t < z .height → Pixel (frameWith b vs) s t
 pixel-of k hs ht = let f = facts k in record { good = f .limits; in-column = rw (f .width) at hs; in-row = rw (f .height) at ht }
 
 -- its place in a plane
 pub place-low : (z : Plan) (x y : ℕ) → x < z .width → y < z .height → y * z .width + x < z .width * z .height
 place-low z x y hx hy = subst (λ (n : ℕ). y * z .width + x < n) (mul-comm (z .height) (z .width)) (digits-lt hy hx)
 
-pub plane-small : {b : List ℕ} {z : Plan} → Planned b z → z .width * z .height ≤ 262144
-plane-small {b} {z} k = let f = facts k in subst (λ (n : ℕ). n ≤ 262144) (sym (ap₂ _*_ (f .width) (f .height))) (f .limits .sound .pixels-high)
+pub plane-small : {b vs : List ℕ} {z : Plan} → Pictured b vs z → z .width * z .height ≤ 262144
+plane-small {z = z} k = let f = facts k in subst (λ (n : ℕ). n ≤ 262144) (sym (ap₂ _*_ (f .width) (f .height))) (f .limits .sound .pixels-high)
 
 -- kind 2 has a smoothing from 1 to 65,025
 pub smoothing-of : {p : Frame} → FrameLimits p → p .set .kind ≡ 2 → (1 ≤ p .set .smoothing) × (p .set .smoothing ≤ 65025)
@@ -124,21 +130,21 @@ module _ (b : List ℕ) (f g : ℕ) where
       let m : 2 ≤ settingsOf b .guides = limits-of b ok .sound .guides-low in
       built _ refl (le-trans (omega arith) (mul-le-mul m m)) h
 
-pub table-own : {b : List ℕ} {z : Plan} → Planned b z → (z .weights ≡ 0 → ⊥) → (f g : ℕ) →
+pub table-own : {b vs : List ℕ} {z : Plan} → Pictured b vs z → (z .weights ≡ 0 → ⊥) → (f g : ℕ) →
     table (frameOf b) f g ≡ plane b (z .table) (f * z .guides + g)
-table-own {b} {z} k n f g =
+table-own {b} {z = z} k n f g =
     subst (λ (q : Plan). (q .weights ≡ 0 → ⊥) → table (frameOf b) f g ≡ plane b (q .table) (f * q .guides + g)) (sym (k .plan)) (own-tabled b f g) n
 
-pub table-built : {b : List ℕ} {z : Plan} → Planned b z → z .weights ≡ 0 → (f g : ℕ) → table (frameOf b) f g ≡ builtIn f g
-table-built {b} {z} k n f g =
+pub table-built : {b vs : List ℕ} {z : Plan} → Pictured b vs z → z .weights ≡ 0 → (f g : ℕ) → table (frameOf b) f g ≡ builtIn f g
+table-built {b} {z = z} k n f g =
     subst (λ (q : Plan). q .weights ≡ 0 → table (frameOf b) f g ≡ builtIn f g) (sym (k .plan)) (own-built b f g (k .accepts)) n
 
 -- ---- a plan's kind is the frame's, 1 or 2
-pub kind-of : {b : List ℕ} {z : Plan} → Planned b z → {k : ℕ} → z .kind ≡ k → frameOf b .set .kind ≡ k
+pub kind-of : {b vs : List ℕ} {z : Plan} → Pictured b vs z → {k : ℕ} → z .kind ≡ k → frameOf b .set .kind ≡ k
 kind-of pl e = sym (facts pl .kind) ∙ e
 
-pub kind-table : {b : List ℕ} {z : Plan} → Planned b z → (z .kind ≡ 2 → ⊥) → z .kind ≡ 1
-kind-table {b} {z} pl n = go (facts pl .limits .sound .kinds)
+pub kind-table : {b vs : List ℕ} {z : Plan} → Pictured b vs z → (z .kind ≡ 2 → ⊥) → z .kind ≡ 1
+kind-table {b} {z = z} pl n = go (facts pl .limits .sound .kinds)
   where
     p : Frame
     p = frameOf b

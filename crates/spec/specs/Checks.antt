@@ -2,18 +2,18 @@
 -- Assumes nothing.
 use mathlib.Core.Logic.{_⊎_}
 use mathlib.Core.Path.{_≡_}
-use Prim.Native.Nat.{ℕ, _+_, _*_, _≤_}
+use Prim.Native.Nat.{ℕ, _+_, _*_, _≤_, _<_}
 use mathlib.Core.Bool.{Bool, true, false, not, _&&_, _||_}
 use mathlib.Core.List.{List, [], _∷_}
 use lib.Dec.{leb, ltb, eqb}
-use lib.ListN.{length}
+use lib.ListN.{length, getD}
 use Rattle.spec.specs.declared.Settings.{Settings}
 use Rattle.spec.specs.declared.Trailer.{Trailer}
 use Rattle.spec.specs.declared.Plan.{Plan}
 use Rattle.spec.specs.Base.{if_then_else_, first}
 use Rattle.spec.specs.Bytes.{be32}
 use Rattle.spec.specs.Refusal.{Outcome, accepted, refused, _▷_, refuse}
-use Rattle.spec.specs.Frame.{noReading, trailerAt, settingsOf, trailerOf, pixels, tableSize, plane, planOf}
+use Rattle.spec.specs.Frame.{noReading, trailerAt, settingsOf, trailerOf, pixels, tableSize, plane, planOf, pixelLevel}
 
 abbrev pub outside : ℕ → ℕ → ℕ → Bool
 outside low high n = ltb n low || ltb high n
@@ -95,7 +95,22 @@ trailerOutcome b = refuse 1 (badMark b) ▷ settingsOutcome (settingsOf b) ▷ r
 unfoldable pub verdict : List ℕ → Outcome
 verdict b = trailerOutcome b ▷ contents b (planOf b)
 
--- an accepted file and its plan
-pub record Planned (b : List ℕ) (layout : Plan) : Type 0 where
+-- a plane that can be given in place of an accepted file's values: of the picture's size, with levels where the file has readings and none elsewhere
+pub record ValuesFit (b values : List ℕ) : Type 0 where
+  pub long : length values ≡ pixels (settingsOf b)
+  pub low : (q : ℕ) → q < pixels (settingsOf b) → eqb (getD values q 0) noReading ≡ false → getD values q 0 < settingsOf b .levels
+  pub dead : (q : ℕ) → q < pixels (settingsOf b) → eqb (getD values q 0) noReading ≡ eqb (pixelLevel b q) noReading
+
+-- such a plane, or none
+abbrev pub PlaneFits : List ℕ → List ℕ → Type 0
+PlaneFits b [] = Unit
+PlaneFits b (v ∷ vs) = ValuesFit b (v ∷ vs)
+
+-- an accepted file, its plan, and a plane that can be given in place of its values; or none, so that it has its own
+pub record Pictured (b values : List ℕ) (layout : Plan) : Type 0 where
   pub accepts : verdict b ≡ accepted
   pub plan : layout ≡ planOf b
+  pub fits : PlaneFits b values
+
+abbrev pub Planned : List ℕ → Plan → Type 0
+Planned b layout = Pictured b [] layout

@@ -2,7 +2,7 @@
 -- Assumes nothing.
 use Prim.Native.Nat.{ℕ, _+_, _-_, _*_, _/_}
 use mathlib.Core.Bool.{Bool}
-use mathlib.Core.List.{List}
+use mathlib.Core.List.{List, [], _∷_}
 use lib.Dec.{eqb}
 use lib.ListN.{length, getD, take, drop}
 use Rattle.spec.specs.declared.Settings.{Settings}
@@ -40,6 +40,21 @@ guide p s t = p .guideAt s t .0
 
 abbrev pub table : Frame → ℕ → ℕ → ℕ
 table p f g = p .weightAt (record { 0 = f }) (record { 0 = g })
+
+-- number q of a plane that is given in place of n; n itself where none is given, the plane being empty
+abbrev pub inPlace : List ℕ → ℕ → ℕ → ℕ
+inPlace [] q n = n
+inPlace (v ∷ vs) q n = getD (v ∷ vs) q 0
+
+-- the frame with another value plane, whose numbers go row by row from the top left; with its own where none is given
+abbrev pub withValues : Frame → List ℕ → Frame
+withValues p plane =
+    record {
+      set = p .set;
+      valueAt = λ s t. inPlace plane (t * p .set .width + s) (p .valueAt s t);
+      guideAt = p .guideAt;
+      weightAt = p .weightAt;
+    }
 
 -- ---- the trailer: the last 28 bytes
 
@@ -151,3 +166,10 @@ frameOf b =
       guideAt = λ s t. record { 0 = pixelGuide b (t * k .width + s) };
       weightAt = λ f g. if eqb (trailerOf b .table) 0 then builtIn (f .0) (g .0) else plane b (planOf b .table) (f .0 * k .guides + g .0);
     }
+
+-- the frame of a file, and the value of its pixel q, where a value plane is given in place of the file's own
+abbrev pub frameWith : List ℕ → List ℕ → Frame
+frameWith b plane = withValues (frameOf b) plane
+
+abbrev pub valueOf : List ℕ → List ℕ → ℕ → ℕ
+valueOf b plane q = inPlace plane q (pixelLevel b q)

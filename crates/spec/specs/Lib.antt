@@ -14,5 +14,6 @@ pub mod Chain
 pub mod Coarse
 pub mod Explain
 pub mod Calls
+pub mod Tolerance
 pub mod Writer
 pub mod Program

@@ -1,4 +1,4 @@
--- The outcome of the checks by document 01's numbers; and which number and values each case of the code's enums stands for.
+-- The outcome of the checks by the documents' numbers; and which number and values each case of the code's enums stands for.
 -- Assumes nothing.
 use Prim.Native.Nat.{ℕ}
 use mathlib.Core.Bool.{Bool, true, false}
@@ -6,7 +6,21 @@ use mathlib.Core.List.{List, [], _∷_}
 use lib.Dec.{eqb}
 use Rattle.spec.specs.Base.{if_then_else_}
 use Rattle.spec.specs.declared.Refusal.{Refusal}
-use Rattle.spec.specs.declared.Refusal.the-variants.{Mark, Size, Counts, Kind, Radius, Distance, Contents, Way, Start, Moves, Room, Program}
+use Rattle.spec.specs.declared.Refusal.the-variants.{
+  Mark,
+  Size,
+  Counts,
+  Kind,
+  Radius,
+  Distance,
+  Contents,
+  Way,
+  Start,
+  Moves,
+  Room,
+  Program,
+  Upper,
+}
 use Rattle.spec.specs.declared.Verdict.{Verdict}
 use Rattle.spec.specs.declared.Verdict.the-variants.{Accepted, Refused}
 
@@ -45,6 +59,7 @@ number Start = 9
 number Moves = 10
 number Room = 11
 number Program = 12
+number Upper = 13
 
 -- the offset beside number 7
 abbrev pub offsetOf : Refusal → ℕ
@@ -60,6 +75,7 @@ offsetOf Start = 0
 offsetOf Moves = 0
 offsetOf Room = 0
 offsetOf Program = 0
+offsetOf Upper = 0
 
 -- the values beside the number
 abbrev pub valuesOf : Refusal → List ℕ

@@ -71,7 +71,7 @@ pub struct Plan {
     pub weights: usize,
 }
 
-// Why a call refuses, in the order of the checks; specs/Refusal.antt has document 01's number of each.
+// Why a call refuses, in the order of the checks; specs/Refusal.antt has the documents' number of each.
 pub enum Refusal {
     Mark,
     Size,
@@ -86,6 +86,8 @@ pub enum Refusal {
     Moves,
     Room,
     Program,
+    // document 02: the plane of upper levels
+    Upper,
 }
 
 // What the checks say.
@@ -205,7 +207,7 @@ pub fn answer_number(answer: Answer) -> u16
     }
 }
 
-// Document 01's number of a refusal, and the byte offset beside number 7 (0 for the others).
+// The documents' number of a refusal, and the byte offset beside number 7 (0 for the others).
 pub fn number_of(refusal: Refusal) -> u8
     ensures { λ r. ⌜ r ≡ number refusal ⌝ }
 {
@@ -222,6 +224,7 @@ pub fn number_of(refusal: Refusal) -> u8
         Refusal::Moves => 10,
         Refusal::Room => 11,
         Refusal::Program => 12,
+        Refusal::Upper => 13,
     }
 }
 
@@ -241,6 +244,7 @@ pub fn offset_of(refusal: Refusal) -> usize
         Refusal::Moves => 0,
         Refusal::Room => 0,
         Refusal::Program => 0,
+        Refusal::Upper => 0,
     }
 }
 

@@ -17,8 +17,8 @@ use Rattle.spec.specs.declared.Plan.{Plan}
 use Rattle.spec.specs.declared.Room.{Room}
 use Rattle.spec.specs.declared.Way.{Way}
 use Rattle.spec.specs.declared.Way.the-variants.{Joint, Columns, Chain, Coarse}
-use Rattle.spec.specs.Frame.{Frame, frameOf, settingsIn}
-use Rattle.spec.specs.Checks.{Planned}
+use Rattle.spec.specs.Frame.{Frame, frameOf, frameWith, settingsIn}
+use Rattle.spec.specs.Checks.{Pictured, Planned}
 use Rattle.spec.specs.Window.{count}
 use Rattle.spec.specs.Joint.{jointCounts, wordsPerLevel, occupancyWord, occupancyWords, balanceBox}
 use Rattle.spec.specs.Columns.{columnStore}
@@ -39,8 +39,8 @@ use Rattle.chain_visit.specs.Visit.{ChainAt, ChainVisited}
 use Rattle.ways.specs.Visit.{Stores, stores, KeptBeyond, StoresFit, ownBox, WayCarries, Serves, AtWindow, Visited}
 
 -- the plan's settings are the file's
-pub settings-same : {b : List ℕ} {z : Plan} → Planned b z → settingsIn z ≡ frameOf b .set
-settings-same {b} {z} k =
+pub settings-same : {b vs : List ℕ} {z : Plan} → Pictured b vs z → settingsIn z ≡ frameOf b .set
+settings-same k =
     let f = facts k in
     λ i. record {
       width = f .width i;
@@ -53,7 +53,7 @@ settings-same {b} {z} k =
     }
 
 -- room for the plan's settings is room for the file's
-pub room-of : {b : List ℕ} {z : Plan} → Planned b z → (way : Way) (f : Room → ℕ) (n : ℕ) → f (roomOf way (settingsIn z)) ≤ n →
+pub room-of : {b vs : List ℕ} {z : Plan} → Pictured b vs z → (way : Way) (f : Room → ℕ) (n : ℕ) → f (roomOf way (settingsIn z)) ≤ n →
     f (roomOf way (frameOf b .set)) ≤ n
 room-of k way f n h = subst (λ (q : Settings). f (roomOf way q) ≤ n) (settings-same k) h
 
@@ -76,9 +76,9 @@ pub joined : (n : ℕ) (front xs : List ℕ) → take n xs ≡ front → xs ≡ 
 joined n front xs e = sym (take-append-drop n xs) ∙ ap (λ (l : List ℕ). l ++ drop n xs) e
 
 -- ---- a way that does not serve both kinds serves kind 2
-module _ (way : Way) (z : Plan) (s : Serves way z) where
+module _ (way : Way) (z : Plan) {vs : List ℕ} (s : Serves way z vs) where
   guided : (BothKinds way → ⊥) → z .kind ≡ 2
-  guided n = by s
+  guided n = by (s .0)
     where
       by : BothKinds way ⊎ (z .kind ≡ 2) → z .kind ≡ 2
       by (inl q) = absurd (n q)
@@ -90,6 +90,20 @@ module _ (way : Way) (z : Plan) (s : Serves way z) where
   pub guided-chain : way ≡ Chain → z .kind ≡ 2
   guided-chain e = guided (λ q. subst BothKinds e q)
 
+  -- and no plane is given to it, nor to any way in kind 2
+  pub plane-serves : joint.PlaneServes z vs
+  plane-serves two = by (s .1)
+    where
+      by : (vs ≡ []) ⊎ ((way ≡ Joint) × (z .kind ≡ 1)) → vs ≡ []
+      by (inl e) = e
+      by (inr q) = absurd (omega (arith, two, q .1))
+
+  pub none-columns : way ≡ Columns → vs ≡ []
+  none-columns e = plane-serves (guided-columns e)
+
+  pub none-chain : way ≡ Chain → vs ≡ []
+  none-chain e = plane-serves (guided-chain e)
+
 -- ---- ways 1 and 4 have the same stores, the box at a level of its own, and carry the same
 record JointStores (way : Way) : Type 0 where
   counts-room : (k : Settings) → roomOf way k .counts ≡ k .levels * k .guides
@@ -98,10 +112,10 @@ record JointStores (way : Way) : Type 0 where
   words : (p : Frame) (s t : ℕ) → wordsOf way p s t ≡ occupancyWords p s t
   numbers : (p : Frame) (s t : ℕ) (m : List ℕ) → NumbersOf way p s t m
   box : (p : Frame) (s t c : ℕ) → ownBox way p s t c ≡ balanceBox p s t (joint.boxCut (byBlocks way) (p .set .kind) c)
-  carried : (b : List ℕ) (s t c : ℕ) (m hs : List ℕ) (r : Running) → WayCarries way b s t c m hs r →
-      joint.JointCarried (frameOf b) s t c (r .sums) (r .below) hs
-  carries : (b : List ℕ) (s t c : ℕ) (m hs : List ℕ) (r : Running) → joint.JointCarried (frameOf b) s t c (r .sums) (r .below) hs →
-      WayCarries way b s t c m hs r
+  carried : (b vs : List ℕ) (s t c : ℕ) (m hs : List ℕ) (r : Running) → WayCarries way b vs s t c m hs r →
+      joint.JointCarried (frameWith b vs) s t c (r .sums) (r .below) hs
+  carries : (b vs : List ℕ) (s t c : ℕ) (m hs : List ℕ) (r : Running) → joint.JointCarried (frameWith b vs) s t c (r .sums) (r .below) hs →
+      WayCarries way b vs s t c m hs r
 
 joint-stores : (way : Way) → joint.JointWay way → JointStores way
 unfolding roomOf countsOf wordsOf NumbersOf ownBox WayCarries
@@ -114,8 +128,8 @@ joint-stores way (inl e) =
       words = λ p s t. refl;
       numbers = λ p s t m. tt;
       box = λ p s t c. ap (balanceBox p s t) (sym (box-cut-joint (p .set .kind) c));
-      carried = λ b s t c m hs r g. g;
-      carries = λ b s t c m hs r g. g;
+      carried = λ b vs s t c m hs r g. g;
+      carries = λ b vs s t c m hs r g. g;
     })
 joint-stores way (inr e) =
     rw e
@@ -126,8 +140,8 @@ joint-stores way (inr e) =
       words = λ p s t. refl;
       numbers = λ p s t m. tt;
       box = λ p s t c. refl;
-      carried = λ b s t c m hs r g. g;
-      carries = λ b s t c m hs r g. g;
+      carried = λ b vs s t c m hs r g. g;
+      carries = λ b vs s t c m hs r g. g;
     })
 
 -- the two ways' arm of a match: keys 0 and 3
@@ -140,43 +154,37 @@ joint-key Chain (inr e) = let z : _≡_ {A = ℕ} 2 3 = e in absurd (omega arith
 joint-key Coarse h = inr refl
 
 -- ---- what is asked, and what is left
-module _ (way : Way) {b : List ℕ} {z : Plan} (k : Planned b z) (cs ws ns : List ℕ) (f : StoresFit way (settingsIn z) (stores cs ws ns)) where
+-- ways 1 and 4
+module _ (way : Way) {b vs : List ℕ} {z : Plan} (k : Pictured b vs z) (cs ws ns : List ℕ) (f : StoresFit way (settingsIn z) (stores cs ws ns)) where
   counts-fit : roomOf way (frameOf b .set) .counts ≤ length cs
   counts-fit = room-of k way (λ q. q .counts) (length cs) (f .counts)
 
   words-fit : roomOf way (frameOf b .set) .words ≤ length ws
   words-fit = room-of k way (λ q. q .words) (length ws) (f .words)
 
-  pub fit-joint : (s t : ℕ) → joint.JointWay way → (s < z .width) × (t < z .height) → Fresh b z s t cs ws
+  pub fit-joint : (s t : ℕ) → joint.JointWay way → (s < z .width) × (t < z .height) → Fresh b vs z s t cs ws
   fit-joint s t w q =
       let j = joint-stores way w in
       record {
-        planned = k;
+        pictured = k;
         column = q .0;
         row = q .1;
         cells = subst (λ (n : ℕ). n ≤ length cs) (j .counts-room (frameOf b .set)) counts-fit;
         words = subst (λ (n : ℕ). n ≤ length ws) (j .words-room (frameOf b .set)) words-fit;
       }
 
-  pub fit-columns : way ≡ Columns → roomOf Columns (frameOf b .set) .numbers ≤ length ns
-  fit-columns e = let g : StoresFit Columns (settingsIn z) (stores cs ws ns) =
-      rw e at f in room-of k Columns (λ q. q .numbers) (length ns) (g .numbers)
-
-  pub fit-chain : way ≡ Chain → roomOf Chain (frameOf b .set) .numbers ≤ length ns
-  fit-chain e = let g : StoresFit Chain (settingsIn z) (stores cs ws ns) = rw e at f in room-of k Chain (λ q. q .numbers) (length ns) (g .numbers)
-
   module _ (hs : List ℕ) (d : List ℤ) (v : Visit) where
-    pub joint-at : joint.JointWay way → AtWindow way b (stores cs ws ns) hs d v → Within z v
+    pub joint-at : joint.JointWay way → AtWindow way b vs (stores cs ws ns) hs d v → Within z v
         →
-        Held b z (v .column) (v .row) (joint.boxCut (byBlocks way) (z .kind) (v .cut .0)) cs ws d
-        × joint.JointCarried (frameOf b) (v .column) (v .row) (v .cut .0) (v .running .sums) (v .running .below) hs
+        Held b vs z (v .column) (v .row) (joint.boxCut (byBlocks way) (z .kind) (v .cut .0)) cs ws d
+        × joint.JointCarried (frameWith b vs) (v .column) (v .row) (v .cut .0) (v .running .sums) (v .running .below) hs
     joint-at w g q =
         let j = joint-stores way w in
-        let p = frameOf b in
+        let p = frameWith b vs in
         let s = v .column in
         let t = v .row in (
           record {
-            planned = k;
+            pictured = k;
             column = q .column;
             row = q .row;
             joint = record {
@@ -191,15 +199,15 @@ module _ (way : Way) {b : List ℕ} {z : Plan} (k : Planned b z) (cs ws ns : Lis
                   (sym (facts k .kind));
             };
           },
-          j .carried b s t (v .cut .0) ns hs (v .running) (g .carried),
+          j .carried b vs s t (v .cut .0) ns hs (v .running) (g .carried),
         )
 
-    pub joint-visited : (x : State) (cs′ ws′ : List ℕ) → joint.JointWay way → joint.JointVisited way (frameOf b) x v cs ws cs′ ws′ d hs
-        → Visited way b x (stores cs ws ns) (stores cs′ ws′ ns) hs d v
+    pub joint-visited : (x : State) (cs′ ws′ : List ℕ) → joint.JointWay way → joint.JointVisited way (frameWith b vs) x v cs ws cs′ ws′ d hs
+        → Visited way b vs x (stores cs ws ns) (stores cs′ ws′ ns) hs d v
     unfolding jointCounts occupancyWords
     joint-visited x cs′ ws′ w h =
         let j = joint-stores way w in
-        let p = frameOf b in
+        let p = frameWith b vs in
         let s = v .column in
         let t = v .row in
         let cells : length (countsOf way p s t) ≡ roomOf way (p .set) .counts =
@@ -223,7 +231,7 @@ module _ (way : Way) {b : List ℕ} {z : Plan} (k : Planned b z) (cs ws ns : Lis
               numbers = j .numbers p s t ns;
             };
             balance-box = h .joint .box ∙ sym (j .box p s t (v .cut .0));
-            carried = j .carries b s t (v .cut .0) ns hs (v .running) (h .carried);
+            carried = j .carries b vs s t (v .cut .0) ns hs (v .running) (h .carried);
           };
           kept = record {
             counts = beyond-of (roomOf way (p .set) .counts) (countsOf way p s t) cs cs′ cells counts-are counts-fit;
@@ -232,10 +240,20 @@ module _ (way : Way) {b : List ℕ} {z : Plan} (k : Planned b z) (cs ws ns : Lis
           };
         }
 
-    pub columns-at : way ≡ Columns → AtWindow way b (stores cs ws ns) hs d v → ColumnsAt (frameOf b) v ns × (d ≡ zeros)
+-- ways 2 and 3
+module _ (way : Way) {b : List ℕ} {z : Plan} (k : Planned b z) (cs ws ns : List ℕ) (f : StoresFit way (settingsIn z) (stores cs ws ns)) where
+  pub fit-columns : way ≡ Columns → roomOf Columns (frameOf b .set) .numbers ≤ length ns
+  fit-columns e = let g : StoresFit Columns (settingsIn z) (stores cs ws ns) =
+      rw e at f in room-of k Columns (λ q. q .numbers) (length ns) (g .numbers)
+
+  pub fit-chain : way ≡ Chain → roomOf Chain (frameOf b .set) .numbers ≤ length ns
+  fit-chain e = let g : StoresFit Chain (settingsIn z) (stores cs ws ns) = rw e at f in room-of k Chain (λ q. q .numbers) (length ns) (g .numbers)
+
+  module _ (hs : List ℕ) (d : List ℤ) (v : Visit) where
+    pub columns-at : way ≡ Columns → AtWindow way b [] (stores cs ws ns) hs d v → ColumnsAt (frameOf b) v ns × (d ≡ zeros)
     unfolding NumbersOf ownBox WayCarries
     columns-at e h =
-        let g : AtWindow Columns b (stores cs ws ns) hs d v = rw e at h in (
+        let g : AtWindow Columns b [] (stores cs ws ns) hs d v = rw e at h in (
           record {
             state = refl;
             sums = g .carried .0;
@@ -246,7 +264,7 @@ module _ (way : Way) {b : List ℕ} {z : Plan} (k : Planned b z) (cs ws ns : Lis
         )
 
     pub columns-visited : (s t c n : ℕ) (ns′ : List ℕ) → way ≡ Columns → ColumnsVisited (frameOf b) (arrive Columns (frameOf b) s t c n) ns v ns′
-        → d ≡ zeros → Visited way b (arrive way (frameOf b) s t c n) (stores cs ws ns) (stores cs ws ns′) hs d v
+        → d ≡ zeros → Visited way b [] (arrive way (frameOf b) s t c n) (stores cs ws ns) (stores cs ws ns′) hs d v
     unfolding roomOf countsOf wordsOf NumbersOf ownBox WayCarries
     columns-visited s t c n ns′ e h q =
         let p = frameOf b in
@@ -270,10 +288,10 @@ module _ (way : Way) {b : List ℕ} {z : Plan} (k : Planned b z) (cs ws ns : Lis
           };
         })
 
-    pub chain-at : way ≡ Chain → AtWindow way b (stores cs ws ns) hs d v → ChainAt b z v ns × (d ≡ zeros)
+    pub chain-at : way ≡ Chain → AtWindow way b [] (stores cs ws ns) hs d v → ChainAt b z v ns × (d ≡ zeros)
     unfolding ownBox WayCarries
     chain-at e h =
-        let g : AtWindow Chain b (stores cs ws ns) hs d v = rw e at h in (
+        let g : AtWindow Chain b [] (stores cs ws ns) hs d v = rw e at h in (
           record {
             sums = g .carried .0;
             listed =
@@ -283,7 +301,7 @@ module _ (way : Way) {b : List ℕ} {z : Plan} (k : Planned b z) (cs ws ns : Lis
         )
 
     pub chain-visited : (s t c n : ℕ) (ns′ : List ℕ) → way ≡ Chain → ChainVisited b z (arrive Chain (frameOf b) s t c n) ns v ns′ → d ≡ zeros →
-        Visited way b (arrive way (frameOf b) s t c n) (stores cs ws ns) (stores cs ws ns′) hs d v
+        Visited way b [] (arrive way (frameOf b) s t c n) (stores cs ws ns) (stores cs ws ns′) hs d v
     unfolding roomOf countsOf wordsOf NumbersOf ownBox WayCarries
     chain-visited s t c n ns′ e h q =
         rw e
@@ -297,3 +315,12 @@ module _ (way : Way) {b : List ℕ} {z : Plan} (k : Planned b z) (cs ws ns : Lis
           kept =
               record { counts = beyond-same 0 cs; words = beyond-same 0 ws; numbers = record { long = h .stored .long; beyond = h .stored .rest } };
         })
+
+-- with no plane: what is asked and left is said of the file's own values
+module _ (way : Way) (b : List ℕ) {vs : List ℕ} (none : vs ≡ []) {z : Stores} {hs : List ℕ} {d : List ℤ} {v : Visit} where
+  pub at-own : AtWindow way b vs z hs d v → AtWindow way b [] z hs d v
+  at-own = subst (λ (u : List ℕ). AtWindow way b u z hs d v) none
+
+  pub visited-own : {a : Stores} (s t c n : ℕ) → Visited way b [] (arrive way (frameOf b) s t c n) a z hs d v
+      → Visited way b vs (arrive way (frameWith b vs) s t c n) a z hs d v
+  visited-own {a} s t c n = subst (λ (u : List ℕ). Visited way b u (arrive way (frameWith b u) s t c n) a z hs d v) (sym none)

@@ -5,14 +5,14 @@ use Prim.Native.Nat.{ℕ, _+_, _≤_}
 use mathlib.Core.Path.{_≡_}
 use mathlib.Core.Logic.{_⊎_}
 use mathlib.Core.Bool.{true}
-use mathlib.Core.List.{List}
+use mathlib.Core.List.{List, []}
 use lib.ListN.{length, take, drop}
 use lib.IntN.{ℤ}
 use Rattle.spec.specs.declared.Settings.{Settings}
 use Rattle.spec.specs.declared.Plan.{Plan}
 use Rattle.spec.specs.declared.Way.{Way}
 use Rattle.spec.specs.declared.Way.the-variants.{Joint, Columns, Chain, Coarse}
-use Rattle.spec.specs.Frame.{Frame, planOf, frameOf}
+use Rattle.spec.specs.Frame.{Frame, planOf, frameOf, frameWith}
 use Rattle.window.specs.Sums.{SumsAt}
 use Rattle.joint_visit.specs.Visit as joint
 use Rattle.levels.specs.Tally.{BelowAt}
@@ -63,26 +63,26 @@ pub record RestKept (way : Way) (settings : Settings) (before after : Stores) : 
   pub words : KeptBeyond (roomOf way settings .words) (before .words) (after .words)
   pub numbers : KeptBeyond (roomOf way settings .numbers) (before .numbers) (after .numbers)
 
--- what the way carries to the next window of a file, beside the window's sums: columns the tally up to the cut point, joint and coarse that tally
--- and the histogram of levels, the chain its free list in the numbers
-unfoldable pub WayCarries : Way → List ℕ → ℕ → ℕ → ℕ → (numbers histogram : List ℕ) → Running → Type 0
-WayCarries Joint b s t c numbers histogram r = joint.JointCarried (frameOf b) s t c (r .sums) (r .below) histogram
-WayCarries Columns b s t c numbers histogram r = SumsAt (frameOf b) s t (r .sums) × BelowAt (frameOf b) s t (c + 1) (r .below)
-WayCarries Chain b s t c numbers histogram r = SumsAt (frameOf b) s t (r .sums) × Listed b (planOf b) s t (r .free) numbers
-WayCarries Coarse b s t c numbers histogram r = joint.JointCarried (frameOf b) s t c (r .sums) (r .below) histogram
+-- what the way carries to the next window of a file with its own values or those of a plane, beside the window's sums: columns the tally up to the
+-- cut point, joint and coarse that tally and the histogram of levels, the chain its free list in the numbers
+unfoldable pub WayCarries : Way → (file plane : List ℕ) → ℕ → ℕ → ℕ → (numbers histogram : List ℕ) → Running → Type 0
+WayCarries Joint b vs s t c numbers histogram r = joint.JointCarried (frameWith b vs) s t c (r .sums) (r .below) histogram
+WayCarries Columns b vs s t c numbers histogram r = SumsAt (frameWith b vs) s t (r .sums) × BelowAt (frameWith b vs) s t (c + 1) (r .below)
+WayCarries Chain b vs s t c numbers histogram r = SumsAt (frameWith b vs) s t (r .sums) × Listed b (planOf b) s t (r .free) numbers
+WayCarries Coarse b vs s t c numbers histogram r = joint.JointCarried (frameWith b vs) s t c (r .sums) (r .below) histogram
 
--- the way serves the plan's kind
-abbrev pub Serves : Way → Plan → Type 0
-Serves way plan = BothKinds way ⊎ (plan .kind ≡ 2)
+-- the way serves the plan's kind; a plane given in place of the file's values, which is none where it is empty, is for way 1 in kind 1 alone
+abbrev pub Serves : Way → Plan → List ℕ → Type 0
+Serves way plan values = (BothKinds way ⊎ (plan .kind ≡ 2)) × ((values ≡ []) ⊎ ((way ≡ Joint) × (plan .kind ≡ 1)))
 
--- the stores, the box and what is carried are those of the visit's window in the file b
-pub record AtWindow (way : Way) (b : List ℕ) (held : Stores) (histogram : List ℕ) (box : List ℤ) (v : Visit) : Type 0 where
-  pub holds : StoresHold way (frameOf b) (v .column) (v .row) held
-  pub balance-box : box ≡ ownBox way (frameOf b) (v .column) (v .row) (v .cut .0)
-  pub carried : WayCarries way b (v .column) (v .row) (v .cut .0) (held .numbers) histogram (v .running)
+-- the stores, the box and what is carried are those of the visit's window in the file b, with its own values or those of a plane
+pub record AtWindow (way : Way) (b vs : List ℕ) (held : Stores) (histogram : List ℕ) (box : List ℤ) (v : Visit) : Type 0 where
+  pub holds : StoresHold way (frameWith b vs) (v .column) (v .row) held
+  pub balance-box : box ≡ ownBox way (frameWith b vs) (v .column) (v .row) (v .cut .0)
+  pub carried : WayCarries way b vs (v .column) (v .row) (v .cut .0) (held .numbers) histogram (v .running)
 
 -- what each call on a window leaves: the state x, the window's stores, histogram and box, and the rest as it was
-pub record Visited (way : Way) (b : List ℕ) (x : State) (before after : Stores) (histogram : List ℕ) (box : List ℤ) (v : Visit) : Type 0 where
+pub record Visited (way : Way) (b vs : List ℕ) (x : State) (before after : Stores) (histogram : List ℕ) (box : List ℤ) (v : Visit) : Type 0 where
   pub state : stateOf way v ≡ x
-  pub here : AtWindow way b after histogram box v
+  pub here : AtWindow way b vs after histogram box v
   pub kept : RestKept way (frameOf b .set) before after

@@ -3,7 +3,7 @@
 use mathlib.Core.Path.{_≡_, refl, sym, ap, ap₂, _∙_}
 use mathlib.Core.Bool.{true}
 use mathlib.Core.Logic.{⊎-elim}
-use mathlib.Core.List.{List}
+use mathlib.Core.List.{List, []}
 use Prim.Native.Nat.{ℕ, _+_, _-_, _*_, _^_, _≤_, _<_}
 use native.Mathlib.Omega.{arith}
 use lib.Dec.{eqb}
@@ -128,20 +128,20 @@ windowShare width p s t j i g = if eqb (blockOf width i) j then weight p s t g e
 
 pub record ColumnsAdded (width : ℕ) (b : List ℕ) (z : Plan) (s t x k : ℕ) (xs ys : List ℤ) : Type 0 where
   pub long : length ys ≡ length xs
-  pub blocks : (j : ℕ) → getD ys j (pos 0) ≡ columnsFold _+ℤ_ (pos 0) b z x t (windowShare width (frameOf b) s t j) k
+  pub blocks : (j : ℕ) → getD ys j (pos 0) ≡ columnsFold _+ℤ_ (pos 0) b [] z x t (windowShare width (frameOf b) s t j) k
   pub low : (j : ℕ) → natAbs (getD ys j (pos 0)) ≤ k * 5584831631325
 
 pub columns-start : (width : ℕ) (b : List ℕ) (z : Plan) (s t x : ℕ) {xs : List ℤ} → Zeros xs → ColumnsAdded width b z s t x 0 xs xs
 columns-start width b z s t x g = record {
   long = refl;
-  blocks = λ j. g .zero j ∙ sym (columns-none _+ℤ_ (pos 0) b z x t (windowShare width (frameOf b) s t j));
+  blocks = λ j. g .zero j ∙ sym (columns-none _+ℤ_ (pos 0) b [] z x t (windowShare width (frameOf b) s t j));
   low = λ j. rw (g .zero j) (omega arith);
 }
 
 module _ (width : ℕ) {b : List ℕ} {z : Plan} {s t : ℕ} {ns : List ℕ} {w : Formula} (wd : Weighed b z s t ns w)
     (gives : Weighs (frameOf b) s t ns w) where
   -- a column's list p
-  module _ {d : Line} {p : List ℕ} (v : LinePixels b z d p) where
+  module _ {d : Line} {p : List ℕ} (v : LinePixels b [] z d p) where
     list-adds : (j : ℕ) → pixelFold _+ℤ_ (pos 0) p (blockShare width ns w j) ≡ pixelFold _+ℤ_ (pos 0) p (windowShare width (frameOf b) s t j)
     unfolding pixelFoldTo blockShare
     list-adds j =
@@ -166,7 +166,7 @@ module _ (width : ℕ) {b : List ℕ} {z : Plan} {s t : ℕ} {ns : List ℕ} {w 
       columns-next ed a = record {
         long = a .long ∙ g .long;
         blocks = λ j. a .blocks j ∙ ap₂ _+ℤ_ (g .blocks j) (list-adds j)
-            ∙ sym (columns-more _+ℤ_ (pos 0) b z x t (windowShare width (frameOf b) s t j) k p ed (v .sumℤ (windowShare width (frameOf b) s t j)));
+            ∙ sym (columns-more _+ℤ_ (pos 0) b [] z x t (windowShare width (frameOf b) s t j) k p ed (v .sumℤ (windowShare width (frameOf b) s t j)));
         low = λ j. rw (a .blocks j) (omega (
           arith,
           abs-add (getD ys j (pos 0)) (pixelFold _+ℤ_ (pos 0) p (blockShare width ns w j)),
@@ -181,7 +181,7 @@ module _ (width : ℕ) {b : List ℕ} {z : Plan} {s t : ℕ} {ns : List ℕ} {w 
   unfolding weightIn
   columns-all {x} ex en g = record {
     long = g .long;
-    blocks = λ j. g .blocks j ∙ columns-window _+ℤ_ (pos 0) b z x t (windowShare width (frameOf b) s t j) (wd .planned) s ex en;
+    blocks = λ j. g .blocks j ∙ columns-window _+ℤ_ (pos 0) b [] z x t (windowShare width (frameOf b) s t j) (wd .planned) s ex en;
   }
 
 -- a window with no reading adds nothing

@@ -12,8 +12,8 @@ use lib.Dec.{leb, ltb}
 use borrow.Author.Tests.{ltb-true}
 use Rattle.spec.specs.declared.Plan.{Plan}
 use Rattle.spec.specs.Base.{if_then_else_, fold, foldRect}
-use Rattle.spec.specs.Frame.{level, guide, pixelLevel, pixelGuide, frameOf}
-use Rattle.spec.specs.Checks.{Planned}
+use Rattle.spec.specs.Frame.{level, guide, pixelGuide, frameWith, valueOf}
+use Rattle.spec.specs.Checks.{Pictured}
 use Rattle.spec.specs.Window.{span, live, over, inColumn, inRow}
 use Rattle.spec.proofs.Ranges.{AdditionLaws, natSums, lost, gained, over-right, over-down}
 use Rattle.spec.proofs.Plans.{facts, place-low}
@@ -80,132 +80,136 @@ module _ {A : Type 0} (_⊕_ : A → A → A) (e : A) where
   unfolding fold
   fold-more F a n = rw add-one refl
 
-  pub line-none : (b : List ℕ) (d : Line) (h : ℕ → ℕ → A) → lineFoldTo _⊕_ e b d h 0 ≡ e
+  pub line-none : (b vs : List ℕ) (d : Line) (h : ℕ → ℕ → A) → lineFoldTo _⊕_ e b vs d h 0 ≡ e
   unfolding lineFoldTo
-  line-none b d h = fold-none _ 0
+  line-none b vs d h = fold-none _ 0
 
-  pub line-more : (b : List ℕ) (d : Line) (h : ℕ → ℕ → A) (n : ℕ)
-      → lineFoldTo _⊕_ e b d h (n + 1) ≡ lineFoldTo _⊕_ e b d h n ⊕ reading e h (pixelLevel b (pixelOf d n)) (pixelGuide b (pixelOf d n))
+  pub line-more : (b vs : List ℕ) (d : Line) (h : ℕ → ℕ → A) (n : ℕ)
+      → lineFoldTo _⊕_ e b vs d h (n + 1) ≡ lineFoldTo _⊕_ e b vs d h n ⊕ reading e h (valueOf b vs (pixelOf d n)) (pixelGuide b (pixelOf d n))
   unfolding lineFoldTo
-  line-more b d h n =
+  line-more b vs d h n =
       fold-more _ 0 n
-      ∙ ap (λ (k : ℕ). lineFoldTo _⊕_ e b d h n ⊕ reading e h (pixelLevel b (pixelOf d k)) (pixelGuide b (pixelOf d k))) (zero-add n)
+      ∙ ap (λ (k : ℕ). lineFoldTo _⊕_ e b vs d h n ⊕ reading e h (valueOf b vs (pixelOf d k)) (pixelGuide b (pixelOf d k))) (zero-add n)
 
-  shift-fold : (b : List ℕ) (h : ℕ → ℕ → A) (d : Line) (by : ℕ) (on : Bool)
-      → lineFold _⊕_ e b (shift d by on) h ≡ (if on then lineFold _⊕_ e b (shift d by true) h else e)
+  shift-fold : (b vs : List ℕ) (h : ℕ → ℕ → A) (d : Line) (by : ℕ) (on : Bool)
+      → lineFold _⊕_ e b vs (shift d by on) h ≡ (if on then lineFold _⊕_ e b vs (shift d by true) h else e)
   unfolding shift lineFoldTo fold
-  shift-fold b h d by true = refl
-  shift-fold b h d by false = refl
+  shift-fold b vs h d by true = refl
+  shift-fold b vs h d by false = refl
 
   -- what is lost and gained, line by line
-  module _ (b : List ℕ) (h : ℕ → ℕ → A) (d : Line) (apart r size : ℕ) (G : ℕ → A) (same : (x : ℕ) →
-      lineFold _⊕_ e b (shift d (x * apart) true) h ≡ G x) where
-    lost-line : (c : ℕ) → lineFold _⊕_ e b (advance d apart c r size .leaving) h ≡ lost _⊕_ e G r c
+  module _ (b vs : List ℕ) (h : ℕ → ℕ → A) (d : Line) (apart r size : ℕ) (G : ℕ → A) (same : (x : ℕ) →
+      lineFold _⊕_ e b vs (shift d (x * apart) true) h ≡ G x) where
+    lost-line : (c : ℕ) → lineFold _⊕_ e b vs (advance d apart c r size .leaving) h ≡ lost _⊕_ e G r c
     unfolding advance lost
-    lost-line c = shift-fold b h d ((c - r) * apart) (leb r c) ∙ ap (λ (q : A). if leb r c then q else e) (same (c - r))
+    lost-line c = shift-fold b vs h d ((c - r) * apart) (leb r c) ∙ ap (λ (q : A). if leb r c then q else e) (same (c - r))
 
-    gained-line : (c : ℕ) → lineFold _⊕_ e b (advance d apart c r size .entering) h ≡ gained _⊕_ e G r c size
+    gained-line : (c : ℕ) → lineFold _⊕_ e b vs (advance d apart c r size .entering) h ≡ gained _⊕_ e G r c size
     unfolding advance gained
     gained-line c =
-        shift-fold b h d ((c + r + 1) * apart) (ltb (c + r + 1) size) ∙ ap (λ (q : A). if ltb (c + r + 1) size then q else e) (same (c + r + 1))
+        shift-fold b vs h d ((c + r + 1) * apart) (ltb (c + r + 1) size) ∙ ap (λ (q : A). if ltb (c + r + 1) size then q else e) (same (c + r + 1))
 
-  module _ {b : List ℕ} {z : Plan} (pl : Planned b z) (h : ℕ → ℕ → A) where
+  module _ {b vs : List ℕ} {z : Plan} (pl : Pictured b vs z) (h : ℕ → ℕ → A) where
     -- h at a pixel of the picture
     abbrev pub at : ℕ → ℕ → A
-    at x y = h (level (frameOf b) x y) (guide (frameOf b) x y)
+    at x y = h (level (frameWith b vs) x y) (guide (frameWith b vs) x y)
 
-    place-at : (q x y : ℕ) → q ≡ y * z .width + x → reading e h (pixelLevel b q) (pixelGuide b q) ≡ live e (frameOf b) at x y
+    place-at : (q x y : ℕ) → q ≡ y * z .width + x → reading e h (valueOf b vs q) (pixelGuide b q) ≡ live e (frameWith b vs) at x y
     unfolding live
-    place-at q x y k = let f = facts pl in ap₂ (reading e h) (ap (pixelLevel b) k ∙ f .level-at x y) (ap (pixelGuide b) k ∙ f .guide-at x y)
+    place-at q x y k = let f = facts pl in ap₂ (reading e h) (ap (valueOf b vs) k ∙ f .level-at x y) (ap (pixelGuide b) k ∙ f .guide-at x y)
 
     along-column : (first x t : ℕ) → first ≡ (t - z .radius) * z .width + x
-        → fold _⊕_ e (λ k. reading e h (pixelLevel b (first + k * z .width)) (pixelGuide b (first + k * z .width))) 0 (span (z .radius) t (z .height))
-        ≡ inColumn _⊕_ e (frameOf b) t at x
+        → fold _⊕_ e (λ k. reading e h (valueOf b vs (first + k * z .width)) (pixelGuide b (first + k * z .width))) 0 (span (z .radius) t (z .height))
+        ≡ inColumn _⊕_ e (frameWith b vs) t at x
     unfolding inColumn
     along-column first x t k =
         let f = facts pl in
-        fold-moved _ (live e (frameOf b) at x) (t - z .radius) (span (z .radius) t (z .height))
+        fold-moved _ (live e (frameWith b vs) at x) (t - z .radius) (span (z .radius) t (z .height))
         (λ j. place-at _ x (t - z .radius + j) (column-place (z .width) (t - z .radius) x j first k))
-        ∙ ap₂ (λ (r n : ℕ). fold _⊕_ e (live e (frameOf b) at x) (t - r) (span r t n)) (f .radius) (f .height)
+        ∙ ap₂ (λ (r n : ℕ). fold _⊕_ e (live e (frameWith b vs) at x) (t - r) (span r t n)) (f .radius) (f .height)
 
     along-row : (first s y : ℕ) → first ≡ y * z .width + (s - z .radius)
-        → fold _⊕_ e (λ k. reading e h (pixelLevel b (first + k * 1)) (pixelGuide b (first + k * 1))) 0 (span (z .radius) s (z .width))
-        ≡ inRow _⊕_ e (frameOf b) s at y
+        → fold _⊕_ e (λ k. reading e h (valueOf b vs (first + k * 1)) (pixelGuide b (first + k * 1))) 0 (span (z .radius) s (z .width))
+        ≡ inRow _⊕_ e (frameWith b vs) s at y
     unfolding inRow
     along-row first s y k =
         let f = facts pl in
-        fold-moved _ (λ x. live e (frameOf b) at x y) (s - z .radius) (span (z .radius) s (z .width))
+        fold-moved _ (λ x. live e (frameWith b vs) at x y) (s - z .radius) (span (z .radius) s (z .width))
         (λ j. place-at _ (s - z .radius + j) y (row-place (z .width) y (s - z .radius) j first k))
-        ∙ ap₂ (λ (r n : ℕ). fold _⊕_ e (λ x. live e (frameOf b) at x y) (s - r) (span r s n)) (f .radius) (f .width)
+        ∙ ap₂ (λ (r n : ℕ). fold _⊕_ e (λ x. live e (frameWith b vs) at x y) (s - r) (span r s n)) (f .radius) (f .width)
 
-    pub column-fold : (x t : ℕ) → lineFold _⊕_ e b (columnLine z x t) h ≡ inColumn _⊕_ e (frameOf b) t at x
+    pub column-fold : (x t : ℕ) → lineFold _⊕_ e b vs (columnLine z x t) h ≡ inColumn _⊕_ e (frameWith b vs) t at x
     unfolding columnLine lineFoldTo
     column-fold x t = along-column _ x t refl
 
-    pub row-fold : (s y : ℕ) → lineFold _⊕_ e b (rowLine z s y) h ≡ inRow _⊕_ e (frameOf b) s at y
+    pub row-fold : (s y : ℕ) → lineFold _⊕_ e b vs (rowLine z s y) h ≡ inRow _⊕_ e (frameWith b vs) s at y
     unfolding rowLine lineFoldTo
     row-fold s y = along-row _ s y refl
 
-    column-shift : (t x : ℕ) → lineFold _⊕_ e b (shift (columnLine z 0 t) (x * 1) true) h ≡ inColumn _⊕_ e (frameOf b) t at x
+    column-shift : (t x : ℕ) → lineFold _⊕_ e b vs (shift (columnLine z 0 t) (x * 1) true) h ≡ inColumn _⊕_ e (frameWith b vs) t at x
     unfolding columnLine shift lineFoldTo
     column-shift t x = along-column _ x t (column-first (z .width) (t - z .radius) x)
 
-    row-shift : (s y : ℕ) → lineFold _⊕_ e b (shift (rowLine z s 0) (y * z .width) true) h ≡ inRow _⊕_ e (frameOf b) s at y
+    row-shift : (s y : ℕ) → lineFold _⊕_ e b vs (shift (rowLine z s 0) (y * z .width) true) h ≡ inRow _⊕_ e (frameWith b vs) s at y
     unfolding rowLine shift lineFoldTo
     row-shift s y = along-row _ s y (row-first (z .width) (s - z .radius) y)
 
     -- the window by its columns
     columns-over : (s t : ℕ) →
-        fold _⊕_ e (inColumn _⊕_ e (frameOf b) t at) (s - frameOf b .set .radius) (span (frameOf b .set .radius) s (frameOf b .set .width)) ≡ over
-        _⊕_ e (frameOf b) s t at
+        fold _⊕_ e (inColumn _⊕_ e (frameWith b vs) t at) (s - frameWith b vs .set .radius)
+        (span (frameWith b vs .set .radius) s (frameWith b vs .set .width)) ≡ over
+        _⊕_ e (frameWith b vs) s t at
     unfolding over foldRect inColumn
     columns-over s t = refl
 
     pub columns-law : (s t : ℕ) →
-        over _⊕_ e (frameOf b) s t at ≡ fold _⊕_ e (λ x. lineFold _⊕_ e b (columnLine z x t) h) (s - z .radius) (span (z .radius) s (z .width))
+        over _⊕_ e (frameWith b vs) s t at ≡ fold _⊕_ e (λ x. lineFold _⊕_ e b vs (columnLine z x t) h) (s - z .radius)
+        (span (z .radius) s (z .width))
     columns-law s t =
         let f = facts pl in
         sym (columns-over s t)
-        ∙ sym (ap₂ (λ (r n : ℕ). fold _⊕_ e (inColumn _⊕_ e (frameOf b) t at) (s - r) (span r s n)) (f .radius) (f .width))
+        ∙ sym (ap₂ (λ (r n : ℕ). fold _⊕_ e (inColumn _⊕_ e (frameWith b vs) t at) (s - r) (span r s n)) (f .radius) (f .width))
         ∙ ap (λ (H : ℕ → A). fold _⊕_ e H (s - z .radius) (span (z .radius) s (z .width))) (fun-ext (λ x. sym (column-fold x t)))
 
     -- ---- a step
     module _ (laws : AdditionLaws _⊕_ e) where
       column-law : (s t : ℕ) → s + 1 < z .width
           →
-          over _⊕_ e (frameOf b) (s + 1) t at ⊕ lineFold _⊕_ e b (columnStep z s t .leaving) h ≡ over _⊕_ e (frameOf b) s t at ⊕ lineFold _⊕_ e b
+          over _⊕_ e (frameWith b vs) (s + 1) t at ⊕ lineFold _⊕_ e b vs (columnStep z s t .leaving) h
+          ≡ over _⊕_ e (frameWith b vs) s t at ⊕ lineFold _⊕_ e b vs
           (columnStep z s t .entering) h
       unfolding columnStep
       column-law s t k =
           let f = facts pl in
-          let G : ℕ → A = inColumn _⊕_ e (frameOf b) t at in
-          ap (λ (q : A). over _⊕_ e (frameOf b) (s + 1) t at ⊕ q)
-          (lost-line b h (columnLine z 0 t) 1 (z .radius) (z .width) G (column-shift t) s ∙ ap (λ (r : ℕ). lost _⊕_ e G r s) (f .radius))
-          ∙ over-right _⊕_ e laws (frameOf b) s t at (rw (f .width) at k)
-          ∙ ap (λ (q : A). over _⊕_ e (frameOf b) s t at ⊕ q)
+          let G : ℕ → A = inColumn _⊕_ e (frameWith b vs) t at in
+          ap (λ (q : A). over _⊕_ e (frameWith b vs) (s + 1) t at ⊕ q)
+          (lost-line b vs h (columnLine z 0 t) 1 (z .radius) (z .width) G (column-shift t) s ∙ ap (λ (r : ℕ). lost _⊕_ e G r s) (f .radius))
+          ∙ over-right _⊕_ e laws (frameWith b vs) s t at (rw (f .width) at k)
+          ∙ ap (λ (q : A). over _⊕_ e (frameWith b vs) s t at ⊕ q)
           (sym
-          (gained-line b h (columnLine z 0 t) 1 (z .radius) (z .width) G (column-shift t) s ∙ ap₂ (λ (r n : ℕ). gained _⊕_ e G r s n) (f .radius)
+          (gained-line b vs h (columnLine z 0 t) 1 (z .radius) (z .width) G (column-shift t) s ∙ ap₂ (λ (r n : ℕ). gained _⊕_ e G r s n) (f .radius)
           (f .width)))
 
       row-law : (s t : ℕ) → t + 1 < z .height
           →
-          over _⊕_ e (frameOf b) s (t + 1) at ⊕ lineFold _⊕_ e b (rowStep z s t .leaving) h ≡ over _⊕_ e (frameOf b) s t at ⊕ lineFold _⊕_ e b
+          over _⊕_ e (frameWith b vs) s (t + 1) at ⊕ lineFold _⊕_ e b vs (rowStep z s t .leaving) h
+          ≡ over _⊕_ e (frameWith b vs) s t at ⊕ lineFold _⊕_ e b vs
           (rowStep z s t .entering) h
       unfolding rowStep
       row-law s t k =
           let f = facts pl in
-          let G : ℕ → A = inRow _⊕_ e (frameOf b) s at in
-          ap (λ (q : A). over _⊕_ e (frameOf b) s (t + 1) at ⊕ q)
-          (lost-line b h (rowLine z s 0) (z .width) (z .radius) (z .height) G (row-shift s) t ∙ ap (λ (r : ℕ). lost _⊕_ e G r t) (f .radius))
-          ∙ over-down _⊕_ e laws (frameOf b) s t at (rw (f .height) at k)
-          ∙ ap (λ (q : A). over _⊕_ e (frameOf b) s t at ⊕ q)
+          let G : ℕ → A = inRow _⊕_ e (frameWith b vs) s at in
+          ap (λ (q : A). over _⊕_ e (frameWith b vs) s (t + 1) at ⊕ q)
+          (lost-line b vs h (rowLine z s 0) (z .width) (z .radius) (z .height) G (row-shift s) t ∙ ap (λ (r : ℕ). lost _⊕_ e G r t) (f .radius))
+          ∙ over-down _⊕_ e laws (frameWith b vs) s t at (rw (f .height) at k)
+          ∙ ap (λ (q : A). over _⊕_ e (frameWith b vs) s t at ⊕ q)
           (sym
-          (gained-line b h (rowLine z s 0) (z .width) (z .radius) (z .height) G (row-shift s) t ∙ ap₂ (λ (r n : ℕ). gained _⊕_ e G r t n)
+          (gained-line b vs h (rowLine z s 0) (z .width) (z .radius) (z .height) G (row-shift s) t ∙ ap₂ (λ (r n : ℕ). gained _⊕_ e G r t n)
           (f .radius) (f .height)))
 
       pub step-law : {s t s′ t′ : ℕ} → Adjacent z s t s′ t′
-          → over _⊕_ e (frameOf b) s′ t′ at ⊕ lineFold _⊕_ e b (stepOf z s t s′ t′ .leaving) h
-          ≡ over _⊕_ e (frameOf b) s t at ⊕ lineFold _⊕_ e b (stepOf z s t s′ t′ .entering) h
+          → over _⊕_ e (frameWith b vs) s′ t′ at ⊕ lineFold _⊕_ e b vs (stepOf z s t s′ t′ .leaving) h
+          ≡ over _⊕_ e (frameWith b vs) s t at ⊕ lineFold _⊕_ e b vs (stepOf z s t s′ t′ .entering) h
       unfolding reverse
       step-law {s} {t} {s′} {t′} (right es et hs ht) =
           rw (is-right z s t s′ t′ (omega arith), es, et) (column-law s t (omega arith))

@@ -1,20 +1,20 @@
--- Where a plan's pixels stand in its file, and how large their numbers are.
+-- Where a plan's pixels stand in its file or in a plane in place of its values, and how large their numbers are.
 -- Assumes nothing.
-use mathlib.Core.Path.{_≡_}
+use mathlib.Core.Path.{_≡_, refl}
 use mathlib.Core.Bool.{false}
-use mathlib.Core.List.{List}
+use mathlib.Core.List.{List, [], _∷_}
 use Prim.Native.Nat.{ℕ, _+_, _-_, _*_, _≤_, _<_}
 use native.Mathlib.Omega.{arith}
 use lib.Dec.{eqb}
-use lib.ListN.{length}
+use lib.ListN.{length, getD}
 use Rattle.spec.specs.declared.Plan.{Plan}
-use Rattle.spec.specs.Frame.{noReading, settingsOf, pixelLevel, pixelGuide, frameOf}
-use Rattle.spec.specs.Checks.{Planned}
-use Rattle.spec.proofs.Limits.{level-live, guide-below}
+use Rattle.spec.specs.Frame.{noReading, settingsOf, pixels, pixelLevel, pixelGuide, frameOf, valueOf}
+use Rattle.spec.specs.Checks.{ValuesFit, PlaneFits, Pictured}
+use Rattle.spec.proofs.Limits.{value-live, guide-below}
 use Rattle.spec.proofs.Plans.{facts, plane-small}
 use Rattle.window.specs.Line.{PlanLimits}
 
-module _ {b : List ℕ} {z : Plan} (pl : Planned b z) where
+module _ {b vs : List ℕ} {z : Plan} (pl : Pictured b vs z) where
   pub plan-limits : PlanLimits z
   plan-limits =
       let f = facts pl in
@@ -40,9 +40,25 @@ module _ {b : List ℕ} {z : Plan} (pl : Planned b z) where
     unfolding frameOf
     in-pixels = let f = facts pl in rw (f .width, f .height) at h
 
-    pub level-low : eqb (pixelLevel b q) noReading ≡ false → pixelLevel b q < z .levels
+    pub level-low : eqb (valueOf b vs q) noReading ≡ false → valueOf b vs q < z .levels
     unfolding frameOf
-    level-low e = rw (facts pl .levels) (level-live b (pl .accepts) q in-pixels e)
+    level-low e = rw (facts pl .levels) (value-live b (pl .accepts) vs (pl .fits) q in-pixels e)
+
+    -- of a plane that is there: its number, and that it has it
+    pub plane-in : (length vs ≡ 0 → ⊥) → (q < length vs) × (getD vs q 0 ≡ valueOf b vs q)
+    plane-in = go vs (pl .fits)
+      where
+        go : (v : List ℕ) → PlaneFits b v → (length v ≡ 0 → ⊥) → (q < length v) × (getD v q 0 ≡ valueOf b v q)
+        go [] fit n = absurd (n refl)
+        go (v ∷ vs) fit n = (rw (fit .long) in-pixels, refl)
+
+    -- of none
+    pub plane-none : length vs ≡ 0 → pixelLevel b q ≡ valueOf b vs q
+    plane-none = go vs
+      where
+        go : (v : List ℕ) → length v ≡ 0 → pixelLevel b q ≡ valueOf b v q
+        go [] e = refl
+        go (v ∷ vs) e = absurd (omega arith)
 
     pub guide-low : pixelGuide b q < z .guides
     unfolding frameOf

@@ -7,7 +7,7 @@ use Prim.Native.Nat.{ℕ, _+_, _-_, _*_, _≤_, _<_}
 use lib.Dec.{leb, ltb, eqb}
 use Rattle.spec.specs.declared.Plan.{Plan}
 use Rattle.spec.specs.Base.{if_then_else_, fold}
-use Rattle.spec.specs.Frame.{noReading, pixelLevel, pixelGuide}
+use Rattle.spec.specs.Frame.{noReading, pixelGuide, valueOf}
 use Rattle.spec.specs.Window.{span}
 use Rattle.window.specs.declared.line.Line.{Line}
 use Rattle.window.specs.declared.line.Step.{Step}
@@ -76,10 +76,10 @@ pub record StepInPlanes (plan : Plan) (step : Step) : Type 0 where
 abbrev pub reading : {A : Type 0} → A → (ℕ → ℕ → A) → ℕ → ℕ → A
 reading e h i f = if eqb i noReading then e else h i f
 
--- the sum over a line of h at each live pixel's level and guide; of its first n pixels
+-- the sum over a line of h at each live pixel's level and guide, in a file with its own values or those of a plane; of its first n pixels
 module _ {A : Type 0} (_⊕_ : A → A → A) (e : A) where
-  unfoldable pub lineFoldTo : List ℕ → Line → (ℕ → ℕ → A) → ℕ → A
-  lineFoldTo b d h n = fold _⊕_ e (λ k. reading e h (pixelLevel b (pixelOf d k)) (pixelGuide b (pixelOf d k))) 0 n
+  unfoldable pub lineFoldTo : (file plane : List ℕ) → Line → (ℕ → ℕ → A) → ℕ → A
+  lineFoldTo b vs d h n = fold _⊕_ e (λ k. reading e h (valueOf b vs (pixelOf d k)) (pixelGuide b (pixelOf d k))) 0 n
 
-  abbrev pub lineFold : List ℕ → Line → (ℕ → ℕ → A) → A
-  lineFold b d h = lineFoldTo b d h (d .count)
+  abbrev pub lineFold : (file plane : List ℕ) → Line → (ℕ → ℕ → A) → A
+  lineFold b vs d h = lineFoldTo b vs d h (d .count)

@@ -30,6 +30,8 @@
 //! # Ok::<(), icemedian::Refusal>(())
 //! ```
 //!
+//! Where levels are known within a tolerance, [`tolerance`] gives the least and the greatest answer of each pixel.
+//!
 //! A refusal says its number and its reason:
 //!
 //! ```
@@ -46,12 +48,14 @@ mod reading;
 mod refusal;
 mod settings;
 mod stores;
+mod tolerance;
 
 pub use explanation::{Cause, Explanation};
 pub use reading::{reading, Answer, NO_READING, OFF_PICTURE, UNKNOWN_MOVE};
 pub use refusal::{Part, Refusal};
 pub use settings::{Settings, Way, Weights};
 pub use stores::Stores;
+pub use tolerance::{tolerance, tolerance_into, Tolerance};
 
 /// Move bytes.
 pub const RIGHT: u8 = 0;

@@ -25,6 +25,24 @@ mod c {
             offset: *mut u64,
         ) -> u32;
 
+        pub fn icemedian_tolerance(
+            file: *const u8,
+            file_length: usize,
+            upper: *const u16,
+            upper_length: usize,
+            counts: *mut u16,
+            counts_length: usize,
+            words: *mut u64,
+            words_length: usize,
+            least: *mut u16,
+            least_length: usize,
+            greatest: *mut u16,
+            greatest_length: usize,
+            least_shifts: *mut u64,
+            greatest_shifts: *mut u64,
+            offset: *mut u64,
+        ) -> u32;
+
         pub fn icemedian_walk(
             file: *const u8,
             file_length: usize,
@@ -105,6 +123,15 @@ pub struct Lent<'a> {
     pub answers: &'a mut [u16],
 }
 
+/// Way 1's stores and the two output planes of `icemedian_tolerance`.
+#[derive(Debug)]
+pub struct LentTwo<'a> {
+    pub counts: &'a mut [u16],
+    pub words: &'a mut [u64],
+    pub least: &'a mut [u16],
+    pub greatest: &'a mut [u16],
+}
+
 /// The results of `icemedian_explain`, the cause by its number.
 #[derive(Clone, Copy, Debug, Default, PartialEq, Eq)]
 pub struct Explained {
@@ -153,6 +180,37 @@ pub fn filter(file: &[u8], way: u32, lent: Lent, shifts: &mut u64, offset: &mut 
             lent.answers.as_mut_ptr(),
             lent.answers.len(),
             shifts,
+            offset,
+        )
+    }
+}
+
+/// `icemedian_tolerance`.
+pub fn tolerance(
+    file: &[u8],
+    upper: &[u16],
+    lent: LentTwo,
+    least_shifts: &mut u64,
+    greatest_shifts: &mut u64,
+    offset: &mut u64,
+) -> u32 {
+    // SAFETY: each pointer and length belong to one slice; a mutable slice overlaps no other.
+    unsafe {
+        c::icemedian_tolerance(
+            file.as_ptr(),
+            file.len(),
+            upper.as_ptr(),
+            upper.len(),
+            lent.counts.as_mut_ptr(),
+            lent.counts.len(),
+            lent.words.as_mut_ptr(),
+            lent.words.len(),
+            lent.least.as_mut_ptr(),
+            lent.least.len(),
+            lent.greatest.as_mut_ptr(),
+            lent.greatest.len(),
+            least_shifts,
+            greatest_shifts,
             offset,
         )
     }

@@ -1,6 +1,6 @@
-//! Refusals, by document 01's numbers.
+//! Refusals, by document 01's numbers and document 02's 13.
 
-use crate::{Settings, Weights};
+use crate::{reading, Settings, Weights, NO_READING};
 use std::error::Error;
 use std::fmt;
 
@@ -22,7 +22,7 @@ impl fmt::Display for Part {
     }
 }
 
-/// Why a call refuses: the first of document 01's checks that fires.
+/// Why a call refuses: the first of the documents' checks that fires.
 #[derive(Clone, Copy, Debug, PartialEq, Eq)]
 pub enum Refusal {
     /// 1: under 28 bytes, or another mark.
@@ -44,7 +44,7 @@ pub enum Refusal {
     /// 7: a value or guide is too large; the first one's byte offset in the file. A value of 65,535 is no reading and
     /// passes, a weight may be any number.
     Contents { offset: u64 },
-    /// 8: the way does not serve the kind.
+    /// 8: the way does not serve the kind; a tolerance serves kind 1 only.
     Way,
     /// 9: the pixel is outside the picture, or the level outside the levels.
     Place,
@@ -52,7 +52,12 @@ pub enum Refusal {
     Moves,
     /// 11: a store, answer buffer or output is too short.
     Room,
-    /// A status that document 01 does not have: the archive is not the one that this crate is written for.
+    /// 13: the plane of upper levels has not a number for each pixel.
+    UpperLength { length: usize, wanted: usize },
+    /// 13: the first pixel, counted row by row from the top left, whose upper level does not go with its reading: it is
+    /// below the reading or no level of the frame, or only one of the two is [`NO_READING`].
+    UpperLevel { pixel: usize, reading: u16, upper: u16 },
+    /// A status that the documents do not have: the archive is not the one that this crate is written for.
     Unknown { status: u32 },
     /// An explanation whose cause document 02 does not have, though no check fired: likewise.
     UnknownCause { cause: u32 },
@@ -83,14 +88,41 @@ impl Refusal {
         Refusal::of_status(status, offset, || Refusal::distance(file))
     }
 
+    /// What a status says of a call with a plane of upper levels.
+    pub(crate) fn of_tolerance(status: u32, offset: u64, file: &[u8], upper: &[u16]) -> Result<(), Refusal> {
+        match status {
+            13 => Err(Refusal::upper(file, upper)),
+            _ => Refusal::of_reading(status, offset, file),
+        }
+    }
+
+    /// What is at fault in a plane of upper levels that number 13 refuses, the file being one that no check refuses.
+    fn upper(file: &[u8], upper: &[u16]) -> Refusal {
+        let settings = Settings::of_trailer(file);
+        let (length, wanted) = (upper.len(), settings.pixels());
+        if length != wanted {
+            return Refusal::UpperLength { length, wanted };
+        }
+        let before = file.len() - 28;
+        let values = &file[before - distance_at(file, 12) as usize..][..2 * wanted];
+        let readings = values.chunks_exact(2).map(|bytes| u16::from_be_bytes([bytes[0], bytes[1]]));
+        let wrong = |reading: u16, upper: u16| {
+            (reading == NO_READING) != (upper == NO_READING)
+                || reading > upper
+                || (upper != NO_READING && upper >= settings.levels)
+        };
+        let mut pairs = readings.zip(upper).enumerate();
+        match pairs.find(|&(_, (reading, &upper))| wrong(reading, upper)) {
+            Some((pixel, (reading, &upper))) => Refusal::UpperLevel { pixel, reading, upper },
+            None => Refusal::Unknown { status: 13 },
+        }
+    }
+
     /// The first part at fault in a file that number 6 refuses.
     fn distance(file: &[u8]) -> Refusal {
         let settings = Settings::of_trailer(file);
         let before = file.len() - 28;
-        let distance = |place: usize| {
-            let start = before + place;
-            u32::from_be_bytes([file[start], file[start + 1], file[start + 2], file[start + 3]])
-        };
+        let distance = |place: usize| distance_at(file, place);
         let plane = 2 * settings.pixels();
         let outside = |distance: u32| u64::from(distance) < plane as u64 || u64::from(distance) > before as u64;
         for (part, distance) in [(Part::Values, distance(12)), (Part::Guide, distance(16))] {
@@ -117,7 +149,7 @@ impl Refusal {
         Refusal::Length { part: Part::Table, length: table.len(), wanted }
     }
 
-    /// Document 01's number; 0 where no check fired.
+    /// The documents' number; 0 where no check fired.
     pub fn number(self) -> u32 {
         match self {
             Refusal::Trailer => 1,
@@ -131,6 +163,7 @@ impl Refusal {
             Refusal::Place => 9,
             Refusal::Moves => 10,
             Refusal::Room => 11,
+            Refusal::UpperLength { .. } | Refusal::UpperLevel { .. } => 13,
             Refusal::Unknown { status } => status,
             Refusal::UnknownCause { .. } => 0,
         }
@@ -170,14 +203,31 @@ impl fmt::Display for Refusal {
                 f.write_str(or_none(part, wanted, " or none"))
             }
             Refusal::Contents { offset } => write!(f, "a value or guide is too large (at byte {offset})"),
-            Refusal::Way => write!(f, "the way does not serve the frame's kind"),
+            Refusal::Way => write!(f, "the way or the call does not serve the frame's kind"),
             Refusal::Place => write!(f, "the pixel is outside the picture or the level outside the levels"),
             Refusal::Moves => write!(f, "there are over 1048576 moves"),
             Refusal::Room => write!(f, "a store, answer buffer or output is too short"),
-            Refusal::Unknown { .. } => write!(f, "a status that document 01 does not have"),
+            Refusal::UpperLength { length, wanted } => {
+                write!(f, "the plane of upper levels has {length} numbers, and must have {wanted}")
+            }
+            Refusal::UpperLevel { pixel, reading: value, upper } => match (reading(value), reading(upper)) {
+                (None, _) => write!(f, "pixel {pixel} has no reading, but {upper} as its upper level"),
+                (_, None) => write!(f, "pixel {pixel} has a reading, {value}, but no upper level"),
+                (Some(value), Some(upper)) if value > upper => {
+                    write!(f, "the reading of pixel {pixel} is {value}, above its upper level {upper}")
+                }
+                _ => write!(f, "the upper level of pixel {pixel} is {upper}, which is none of the frame's levels"),
+            },
+            Refusal::Unknown { .. } => write!(f, "a status that the documents do not have"),
             Refusal::UnknownCause { cause } => write!(f, "a cause, {cause}, that document 02 does not have"),
         }
     }
+}
+
+/// The number of four bytes at a place of the trailer.
+fn distance_at(file: &[u8], place: usize) -> u32 {
+    let start = file.len() - 28 + place;
+    u32::from_be_bytes([file[start], file[start + 1], file[start + 2], file[start + 3]])
 }
 
 /// What a message adds where there may also be no table.

@@ -1,7 +1,7 @@
 /* What the header promises a C program: NULL where a length is 0, numbers that are too wide refused and not
  * cut down, results left alone by refusals, what is read may overlap, a weight may be any number, way 4's
- * count and summary, a window in which nothing weighs, an explanation of each cause, dead pixels, and the macros. It
- * prints each promise that is not kept. */
+ * count and summary, a window in which nothing weighs, an explanation of each cause, dead pixels, tolerances, and the
+ * macros. It prints each promise that is not kept. */
 #include "icemedian.h"
 #include <stdio.h>
 #include <string.h>
@@ -20,7 +20,7 @@ static int failures;
 
 /* All results of a call, full of one byte before it. */
 static struct {
-    uint64_t shifts, offset;
+    uint64_t shifts, least_shifts, greatest_shifts, offset;
     int64_t balance, total, below, reached;
     size_t length, pixels;
     uint32_t cause;
@@ -337,6 +337,150 @@ static void test_no_reading(void) {
     expect_contents("write, guide 65535", status, 10);
 }
 
+/* Request 7's row, built-in weights, and what lies beyond each buffer. */
+enum { SPANNED = 5, SPAN_COUNTS = LEVELS * GUIDES, SPAN_WORDS = LEVELS };
+static const uint16_t span_values[SPANNED] = {5, 1, 3, 2, 7}, span_guide[SPANNED] = {0, 0, 2, 1, 3};
+static uint8_t span_file[ICEMEDIAN_FILE_LENGTH(SPANNED, 1, 0)];
+static uint16_t span_upper[SPANNED + 1], span_counts[SPAN_COUNTS + 1], span_least[SPANNED + 1], span_greatest[SPANNED + 1];
+static uint64_t span_words[SPAN_WORDS + 1];
+
+static void write_spanned(uint32_t kind) {
+    uint32_t status = icemedian_write(SPANNED, 1, LEVELS, GUIDES, kind, RADIUS, kind - 1, span_values, SPANNED, span_guide,
+                                      SPANNED, NULL, 0, span_file, sizeof span_file, &result.length, &result.offset);
+    expect_status("write, a row with a tolerance", status, 0);
+}
+
+static void fill_span(void) {
+    memset(span_counts, 0xA5, sizeof span_counts);
+    memset(span_words, 0xA5, sizeof span_words);
+    memset(span_least, 0xA5, sizeof span_least);
+    memset(span_greatest, 0xA5, sizeof span_greatest);
+}
+
+/* Buffers of these lengths, NULL where a length is 0, all full of one byte before the call. */
+static uint32_t tolerance(size_t file_length, size_t u, size_t c, size_t w, size_t l, size_t g) {
+    fill_span();
+    return icemedian_tolerance(file_length ? span_file : NULL, file_length, u ? span_upper : NULL, u,
+                               c ? span_counts : NULL, c, w ? span_words : NULL, w, l ? span_least : NULL, l,
+                               g ? span_greatest : NULL, g, &result.least_shifts, &result.greatest_shifts,
+                               &result.offset);
+}
+
+/* A refusal, and that no buffer is touched. */
+static void expect_refused(const char *what, uint32_t status, uint32_t number) {
+    static uint8_t filled[sizeof span_counts + sizeof span_words];
+    memset(filled, 0xA5, sizeof filled);
+    expect_status(what, status, number);
+    expect("counts left", memcmp(span_counts, filled, sizeof span_counts) == 0, 1);
+    expect("words left", memcmp(span_words, filled, sizeof span_words) == 0, 1);
+    expect("least left", memcmp(span_least, filled, sizeof span_least) == 0, 1);
+    expect("greatest left", memcmp(span_greatest, filled, sizeof span_greatest) == 0, 1);
+}
+
+/* Upper levels with one of them changed. */
+static uint32_t tolerance_with(size_t pixel, uint16_t level) {
+    static const uint16_t upper[SPANNED + 1] = {6, 1, 5, 4, 7, 7};
+    memcpy(span_upper, upper, sizeof upper);
+    span_upper[pixel] = level;
+    return tolerance(sizeof span_file, SPANNED, SPAN_COUNTS, SPAN_WORDS, SPANNED, SPANNED);
+}
+
+static void expect_bounds(const uint16_t *least, uint64_t least_shifts, const uint16_t *greatest, uint64_t greatest_shifts,
+                          uint32_t status) {
+    size_t pixel;
+    expect("its least shifts", result.least_shifts == least_shifts, 1);
+    expect("its greatest shifts", result.greatest_shifts == greatest_shifts, 1);
+    expect_status("tolerance", status, 0);
+    for (pixel = 0; pixel < SPANNED; pixel++) expect("its least level", span_least[pixel], least[pixel]);
+    for (pixel = 0; pixel < SPANNED; pixel++) expect("its greatest level", span_greatest[pixel], greatest[pixel]);
+    expect("beyond least", span_least[SPANNED], 0xA5A5);
+    expect("beyond greatest", span_greatest[SPANNED], 0xA5A5);
+    expect("beyond counts", span_counts[SPAN_COUNTS], 0xA5A5);
+    expect("beyond words", memcmp(span_words + SPAN_WORDS, &untouched, sizeof *span_words) == 0, 1);
+}
+
+/* The least and the greatest answers, and the stores of the upper levels' last window: 4 and 7, of guides 1 and 3. */
+static void test_bounds(void) {
+    static const uint16_t least[SPANNED] = {1, 3, 2, 3, 7}, greatest[SPANNED] = {1, 5, 4, 5, 7};
+    size_t cell, counted = 0;
+    write_spanned(ICEMEDIAN_TABLE);
+    expect_bounds(least, 9, greatest, 9, tolerance_with(0, 6));
+    for (cell = 0; cell < SPAN_COUNTS; cell++) counted += span_counts[cell];
+    expect("what it counts", counted == 2, 1);
+    expect("its upper reading", span_counts[4 * GUIDES + 1], 1);
+    expect("its other reading", span_counts[7 * GUIDES + 3], 1);
+    expect("its upper reading's word", span_words[4] == 2 && span_words[2] == 0, 1);
+    memcpy(span_upper, span_values, sizeof span_values);
+    expect_bounds(least, 9, least, 9, tolerance(sizeof span_file, SPANNED, SPAN_COUNTS + 1, SPAN_WORDS + 1, SPANNED + 1,
+                                                SPANNED + 1));
+}
+
+/* Three dead pixels beside two that weigh nothing: no reading in the first two windows, hollow ones then. */
+static uint32_t tolerance_dead(uint16_t first, uint16_t last) {
+    uint16_t upper[ROW] = {DEAD, DEAD, DEAD, 6, 7};
+    upper[0] = first, upper[4] = last;
+    fill_span();
+    return icemedian_tolerance(dead_file, dead_bytes, upper, ROW, span_counts, SPAN_COUNTS, span_words, SPAN_WORDS,
+                               span_least, ROW, span_greatest, ROW, &result.least_shifts, &result.greatest_shifts,
+                               &result.offset);
+}
+
+static void test_bounds_dead(void) {
+    static const uint16_t value[ROW] = {DEAD, DEAD, DEAD, 5, 2}, picture[ROW] = {0, 0, 0, 0, 0}, none[4] = {0, 0, 0, 0};
+    static const uint16_t least[ROW] = {DEAD, DEAD, 5, 2, 2}, greatest[ROW] = {DEAD, DEAD, 6, 6, 6};
+    uint32_t status = icemedian_write(ROW, 1, LEVELS, 2, ICEMEDIAN_TABLE, 1, 0, value, ROW, picture, ROW, none, 4, dead_file,
+                                      sizeof dead_file, &result.length, &result.offset);
+    dead_bytes = ICEMEDIAN_FILE_LENGTH(ROW, 1, 4);
+    expect_status("write, dead pixels under a table", status, 0);
+    expect_bounds(least, 8, greatest, 6, tolerance_dead(DEAD, 7));
+    expect_refused("tolerance, an upper level for a dead pixel", tolerance_dead(7, 7), 13);
+    expect_refused("tolerance, none for a reading", tolerance_dead(DEAD, DEAD), 13);
+}
+
+static void test_tolerance_refused(void) {
+    const size_t f = sizeof span_file, u = SPANNED, c = SPAN_COUNTS, w = SPAN_WORDS;
+    expect_refused("tolerance, no file", tolerance(0, u, c, w, u, u), 1);
+    expect_refused("tolerance, no mark", tolerance(f - 1, 0, 0, 0, 0, 0), 1);
+    expect_refused("tolerance, no upper levels", tolerance(f, 0, c, w, u, u), 13);
+    expect_refused("tolerance, no upper levels and no room", tolerance(f, 0, 0, 0, 0, 0), 13);
+    expect_refused("tolerance, an upper level too few", tolerance(f, u - 1, c, w, u, u), 13);
+    expect_refused("tolerance, an upper level too many", tolerance(f, u + 1, c, w, u, u), 13);
+    expect_refused("tolerance, no counts", tolerance(f, u, 0, w, u, u), 11);
+    expect_refused("tolerance, no words", tolerance(f, u, c, 0, u, u), 11);
+    expect_refused("tolerance, no least", tolerance(f, u, c, w, 0, u), 11);
+    expect_refused("tolerance, no greatest", tolerance(f, u, c, w, u, 0), 11);
+    expect_refused("tolerance, a greatest too short", tolerance(f, u, c, w, u, u - 1), 11);
+    expect_refused("tolerance, an upper level below its reading", tolerance_with(2, 2), 13);
+    expect_refused("tolerance, an upper level of 8", tolerance_with(4, LEVELS), 13);
+    expect_refused("tolerance, a dead upper level", tolerance_with(1, ICEMEDIAN_NO_READING), 13);
+    write_spanned(ICEMEDIAN_GUIDED);
+    expect_refused("tolerance, kind 2", tolerance(f, u, c, w, u, u), 8);
+    expect_refused("tolerance, kind 2, nothing else", tolerance(f, 0, 0, 0, 0, 0), 8);
+}
+
+/* Numbers whose two bytes are alike are the same in the file and in memory: the value plane is the upper plane too. */
+static void test_tolerance_overlap(void) {
+    static const uint16_t value[2] = {257, 514}, picture[2] = {0, 0};
+    static uint16_t shared[ICEMEDIAN_FILE_LENGTH(2, 1, 0) / 2];
+    static uint16_t many[ICEMEDIAN_COUNTS_LENGTH(1024, 2)];
+    static uint64_t bits[ICEMEDIAN_WORDS_LENGTH(1024, 2)];
+    void *start = shared;
+#ifdef __cplusplus
+    uint8_t *bytes = static_cast<uint8_t *>(start);
+#else
+    uint8_t *bytes = start;
+#endif
+    uint32_t status = icemedian_write(2, 1, 1024, 2, ICEMEDIAN_TABLE, 0, 0, value, 2, picture, 2, NULL, 0, bytes,
+                                      sizeof shared, &result.length, &result.offset);
+    expect_status("write, to where numbers are", status, 0);
+    status = icemedian_tolerance(bytes, sizeof shared, shared, 2, many, sizeof many / sizeof *many, bits,
+                                 sizeof bits / sizeof *bits, span_least, 2, span_greatest, 2, &result.least_shifts,
+                                 &result.greatest_shifts, &result.offset);
+    expect_status("tolerance, upper levels within the file", status, 0);
+    expect("its least", span_least[0] == 257 && span_least[1] == 514, 1);
+    expect("its greatest", span_greatest[0] == 257 && span_greatest[1] == 514, 1);
+}
+
 static void test_wide(void) {
     expect_status("filter, way 257", filter(FILE_BYTES, 257, COUNTS, WORDS, NUMBERS, BLOCKS, PIXELS), 8);
     expect_status("walk, way 257", walk(FILE_BYTES, 257, 2, COUNTS, WORDS, NUMBERS, BLOCKS, 3), 8);
@@ -355,7 +499,7 @@ static void test_wide(void) {
 
 static void test_macros(void) {
     expect("version, major", ICEMEDIAN_VERSION_MAJOR, 0);
-    expect("version, minor", ICEMEDIAN_VERSION_MINOR, 8);
+    expect("version, minor", ICEMEDIAN_VERSION_MINOR, 9);
     expect("no reading", ICEMEDIAN_NO_READING, 65535);
     expect("width", ICEMEDIAN_WIDTH(file, FILE_BYTES), W);
     expect("height", ICEMEDIAN_HEIGHT(file, FILE_BYTES), H);
@@ -392,6 +536,10 @@ int main(void) {
     test_dead_b();
     test_empty();
     test_no_reading();
+    test_bounds();
+    test_bounds_dead();
+    test_tolerance_refused();
+    test_tolerance_overlap();
     test_wide();
     test_macros();
     return failures != 0;

@@ -4,6 +4,7 @@ mod explain;
 mod options;
 mod pgm;
 mod scale;
+mod tolerance;
 
 use icemedian::{reading, Refusal, Settings, NO_READING};
 use options::{Options, Place};
@@ -46,32 +47,45 @@ fn write(place: &Place, bytes: &[u8]) -> Result<(), String> {
     written.map_err(|error| format!("{place}: {error}"))
 }
 
-fn scaled(place: &Place, picture: &Picture, dead: Option<u16>, steps_most: u16) -> (Scale, Vec<u16>) {
-    let scale = Scale::of(&picture.values, dead, steps_most);
+/// What was read.
+struct Pictures {
+    thermal: Picture,
+    guide: Picture,
+    /// The upper ends of a tolerance.
+    upper: Option<Picture>,
+}
+
+/// The scale of these values, which are of the picture at `place`.
+fn scale_of(place: &Place, values: &[u16], dead: Option<u16>, steps_most: u16) -> Scale {
+    let scale = Scale::of(values, dead, steps_most);
     if !scale.exact() {
         eprintln!("{place}: values are rounded to {} steps", scale.steps);
     }
-    (scale, picture.values.iter().map(|&value| scale.step(value)).collect())
+    scale
 }
 
-/// Refuses a value of dead pixels that the thermal picture cannot have, or that others would be rounded to.
-fn check_dead(thermal: &Picture, scale: &Scale, options: &Options) -> Result<(), String> {
-    let (Some(dead), place) = (options.dead, &options.thermal) else { return Ok(()) };
-    if dead > thermal.most {
+fn steps(picture: &Picture, scale: &Scale) -> Vec<u16> {
+    picture.values.iter().map(|&value| scale.step(value)).collect()
+}
+
+/// Refuses a value of dead pixels that a picture of levels cannot have, or that others would be rounded to.
+fn check_dead(place: &Place, picture: &Picture, scale: &Scale, dead: Option<u16>) -> Result<(), String> {
+    let Some(dead) = dead else { return Ok(()) };
+    if dead > picture.most {
         return Err(format!(
             "--dead {dead}: no pixel of {place} can have it, whose greatest value is {}",
-            thermal.most
+            picture.most
         ));
     }
-    if scale.confuses(&thermal.values) {
+    if scale.confuses(&picture.values) {
         return Err(format!(
             "--dead {dead}: other values of {place} would be rounded to it, to {} steps in all; give dead pixels a value \
              outside the others' span",
             scale.steps
         ));
     }
-    let pixels = thermal.values.iter().filter(|&&value| value == dead).count();
-    eprintln!("{place}: {pixels} of {} pixels are dead", thermal.values.len());
+    let pixels = picture.values.iter().filter(|&&value| value == dead).count();
+    eprintln!("{place}: {pixels} of {} pixels are dead", picture.values.len());
     Ok(())
 }
 
@@ -81,8 +95,12 @@ fn side(size: usize) -> u16 {
 }
 
 /// A refusal in the terms of the command line.
-fn refused(refusal: Refusal, thermal: &Picture, options: &Options) -> String {
+fn refused(refusal: Refusal, pictures: &Pictures, options: &Options) -> String {
+    let thermal = &pictures.thermal;
     let (place, width, height) = (&options.thermal, thermal.width, thermal.height);
+    if let Some(message) = tolerance::refused(refusal, pictures, options) {
+        return message;
+    }
     match refusal {
         Refusal::Size => {
             format!("{place} is {width}x{height}: width and height may be 1 to 1024, with at most 262144 pixels in all")
@@ -95,25 +113,45 @@ fn refused(refusal: Refusal, thermal: &Picture, options: &Options) -> String {
     }
 }
 
-/// Both pictures as a frame.
+/// The pictures as a frame, and the levels of the upper ends.
 struct Framed {
     settings: Settings,
     levels: Vec<u16>,
+    upper: Option<Vec<u16>>,
     guides: Vec<u16>,
     level_scale: Scale,
     file: Vec<u8>,
 }
 
-fn framed(thermal: &Picture, guide: &Picture, options: &Options) -> Result<Framed, String> {
-    if (thermal.width, thermal.height) != (guide.width, guide.height) {
-        return Err(format!(
-            "{} is {}x{} and {} {}x{}: they must be of one size",
-            options.thermal, thermal.width, thermal.height, options.picture, guide.width, guide.height
-        ));
+/// Refuses a picture of another size than the thermal one.
+fn check_size(pictures: &Pictures, options: &Options, place: &Place, picture: &Picture) -> Result<(), String> {
+    let thermal = &pictures.thermal;
+    if (thermal.width, thermal.height) == (picture.width, picture.height) {
+        return Ok(());
     }
-    let (level_scale, levels) = scaled(&options.thermal, thermal, options.dead, 1024);
-    check_dead(thermal, &level_scale, options)?;
-    let (guide_scale, guides) = scaled(&options.picture, guide, None, 256);
+    Err(format!(
+        "{} is {}x{} and {place} {}x{}: they must be of one size",
+        options.thermal, thermal.width, thermal.height, picture.width, picture.height
+    ))
+}
+
+fn framed(pictures: &Pictures, options: &Options) -> Result<Framed, String> {
+    let Pictures { thermal, guide, upper } = pictures;
+    let upper = upper.as_ref().zip(options.tolerance.as_ref());
+    check_size(pictures, options, &options.picture, guide)?;
+    let mut values = thermal.values.clone();
+    if let Some((picture, tolerance)) = upper {
+        check_size(pictures, options, &tolerance.upper, picture)?;
+        // One scale for both ends.
+        values.extend(&picture.values);
+    }
+    let level_scale = scale_of(&options.thermal, &values, options.dead, 1024);
+    check_dead(&options.thermal, thermal, &level_scale, options.dead)?;
+    if let Some((picture, tolerance)) = upper {
+        check_dead(&tolerance.upper, picture, &level_scale, options.dead)?;
+    }
+    let guide_scale = scale_of(&options.picture, &guide.values, None, 256);
+    let (levels, guides) = (steps(thermal, &level_scale), steps(guide, &guide_scale));
     let settings = Settings {
         width: side(thermal.width),
         height: side(thermal.height),
@@ -123,21 +161,37 @@ fn framed(thermal: &Picture, guide: &Picture, options: &Options) -> Result<Frame
         radius: options.radius,
     };
     let file = icemedian::write(&settings, &levels, &guides, &[]);
-    let file = file.map_err(|refusal| refused(refusal, thermal, options))?;
-    Ok(Framed { settings, levels, guides, level_scale, file })
+    let file = file.map_err(|refusal| refused(refusal, pictures, options))?;
+    let upper = upper.map(|(picture, _)| steps(picture, &level_scale));
+    Ok(Framed { settings, levels, upper, guides, level_scale, file })
 }
 
-fn filter(thermal: &Picture, frame: &Framed, options: &Options) -> Result<Picture, Refusal> {
+/// The filtered picture, and where there is a tolerance the picture of greatest answers.
+fn filter(pictures: &Pictures, frame: &Framed, options: &Options) -> Result<(Picture, Option<Picture>), Refusal> {
+    let thermal = &pictures.thermal;
     eprintln!("filtering {}x{} pixels, radius {}", thermal.width, thermal.height, frame.settings.radius);
+    if let Some(upper) = &frame.upper {
+        let (least, greatest) = tolerance::filter(pictures, frame, upper)?;
+        return Ok((least, Some(greatest)));
+    }
     let start = Instant::now();
     let filtered = icemedian::filter(&frame.file, options.way)?;
     eprintln!("filtered in {:.0?}, {} shifts", start.elapsed(), filtered.shifts);
-    let without = filtered.readings().filter(Option::is_none).count();
-    if without > 0 {
-        eprintln!("{without} pixels have no reading in their windows");
+    note_without(filtered.readings().filter(Option::is_none).count());
+    Ok((Picture { values: frame.values(&filtered.levels), ..*thermal }, None))
+}
+
+fn note_without(pixels: usize) {
+    if pixels > 0 {
+        eprintln!("{pixels} pixels have no reading in their windows");
     }
-    let values = filtered.levels.iter().map(|&level| frame.level_scale.value(level)).collect();
-    Ok(Picture { values, ..*thermal })
+}
+
+impl Framed {
+    /// The picture's values of levels.
+    fn values(&self, levels: &[u16]) -> Vec<u16> {
+        levels.iter().map(|&level| self.level_scale.value(level)).collect()
+    }
 }
 
 /// Why the pixel asked for has its value, in words.
@@ -156,15 +210,20 @@ fn run() -> Result<(), String> {
     let Some(options) = options::read(std::env::args_os().skip(1))? else {
         return print(options::HELP);
     };
-    let (thermal, picture) = (read(&options.thermal)?, read(&options.picture)?);
-    let frame = framed(&thermal, &picture, &options)?;
-    let in_our_terms = |refusal| refused(refusal, &thermal, &options);
+    let (thermal, guide) = (read(&options.thermal)?, read(&options.picture)?);
+    let upper = options.tolerance.as_ref().map(|tolerance| read(&tolerance.upper)).transpose()?;
+    let pictures = Pictures { thermal, guide, upper };
+    let frame = framed(&pictures, &options)?;
+    let in_our_terms = |refusal| refused(refusal, &pictures, &options);
     // All is made before anything is written.
     let explanation = options.explained.map(|pixel| explanation(&frame, pixel)).transpose().map_err(in_our_terms)?;
-    let filtered = filter(&thermal, &frame, &options).map_err(in_our_terms)?;
+    let (filtered, greatest) = filter(&pictures, &frame, &options).map_err(in_our_terms)?;
     let causes = options.causes.as_ref().map(|place| explain::causes(&frame).map(|bytes| (place, bytes)));
     let causes = causes.transpose().map_err(in_our_terms)?;
     write(&options.output, &pgm::write(&filtered))?;
+    if let (Some(greatest), Some(tolerance)) = (greatest, &options.tolerance) {
+        write(&tolerance.greatest, &pgm::write(&greatest))?;
+    }
     if let Some((place, bytes)) = causes {
         write(place, &bytes)?;
     }

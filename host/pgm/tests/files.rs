@@ -254,6 +254,159 @@ fn a_value_of_dead_pixels_that_could_be_another_is_refused() {
     notes(&rounded(96, "96"));
 }
 
+/// Request 7's row, its levels 100 higher.
+const SPANNED: [u8; 5] = [105, 101, 103, 102, 107];
+const UPPER: [u8; 5] = [106, 101, 105, 104, 107];
+const SPANNED_GUIDE: [u8; 5] = [0, 0, 2, 1, 3];
+const LEAST: [u8; 5] = [101, 103, 102, 103, 107];
+const GREATEST: [u8; 5] = [101, 105, 104, 105, 107];
+const SPANNED_OPTIONS: [&str; 3] = ["--table", "--radius", "1"];
+
+/// Writes the files of a row with upper ends, under names that begin so; the words that filter them.
+fn spanned_files(name: &str, pixels: &[u8], upper: &[u8], guide: &[u8]) -> Vec<String> {
+    let files = ["", "_guide", "_least", "_upper", "_greatest"].map(|part| format!("{name}{part}.pgm"));
+    for (file, pixels) in [(&files[0], pixels), (&files[1], guide), (&files[3], upper)] {
+        std::fs::write(place(file), pgm(pixels.len(), 1, pixels)).unwrap();
+    }
+    let [thermal, picture, least, upper, greatest] = files;
+    let words = [thermal, picture, least, "--upper".to_string(), upper, "--greatest".to_string(), greatest];
+    [words.to_vec(), SPANNED_OPTIONS.map(str::to_string).to_vec()].concat()
+}
+
+fn filter_words(words: &[String], options: &[&str]) -> Output {
+    filter(&[words.iter().map(String::as_str).collect::<Vec<_>>().as_slice(), options].concat())
+}
+
+/// Both pictures that such words write, and the notes.
+fn bounds(words: &[String], options: &[&str]) -> (Vec<u8>, Vec<u8>, String) {
+    let output = filter_words(words, options);
+    let notes = notes(&output);
+    (std::fs::read(place(&words[2])).unwrap(), std::fs::read(place(&words[6])).unwrap(), notes)
+}
+
+#[test]
+fn a_tolerance_has_two_pictures() {
+    let words = spanned_files("spanned", &SPANNED, &UPPER, &SPANNED_GUIDE);
+    let (least, greatest, notes) = bounds(&words, &[]);
+    assert_eq!((least, greatest), (pgm(5, 1, &LEAST), pgm(5, 1, &GREATEST)));
+    // Levels run from 0 to 6.
+    assert!(notes.contains("8 shifts for the least, 8 for the greatest"), "{notes}");
+    assert!(notes.contains("least and greatest differ at 3 pixels, by at most 2"), "{notes}");
+    // What explains a pixel is of the lower ends, and OUTPUT is theirs.
+    let printed = filter_words(&words, &["--explain", "3", "0"]).stdout;
+    assert!(String::from_utf8(printed).unwrap().starts_with("Column 3, row 0 becomes 103. "));
+    let plain = filter(&["spanned.pgm", "spanned_guide.pgm", "spanned_plain.pgm", "--table", "--radius", "1"]);
+    assert!(plain.status.success());
+    assert_eq!(std::fs::read(place("spanned_plain.pgm")).unwrap(), pgm(5, 1, &LEAST));
+    let same = spanned_files("same", &SPANNED, &SPANNED, &SPANNED_GUIDE);
+    let (least, greatest, notes) = bounds(&same, &[]);
+    assert_eq!((least, greatest), (pgm(5, 1, &LEAST), pgm(5, 1, &LEAST)));
+    assert!(notes.contains("differ at 0 pixels"), "{notes}");
+}
+
+#[test]
+fn dead_pixels_are_dead_in_both_ends() {
+    let words = spanned_files("ends", &[9, 9, 9, 105, 102], &[9, 9, 9, 106, 107], &[0; 5]);
+    let (least, greatest, notes) = bounds(&words, &["--dead", "9"]);
+    assert_eq!((least, greatest), (pgm(5, 1, &[9, 9, 105, 102, 102]), pgm(5, 1, &[9, 9, 106, 106, 106])));
+    assert!(notes.contains("ends_upper.pgm: 3 of 5 pixels are dead"), "{notes}");
+    assert!(notes.contains("2 pixels have no reading in their windows"), "{notes}");
+    let refused = |pixels: &[u8], upper: &[u8]| {
+        let words = spanned_files("ends_wrong", pixels, upper, &[0; 3]);
+        message(&filter_words(&words, &["--dead", "9"]))
+    };
+    let lower = refused(&[5, 9, 7], &[6, 8, 7]);
+    assert!(
+        lower.contains("ends_wrong.pgm has no reading at column 1, row 0, but ends_wrong_upper.pgm has 8"),
+        "{lower}"
+    );
+    let upper = refused(&[5, 6, 7], &[6, 8, 9]);
+    assert!(
+        upper.contains("ends_wrong_upper.pgm has no reading at column 2, row 0, but ends_wrong.pgm has 7"),
+        "{upper}"
+    );
+}
+
+#[test]
+fn an_upper_end_below_its_value_is_named() {
+    for (name, options) in [("below", [].as_slice()), ("below_dead", &["--dead", "0"])] {
+        let words = spanned_files(name, &SPANNED, &[106, 101, 105, 101, 107], &SPANNED_GUIDE);
+        let below = message(&filter_words(&words, options));
+        assert!(
+            below.contains(&format!("{name}_upper.pgm has 101 at column 3, row 0, below the 102 of {name}.pgm")),
+            "{below}"
+        );
+        assert!(!place(format!("{name}_least.pgm")).exists() && !place(format!("{name}_greatest.pgm")).exists());
+    }
+    // Of several rows.
+    std::fs::write(place("rows.pgm"), pgm(2, 2, &[1, 2, 3, 4])).unwrap();
+    std::fs::write(place("rows_upper.pgm"), pgm(2, 2, &[2, 2, 3, 3])).unwrap();
+    let words = ["rows.pgm", "rows.pgm", "rows_least.pgm", "--table", "--upper", "rows_upper.pgm", "--greatest", "-"];
+    assert!(message(&filter(&words)).contains("rows_upper.pgm has 3 at column 1, row 1, below the 4 of rows.pgm"));
+}
+
+/// 0 to 65,535 in steps of 64: 90 and 100 are rounded to the same, and 90 is below 100 all the same.
+#[test]
+fn an_upper_end_below_its_value_by_less_than_a_step_is_named() {
+    let write = |name: &str, value: u16| {
+        let plane: Vec<u8> = [0, 65_535, value].iter().flat_map(|value| value.to_be_bytes()).collect();
+        std::fs::write(place(name), [b"P5\n3 1\n65535\n".as_slice(), &plane].concat()).unwrap();
+    };
+    let words = ["step.pgm", flat("step_guide.pgm", 3, 1), "step_least.pgm", "--table", "--upper", "step_upper.pgm"];
+    let words = [words.as_slice(), &["--greatest", "step_greatest.pgm"]].concat();
+    write("step.pgm", 100);
+    write("step_upper.pgm", 90);
+    let below = message(&filter(&words));
+    assert!(below.contains("step_upper.pgm has 90 at column 2, row 0, below the 100 of step.pgm"), "{below}");
+    write("step_upper.pgm", 110);
+    notes(&filter(&words));
+}
+
+/// 8 bits below and 16 above: both pictures have 16, since a rounded value may need them.
+#[test]
+fn ends_of_8_and_16_bits() {
+    let upper: Vec<u8> = [250u16, 65_535, 255].iter().flat_map(|value| value.to_be_bytes()).collect();
+    std::fs::write(place("bits.pgm"), pgm(3, 1, &[250, 100, 255])).unwrap();
+    std::fs::write(place("bits_upper.pgm"), [b"P5\n3 1\n65535\n".as_slice(), &upper].concat()).unwrap();
+    let words = ["bits.pgm", flat("bits_guide.pgm", 3, 1), "bits_least.pgm", "--table", "--radius", "0"];
+    let notes =
+        notes(&filter(&[&words, ["--upper", "bits_upper.pgm", "--greatest", "bits_greatest.pgm"].as_slice()].concat()));
+    assert!(notes.contains("bits.pgm: values are rounded to 1024 steps"), "{notes}");
+    let numbers = |name: &str| {
+        let file = std::fs::read(place(name)).unwrap();
+        let body = file.strip_prefix(b"P5\n3 1\n65535\n".as_slice()).unwrap();
+        body.chunks(2).map(|two| u16::from_be_bytes([two[0], two[1]])).collect::<Vec<_>>()
+    };
+    // From 100 on in steps of about 64 values, each answered by its middle.
+    assert_eq!(
+        (numbers("bits_least.pgm"), numbers("bits_greatest.pgm")),
+        (vec![259, 131, 259], vec![259, 65_504, 259])
+    );
+}
+
+#[test]
+fn what_a_tolerance_needs() {
+    let (one, two) = (flat("needs.pgm", 1, 1), flat("needs_two.pgm", 2, 1));
+    let wrong = |words: &[&str], said: &str| {
+        let message = message(&filter(&[&[one, one, "out.pgm"], words].concat()));
+        assert!(message.contains(said), "{message}");
+    };
+    wrong(&["--upper"], "--upper needs a file");
+    wrong(&["--table", "--greatest"], "--greatest needs a file");
+    wrong(&["--table", "--upper", one], "--upper needs --greatest FILE");
+    wrong(&["--table", "--greatest", "out_2.pgm"], "--greatest needs --upper FILE");
+    wrong(&["--upper", one, "--greatest", "out_2.pgm"], "--upper needs --table");
+    wrong(&["--upper", one, "--greatest", "-", "--table", "--way", "coarse"], "--upper needs --way joint");
+    wrong(&["--upper", one, "--greatest", "-", "--table", "--causes", "-"], "standard output can take one of");
+    wrong(&["--upper", one, "--greatest", "-", "--table", "--explain", "0", "0"], "standard output can take one of");
+    wrong(&["--upper", "absent.pgm", "--greatest", "-", "--table"], "absent.pgm");
+    let sizes = "needs.pgm is 1x1 and needs_two.pgm 2x1: they must be of one size";
+    wrong(&["--upper", two, "--greatest", "-", "--table"], sizes);
+    std::fs::write(place("needs_9.pgm"), b"P5\n1 1\n9\n\x07").unwrap();
+    let dead = "--dead 200: no pixel of needs_9.pgm can have it, whose greatest value is 9";
+    wrong(&["--upper", "needs_9.pgm", "--greatest", "-", "--table", "--dead", "200"], dead);
+}
+
 #[test]
 fn a_dash_is_standard_input_and_output() {
     b_files("dash.pgm", "dash_guide.pgm");
@@ -264,8 +417,18 @@ fn a_dash_is_standard_input_and_output() {
     let guide_piped = filter_fed(&words(["dash.pgm", "-", "dash_out.pgm"]), &pgm(5, 1, &B_GUIDE));
     notes(&guide_piped);
     assert_eq!(std::fs::read(place("dash_out.pgm")).unwrap(), pgm(5, 1, &B_FILTERED));
-    assert!(message(&filter(&words(["-", "-", "dash_out.pgm"]))).contains("not both"));
+    assert!(
+        message(&filter(&words(["-", "-", "dash_out.pgm"]))).contains("standard input can be one of THERMAL, PICTURE")
+    );
     assert!(message(&filter_fed(&words(["-", "dash_guide.pgm", "-"]), b"P5")).contains("standard input: the header"));
+    let mut spanned = spanned_files("dash_span", &SPANNED, &UPPER, &SPANNED_GUIDE);
+    (spanned[4], spanned[6]) = ("-".to_string(), "-".to_string());
+    let spanned: Vec<&str> = spanned.iter().map(String::as_str).collect();
+    let upper_piped = filter_fed(&spanned, &pgm(5, 1, &UPPER));
+    assert!(notes(&upper_piped).contains("reading standard input"));
+    assert_eq!(upper_piped.stdout, pgm(5, 1, &GREATEST));
+    let both = message(&filter(&[&["-"], &spanned[1..]].concat()));
+    assert!(both.contains("standard input can be one of THERMAL, PICTURE and --upper"), "{both}");
 }
 
 #[test]
@@ -327,7 +490,8 @@ fn wrong_options_are_named() {
     wrong(&["--explain", "1", "0"], "options.pgm is 1x1: counted from 0, it has no column 1, row 0 to explain");
     wrong(&["--explain", "0", "1"], "options.pgm is 1x1: counted from 0, it has no column 0, row 1 to explain");
     wrong(&["--causes"], "--causes needs a file");
-    wrong(&["--causes", "-", "--explain", "0", "0"], "standard output can take one of OUTPUT, --causes and --explain");
+    let one_of = "standard output can take one of OUTPUT, --greatest, --causes and --explain";
+    wrong(&["--causes", "-", "--explain", "0", "0"], one_of);
     for words in [["--explain", "0", "0"].as_slice(), &["--causes", "-"]] {
         let message = message(&filter(&[&[one, one, "-"], words].concat()));
         assert!(message.contains("standard output can take one of"), "{message}");
@@ -364,6 +528,7 @@ fn help_goes_to_standard_output() {
         let output = filter(&[word]);
         assert!(notes(&output).is_empty());
         let help = String::from_utf8_lossy(&output.stdout);
-        assert!(["--smoothing", "--explain", "--causes", "--dead"].iter().all(|option| help.contains(option)));
+        let options = ["--smoothing", "--explain", "--causes", "--dead", "--upper", "--greatest"];
+        assert!(options.iter().all(|option| help.contains(option)));
     }
 }

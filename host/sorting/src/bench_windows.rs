@@ -1,5 +1,5 @@
 //! Document 01's bench windows A to H, D as document 02's request 3 has it, its edges and its 40-byte frame, rows of
-//! hollow windows, of dead pixels and of the coarse way, what explains them, and a few rows more.
+//! hollow windows, of dead pixels, of the coarse way and of tolerances, what explains them, and a few rows more.
 
 use crate::calls;
 use crate::cases::bytes_of_hex;
@@ -9,6 +9,7 @@ use crate::program::printed;
 use crate::random::{accepted_file, Random};
 use crate::refusal::Refusal;
 use crate::store::{balance_box, stores, summary, ChainEntry, Lengths, Stores, Way, BLOCK_LEVELS, BOX_CELLS};
+use crate::tolerance::{self, both, tolerance, Tolerated};
 use crate::walk::{filter, walk, Walk};
 use crate::window::Window;
 use crate::writer::write;
@@ -571,6 +572,95 @@ fn calls_refuse_in_order() {
     assert_eq!(calls::explain(&file, (0, 1)), Err(Refusal::of(9)));
     assert_eq!(calls::explain(&file[1..], (3, 0)), Err(Refusal::of(6)));
     assert_eq!(calls::explain(&file, (1, 0)).map(|why| (why.below, why.reached)), Ok((21, 21 + 9)));
+}
+
+/// Request 7's row: built-in weights, levels 5 1 3 2 7 and upper levels 6 1 5 4 7.
+const SPANNED: [u16; 5] = [5, 1, 3, 2, 7];
+const UPPER: [u16; 5] = [6, 1, 5, 4, 7];
+const SPANNED_GUIDE: [u16; 5] = [0, 0, 2, 1, 3];
+
+fn spanned() -> Frame {
+    row(KIND_TABLE, 8, 4, 1, &SPANNED, &SPANNED_GUIDE, &[])
+}
+
+/// Its file, or one with another value plane.
+fn spanned_file(kind: u8, values: &[u16]) -> Vec<u8> {
+    let asked = Asked { kind: kind.into(), smoothing: u32::from(kind == KIND_GUIDED), ..spanned().settings.asked() };
+    write(&asked, values, &SPANNED_GUIDE, &[], usize::MAX).unwrap()
+}
+
+#[test]
+fn a_tolerance_has_a_least_and_a_greatest_answer() {
+    let Tolerated { least, greatest, least_shifts, greatest_shifts, stores, .. } = both(&spanned(), &UPPER);
+    assert_eq!((least, least_shifts), (vec![1, 3, 2, 3, 7], 9));
+    assert_eq!((greatest, greatest_shifts), (vec![1, 5, 4, 5, 7], 9));
+    // The last window has levels 4 and 7 of guides 1 and 3.
+    let Stores::Joint { counts, words } = stores else { unreachable!() };
+    let counted: Vec<usize> = (0..counts.len()).filter(|&cell| counts[cell] == 1).collect();
+    assert_eq!((counted, words), (vec![4 * 4 + 1, 7 * 4 + 3], vec![0, 0, 0, 0, 2, 0, 0, 8]));
+}
+
+#[test]
+fn a_tolerance_of_nothing_is_the_filter_twice() {
+    let same = both(&spanned(), &SPANNED);
+    assert_eq!((same.least, same.least_shifts), filtered(&spanned()));
+    assert_eq!((same.greatest, same.greatest_shifts), filtered(&spanned()));
+}
+
+#[test]
+fn every_choice_lies_between() {
+    let bounds = both(&spanned(), &UPPER);
+    let (mut least, mut greatest) = (vec![NO_READING; 5], vec![0; 5]);
+    let mut choices = 0;
+    for first in 5..=6 {
+        for third in 3..=5 {
+            for fourth in 2..=4 {
+                let answers = filter(&spanned().with_values(&[first, 1, third, fourth, 7])).0;
+                least.iter_mut().zip(&answers).for_each(|(least, &answer)| *least = answer.min(*least));
+                greatest.iter_mut().zip(&answers).for_each(|(greatest, &answer)| *greatest = answer.max(*greatest));
+                choices += 1;
+            }
+        }
+    }
+    assert_eq!((choices, least, greatest), (18, bounds.least, bounds.greatest));
+}
+
+#[test]
+fn a_tolerance_passes_over_dead_pixels() {
+    let dead = NO_READING;
+    let frame = row(KIND_TABLE, 8, 2, 1, &[dead, dead, dead, 5, 2], &[0; 5], &[0; 4]);
+    let bounds = both(&frame, &[dead, dead, dead, 6, 7]);
+    assert_eq!((bounds.least, bounds.least_shifts), (vec![dead, dead, 5, 2, 2], 5 + 3));
+    assert_eq!((bounds.greatest, bounds.greatest_shifts), (vec![dead, dead, 6, 6, 6], 6));
+}
+
+#[test]
+fn a_tolerance_refuses_in_order() {
+    let file = spanned_file(KIND_TABLE, &SPANNED);
+    let room = tolerance::Lengths { counts: 32, words: 8, least: 5, greatest: 5 };
+    let none = tolerance::Lengths { counts: 0, words: 0, least: 0, greatest: 0 };
+    let refused = |file: &[u8], upper: &[u16], lent: &tolerance::Lengths| {
+        tolerance(file, upper, lent).map(drop).map_err(|refusal| refusal.number)
+    };
+    assert_eq!(refused(&file, &UPPER, &room), Ok(()));
+    assert_eq!(refused(&file[1..], &[], &none), Err(6));
+    assert_eq!(refused(&spanned_file(KIND_GUIDED, &SPANNED), &[], &none), Err(8));
+    assert_eq!(refused(&file, &UPPER[1..], &none), Err(13));
+    assert_eq!(refused(&file, &[UPPER.as_slice(), &[7]].concat(), &room), Err(13));
+    let with = |pixel: usize, level: u16| {
+        let mut upper = UPPER;
+        upper[pixel] = level;
+        refused(&file, &upper, &room)
+    };
+    assert_eq!([5, 4].map(|level| with(0, level)), [Ok(()), Err(13)]);
+    assert_eq!([7, 8, 65_534, NO_READING].map(|level| with(4, level)), [Ok(()), Err(13), Err(13), Err(13)]);
+    let dead = spanned_file(KIND_TABLE, &[5, 1, NO_READING, 2, 7]);
+    assert_eq!(refused(&dead, &UPPER, &room), Err(13));
+    assert_eq!(refused(&dead, &[6, 1, NO_READING, 4, 7], &room), Ok(()));
+    assert_eq!(refused(&file, &UPPER, &tolerance::Lengths { counts: 31, ..room }), Err(11));
+    assert_eq!(refused(&file, &UPPER, &tolerance::Lengths { words: 7, ..room }), Err(11));
+    assert_eq!(refused(&file, &UPPER, &tolerance::Lengths { least: 4, ..room }), Err(11));
+    assert_eq!(refused(&file, &UPPER, &tolerance::Lengths { greatest: 4, ..room }), Err(11));
 }
 
 #[test]

@@ -18,7 +18,7 @@ pub fn makes(name: &str) -> bool {
 }
 
 /// Changes a cell, if the buffer has it.
-fn spoil<T: BitXorAssign + From<bool>>(buffer: &mut [T], place: usize) {
+pub fn spoil<T: BitXorAssign + From<bool>>(buffer: &mut [T], place: usize) {
     if let Some(cell) = buffer.get_mut(place) {
         *cell ^= T::from(true);
     }

@@ -1,12 +1,13 @@
 //! The C interface of `include/icemedian.h` over the sorting filter. It tests the wrapper and the
-//! tests themselves: with `STANDIN_FAULT` set to one of the names in [`fault`], [`coarse`], [`hollow`], [`dead`] and
-//! [`explain`], it makes that mistake, and the tests must notice.
+//! tests themselves: with `STANDIN_FAULT` set to one of the names in [`fault`], [`coarse`], [`hollow`], [`dead`],
+//! [`explain`] and [`tolerance`], it makes that mistake, and the tests must notice.
 
 mod coarse;
 mod dead;
 mod explain;
 mod fault;
 mod hollow;
+mod tolerance;
 
 use fault::{makes, narrowed, set_on_refusal};
 use hollow::Call;
@@ -168,6 +169,55 @@ pub unsafe extern "C" fn icemedian_filter(
         dead::spoil(&file, Call::Filter, walked, |frame| walk::filter(frame).1);
     }
     finish(result, &mut lent, shifts, offset).err().unwrap_or(0)
+}
+
+/// # Safety
+/// As the header says.
+#[no_mangle]
+pub unsafe extern "C" fn icemedian_tolerance(
+    file: *const u8,
+    file_length: usize,
+    upper: *const u16,
+    upper_length: usize,
+    counts: *mut u16,
+    counts_length: usize,
+    words: *mut u64,
+    words_length: usize,
+    least: *mut u16,
+    least_length: usize,
+    greatest: *mut u16,
+    greatest_length: usize,
+    least_shifts: &mut u64,
+    greatest_shifts: &mut u64,
+    offset: &mut u64,
+) -> u32 {
+    let mut lent = tolerance::Lent {
+        counts: lend(counts, counts_length),
+        words: lend(words, words_length),
+        least: lend(least, least_length),
+        greatest: lend(greatest, greatest_length),
+    };
+    let (file, mut plane) = (as_read(read(file, file_length)), read(upper, upper_length).to_vec());
+    if makes("tolerance_bytes_swapped") {
+        plane.iter_mut().for_each(|level| *level = level.swap_bytes());
+    }
+    if makes("tolerance_upper_written") && upper_length > 0 {
+        ptr::write_volatile(upper.cast_mut(), !*upper);
+    }
+    match report(tolerance::tolerance(&file, &plane, &lent), offset) {
+        Ok(bounds) => {
+            lent.put(&bounds);
+            give(least_shifts, bounds.least_shifts, "least_shifts_left");
+            give(greatest_shifts, bounds.greatest_shifts, "greatest_shifts_left");
+            0
+        }
+        Err(status) => {
+            lent.on_refusal(status, &file);
+            set_on_refusal(least_shifts, 0, "refusal_least_shifts");
+            set_on_refusal(greatest_shifts, 0, "refusal_greatest_shifts");
+            status
+        }
+    }
 }
 
 /// # Safety

@@ -109,7 +109,8 @@ pub fn compare_all(library: &Buffers, expected: &Buffers) -> Check {
     first_difference("summary", &library.summary, &expected.summary)
 }
 
-fn first_difference<T: PartialEq + std::fmt::Debug>(what: &str, library: &[T], expected: &[T]) -> Check {
+/// The first place at which a buffer differs.
+pub fn first_difference<T: PartialEq + std::fmt::Debug>(what: &str, library: &[T], expected: &[T]) -> Check {
     let place = (0..expected.len()).find(|&place| library[place] != expected[place]);
     place.map_or(Ok(()), |place| same(&format!("{what} at {place}"), &library[place], &expected[place]))
 }

@@ -2,10 +2,12 @@
 
 use crate::library::{self, Status};
 use crate::tally::Tally;
+use crate::tolerance;
 use crate::{same, Check};
 use sorting_filter::calls;
 use sorting_filter::cases::bytes_of_hex;
 use sorting_filter::frame::open;
+use sorting_filter::random::Random;
 use sorting_filter::refusal::Refusal;
 
 /// One line of the list.
@@ -39,7 +41,7 @@ impl Damaged {
     }
 }
 
-pub fn test(tally: &mut Tally) -> Check {
+pub fn test(random: &mut Random, tally: &mut Tally) -> Check {
     let mut whole = Vec::new();
     for line in include_str!("../../damaged.txt").lines() {
         if line.is_empty() || line.starts_with('#') {
@@ -57,6 +59,8 @@ pub fn test(tally: &mut Tally) -> Check {
         let what = format!("{}, explained", damaged.name);
         let explained = library::explain(&damaged.file, (0, 0));
         library::compare_explain(&what, explained, &calls::explain(&damaged.file, (0, 0)))?;
+        tolerance::test_listed(random, &whole, &damaged.file, tally)
+            .map_err(|error| format!("{}: {error}", damaged.name))?;
         tally.damaged += 1;
     }
     Ok(())

@@ -2,6 +2,7 @@
 //! leave it so, but for the offset with number 7, and success must write all but the offset.
 
 use crate::buffers::Buffers;
+use crate::tolerance::Two;
 use crate::{same, Check};
 use icemedian::raw::{self, Explained};
 use icemedian::WalkEnd;
@@ -10,10 +11,12 @@ use sorting_filter::explain::Explanation;
 use sorting_filter::frame::Asked;
 use sorting_filter::refusal::Refusal;
 use sorting_filter::store::BOX_CELLS;
+use sorting_filter::tolerance::Tolerated;
 
 /// Results before a call: numbers that no call gives.
 const OFFSET: u64 = 0xA5A5_A5A5_A5A5_A5A5;
 const SHIFTS: u64 = 0x5A5A_5A5A_5A5A_5A5A;
+const BOTH_SHIFTS: (u64, u64) = (SHIFTS + 1, SHIFTS + 2);
 const BALANCE: i64 = -0x5A5A_5A5A_5A5A_5A5A;
 const LENGTH: usize = usize::MAX - 0x5A5A;
 
@@ -83,6 +86,19 @@ pub fn filter(file: &[u8], way: u32, lent: &mut Buffers) -> (Status, u64) {
 pub fn compare_filter(what: &str, library: (Status, u64), expected: &Result<Walked, Refusal>) -> Check {
     let shifts = expected.as_ref().map_or(SHIFTS, |walked| walked.shifts);
     same(what, &library, &(Status::of(expected), shifts))
+}
+
+/// The filter with upper levels: its status, and the shift counts of the least and of the greatest.
+pub fn tolerance(file: &[u8], upper: &[u16], lent: &mut Two) -> (Status, (u64, u64)) {
+    let ((mut least, mut greatest), mut offset) = (BOTH_SHIFTS, OFFSET);
+    let status = raw::tolerance(file, upper, lent.lend(), &mut least, &mut greatest, &mut offset);
+    (Status { status, offset }, (least, greatest))
+}
+
+/// Compares both counts with the sorting filter's.
+pub fn compare_tolerance(what: &str, library: (Status, (u64, u64)), expected: &Result<Tolerated, Refusal>) -> Check {
+    let counts = |bounds: &Tolerated| (bounds.least_shifts, bounds.greatest_shifts);
+    same(what, &library, &(Status::of(expected), expected.as_ref().map_or(BOTH_SHIFTS, counts)))
 }
 
 pub fn balance(file: &[u8], pixel: (usize, usize), level: u32) -> (Status, i64) {

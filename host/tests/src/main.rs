@@ -1,9 +1,9 @@
 //! Random frames through the library's C interface, held against the sorting filter.
 //!
 //! `library_tests [FRAMES] [--seed N] [--program PATH]` makes FRAMES frames (2,000 if not said), walks
-//! and filters each in every serving way, explains its pixels, all once more with its table damaged, damages it, and
-//! writes it again. With `--program` it also feeds frames to the program's standard input. The same seed gives the
-//! same frames everywhere.
+//! and filters each in every serving way, explains its pixels, filters it with upper levels, all once more with its
+//! table damaged, damages it, and writes it again. With `--program` it also feeds frames to the program's standard
+//! input. The same seed gives the same frames everywhere.
 
 mod buffers;
 mod damaged;
@@ -17,6 +17,7 @@ mod overlap;
 mod program;
 mod refusals;
 mod tally;
+mod tolerance;
 mod wide;
 mod writing;
 
@@ -67,6 +68,8 @@ fn test_frame(random: &mut Random, tally: &mut Tally) -> Check {
     frames::test_damaged_table(random, &file, tally)?;
     refusals::test_calls(random, &file, tally)?;
     refusals::test_damaged(random, &file, tally)?;
+    tolerance::test_refused(random, &file, tally)?;
+    tolerance::test_damaged(random, &file, tally)?;
     writing::test_writer(random, &file, tally)
 }
 
@@ -86,7 +89,7 @@ fn run(options: &Options) -> Result<Tally, String> {
     failures.extend(wide.err().map(|message| format!("wide numbers: {message}")));
     let listed = frames::test_listed(&mut Random::new(options.seed), &mut tally);
     failures.extend(listed.err().map(|message| format!("listed: {message}")));
-    let damaged = damaged::test(&mut tally);
+    let damaged = damaged::test(&mut Random::new(options.seed), &mut tally);
     failures.extend(damaged.err().map(|message| format!("damaged: {message}")));
     let overlapping = frames::test_overlapping(&mut Random::new(options.seed), &mut tally);
     failures.extend(overlapping.err().map(|message| format!("overlapping: {message}")));
@@ -102,6 +105,14 @@ fn run(options: &Options) -> Result<Tally, String> {
     failures.extend(dead.err().map(|message| format!("dead pixels written: {message}")));
     let lonely = explain::test_lonely(&mut Random::new(options.seed), &mut tally);
     failures.extend(lonely.err().map(|message| format!("lonely guides: {message}")));
+    let row = tolerance::test_row(&mut Random::new(options.seed), &mut tally);
+    failures.extend(row.err().map(|message| format!("a row with upper levels: {message}")));
+    let choices = tolerance::test_all_choices(&mut Random::new(options.seed), &mut tally);
+    failures.extend(choices.err().map(|message| format!("all choices: {message}")));
+    let largest = tolerance::test_largest(&mut Random::new(options.seed), &mut tally);
+    failures.extend(largest.err().map(|message| format!("the largest frame with upper levels: {message}")));
+    let within = tolerance::test_within_file(&mut Random::new(options.seed), &mut tally);
+    failures.extend(within.err().map(|message| format!("upper levels within the file: {message}")));
     let blocks = frames::test_blocks(&mut Random::new(options.seed), &mut tally);
     failures.extend(blocks.err().map(|message| format!("blocks: {message}")));
     let largest = frames::test_largest(&mut Random::new(options.seed), &mut tally);

@@ -2,6 +2,7 @@
 
 use sorting_filter::explain::{Cause, Explanation};
 use sorting_filter::frame::{Frame, KIND_GUIDED, NO_READING};
+use sorting_filter::tolerance::Tolerated;
 use std::fmt;
 
 /// The greatest sum of weights of a window by a table: 961 pixels of the largest weight.
@@ -131,6 +132,71 @@ impl Explained {
     }
 }
 
+/// Filters with upper levels.
+#[derive(Default)]
+pub struct Tolerance {
+    /// Calls that are not refused, with the built-in weights and with a table of the file's own.
+    pub calls: [u64; 2],
+    /// Of them with upper levels that are the file's own, with no longer buffers than needed, with dead pixels and
+    /// readings, and with dead pixels only.
+    pub equal: u64,
+    pub exact: u64,
+    pub dead: u64,
+    pub all_dead: u64,
+    /// Their windows that are hollow and that have no reading, and pixels whose two answers differ.
+    pub hollow: u64,
+    pub empty: u64,
+    pub apart: u64,
+    /// Calls whose shift counts differ, and whose stores are not those that the lower levels would leave.
+    pub shifts_apart: u64,
+    pub stores_apart: u64,
+    /// Frames of which every choice was filtered, the choices, and pixels whose two answers differ.
+    pub whole_frames: u64,
+    pub whole_choices: u64,
+    pub whole_apart: u64,
+    /// Choices by chance of other frames, and their answers that are neither of the two.
+    pub choices: u64,
+    pub between: u64,
+    /// With upper levels within the file, and with buffers longer than 16 bits can say.
+    pub within_file: u64,
+    pub wide: u64,
+    /// Calls refused with 13 by what is wrong, in the order of [`Wrong::ALL`](crate::tolerance::Wrong::ALL).
+    pub wrong: [u64; 4],
+    /// Calls refused with 11 for counts, words, least and greatest.
+    pub short: [u64; 4],
+    /// Calls that two checks refuse: 8 and 13, 8 and 11, 13 and 11.
+    pub kind_and_upper: u64,
+    pub kind_and_room: u64,
+    pub upper_and_room: u64,
+    /// Calls that a check from 1 to 7 refuses, and 8, 13 or 11 too.
+    pub damaged: [[u64; 3]; 7],
+}
+
+impl Tolerance {
+    /// Counts a call that is not refused.
+    pub fn count(&mut self, frame: &Frame, upper: &[u16], bounds: &Tolerated) {
+        self.calls[usize::from(!frame.table.is_empty())] += 1;
+        self.equal += u64::from(frame.values == upper);
+        let dead = upper.iter().filter(|&&level| level == NO_READING).count();
+        self.dead += u64::from((1..upper.len()).contains(&dead));
+        self.all_dead += u64::from(dead == upper.len());
+        self.hollow += bounds.hollow as u64;
+        self.empty += bounds.empty as u64;
+        self.apart +=
+            bounds.least.iter().zip(&bounds.greatest).filter(|(least, greatest)| least < greatest).count() as u64;
+        self.shifts_apart += u64::from(bounds.least_shifts != bounds.greatest_shifts);
+        self.stores_apart += u64::from(bounds.stores != bounds.lower_stores);
+    }
+
+    fn counts(&self) -> Vec<u64> {
+        let calls = [self.calls[0], self.calls[1], self.equal, self.exact, self.dead, self.all_dead];
+        let windows = [self.hollow, self.empty, self.apart, self.shifts_apart, self.stores_apart];
+        let choices = [self.whole_frames, self.whole_choices, self.whole_apart, self.choices, self.between];
+        let lent = [self.within_file, self.wide, self.kind_and_upper, self.kind_and_room, self.upper_and_room];
+        [&calls, windows.as_slice(), &choices, &lent, &self.wrong, &self.short, &self.damaged.concat()].concat()
+    }
+}
+
 #[derive(Default)]
 pub struct Tally {
     /// Accepted frames of each kind; those made at random are among them.
@@ -156,9 +222,10 @@ pub struct Tally {
     pub unsteady: u64,
     pub balances: u64,
     pub explained: Explained,
+    pub tolerance: Tolerance,
     pub written: u64,
-    /// Calls refused by each number from 1 to 11; place 0 is not used.
-    pub refusals: [u64; 12],
+    /// Calls refused by each number from 1 to 13; place 0 is not used, nor 12, which is the program's.
+    pub refusals: [u64; 14],
     /// Files of the list of damaged ones.
     pub damaged: u64,
     /// Calls with chosen numbers wider than a frame's, among the refused.
@@ -179,14 +246,16 @@ impl Tally {
         let Overlapping { same_start, even_apart, odd_apart } = self.overlapping;
         let windows = [self.listed, self.damaged, self.marks, self.negative, self.unsteady];
         let (hollow, dead, explained) = (self.hollow.counts(), self.dead.counts(), self.explained.counts());
+        let (tolerance, refusals) = (self.tolerance.counts(), [&self.refusals[1..12], &self.refusals[13..]].concat());
         // Without a program none is counted.
         let programs = [self.hollow.programs, self.dead.programs].map(|met| u64::from(self.programs == 0 || met > 0));
         let frames = [self.frames[0], self.frames[1], same_start, even_apart, odd_apart];
         let Coarse { walks, one_block, short_block, negative } = self.coarse;
         let coarse = [walks - one_block, walks - short_block, one_block, short_block, negative];
         let tables = [self.heavy_tables, self.damaged_tables, u64::from(self.heaviest == HEAVIEST)];
-        let all = [&self.refusals[1..], &windows, &hollow, &dead, &explained, &programs, &coarse, &frames, &tables];
-        if all.iter().any(|counts| counts.contains(&0)) {
+        let all = [refusals, hollow, dead, explained, tolerance];
+        let more = [windows.as_slice(), &programs, &coarse, &frames, &tables];
+        if all.iter().map(Vec::as_slice).chain(more).any(|counts| counts.contains(&0)) {
             return Some(format!("the run left something untried:\n{self}"));
         }
         None
@@ -221,6 +290,61 @@ impl Tally {
             "start windows with a dead pixel: {hollow} hollow, {unsteady} not steady; dead pixels beside the window by way 2: \
              {beside}; files refused for 65534: {}, for a guide of 65535: {}",
             refused[0], refused[1]
+        )
+    }
+
+    fn write_tolerance(&self, f: &mut fmt::Formatter<'_>) -> fmt::Result {
+        let tolerance = &self.tolerance;
+        writeln!(
+            f,
+            "tolerances: {} with the built-in weights, {} with an own table ({} of equal planes, {} in exact buffers, {} within \
+             the file, {} in wide buffers)",
+            tolerance.calls[0],
+            tolerance.calls[1],
+            tolerance.equal,
+            tolerance.exact,
+            tolerance.within_file,
+            tolerance.wide
+        )?;
+        writeln!(
+            f,
+            "of them {} with dead pixels, {} with none else; {} hollow windows, {} without a reading; two answers at {} pixels, \
+             two shift counts in {} calls, stores that the lower plane would leave otherwise in {}",
+            tolerance.dead,
+            tolerance.all_dead,
+            tolerance.hollow,
+            tolerance.empty,
+            tolerance.apart,
+            tolerance.shifts_apart,
+            tolerance.stores_apart
+        )?;
+        writeln!(
+            f,
+            "every choice of {} small frames: {} choices, two answers at {} pixels; choices by chance: {}, with {} answers \
+             between the two",
+            tolerance.whole_frames,
+            tolerance.whole_choices,
+            tolerance.whole_apart,
+            tolerance.choices,
+            tolerance.between
+        )?;
+        let ([length, above, outside, one_dead], [counts, words, least, greatest]) = (tolerance.wrong, tolerance.short);
+        writeln!(
+            f,
+            "tolerances refused with 13: {length} for the length, {above} for a reading above, {outside} for no level, \
+             {one_dead} for one dead; with 11: {counts} for counts, {words} for words, {least} for least, {greatest} for greatest"
+        )?;
+        let damaged = |place: usize| tolerance.damaged.iter().map(|counts| counts[place]).sum::<u64>();
+        writeln!(
+            f,
+            "tolerances that two checks refuse: {} by 8 and 13, {} by 8 and 11, {} by 13 and 11, by one from 1 to 7 and 8: {}, \
+             and 13: {}, and 11: {}",
+            tolerance.kind_and_upper,
+            tolerance.kind_and_room,
+            tolerance.upper_and_room,
+            damaged(0),
+            damaged(1),
+            damaged(2)
         )
     }
 }
@@ -286,8 +410,9 @@ impl fmt::Display for Tally {
             f,
             "of them {lowest} of level 0, {negative} with less than 0 below, {above} that reach more than the whole"
         )?;
+        self.write_tolerance(f)?;
         write!(f, "refused calls by number:")?;
-        for (number, count) in self.refusals.iter().enumerate().skip(1) {
+        for (number, count) in self.refusals.iter().enumerate().filter(|&(number, _)| number != 0 && number != 12) {
             write!(f, " {number}: {count}")?;
         }
         write!(f, "\nfiles of the list of damaged ones: {}", self.damaged)?;

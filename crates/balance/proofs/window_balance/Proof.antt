@@ -1,4 +1,5 @@
 -- `window_balance` meets its contract: after k turns the sum is that of the window's first k columns. Assumes nothing.
+use mathlib.Core.List.{[]}
 use mathlib.Core.Path.{_≡_, sym, _∙_, subst}
 use native.Mathlib.Omega.{arith}
 use borrow.Author.Needs.{needs}
@@ -19,7 +20,7 @@ use Rattle.balance.proofs.window_balance.Tie as tie
 
 abbrev Inv-loop : tie.InvT-loop
 Inv-loop file plan weights w s t top x n sum₀ k₀ sum k =
-    (k ≤ n) × (toZ w64 sum ≡ columnsFold _+ℤ_ (pos 0) file plan x t (signedBy weights w (top .0)) k) ×
+    (k ≤ n) × (toZ w64 sum ≡ columnsFold _+ℤ_ (pos 0) file [] plan x t (signedBy weights w (top .0)) k) ×
     (natAbs (toZ w64 sum) ≤ k * 5584831631325)
 
 abbrev μ-loop : tie.MeasureT-loop
@@ -63,7 +64,7 @@ abbrev list : tie.After-line-balance Inv-loop μ-loop → tie.After-read Inv-loo
 list e = e .before .before .before .before
 
 listed : (r : tie.After-read Inv-loop μ-loop) → let at =
-    start (turn r .before) in LinePixels (at .args .file .now) (at .args .plan) (line r .column-line .result)
+    start (turn r .before) in LinePixels (at .args .file .now) [] (at .args .plan) (line r .column-line .result)
     (take (r .read .result - 0) (drop 0 (r .read .last .1 .1 .1 .0)))
 listed r = line-part (r .read .result) (r .read .last .1 .1 .1 .0) (r .read .ensures .1)
 
@@ -79,7 +80,7 @@ loop-holds c =
     let at = c .before .before .before .before in (
       omega arith,
       sym
-          (columns-none _+ℤ_ (pos 0) (at .args .file .now) (at .args .plan) (c .before .low .result) (at .args .t)
+          (columns-none _+ℤ_ (pos 0) (at .args .file .now) [] (at .args .plan) (c .before .low .result) (at .args .t)
           (signedBy (at .args .weights .now) (at .args .formula) (at .args .top .0))),
       omega arith,
     )

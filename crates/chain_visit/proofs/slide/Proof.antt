@@ -1,5 +1,6 @@
 -- `chain_visit::slide` meets its contract: the lines are read, sums and list moved, then the window answers.
 -- Assumes nothing.
+use mathlib.Core.List.{[]}
 use native.Mathlib.Omega.{arith}
 use borrow.Author.Needs.{needs}
 use Prim.Native.Nat.{_-_}
@@ -34,11 +35,13 @@ abbrev carried : tie.After-slide → tie.After-moved
 carried n = n .before .before .before .before .before .before
 
 -- the lists are the step's lines
-enters : (r : tie.After-read2) → let d = step (first r) in LinePixels (begin d .args .file .now) (begin d .args .plan) (d .step-to .result .entering)
+enters : (r : tie.After-read2) → let d = step (first r) in LinePixels (begin d .args .file .now) [] (begin d .args .plan)
+    (d .step-to .result .entering)
     (take (first r .read .result - 0) (drop 0 (first r .read .last .1 .1 .1 .0)))
 enters r = line-part (first r .read .result) (first r .read .last .1 .1 .1 .0) (first r .read .ensures .1)
 
-leaves : (r : tie.After-read2) → let d = step (first r) in LinePixels (begin d .args .file .now) (begin d .args .plan) (d .step-to .result .leaving)
+leaves : (r : tie.After-read2) → let d = step (first r) in LinePixels (begin d .args .file .now) [] (begin d .args .plan)
+    (d .step-to .result .leaving)
     (take (r .read2 .result - 0) (drop 0 (r .read2 .last .1 .1 .1 .0)))
 leaves r = line-part (r .read2 .result) (r .read2 .last .1 .1 .1 .0) (r .read2 .ensures .1)
 

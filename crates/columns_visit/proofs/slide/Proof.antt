@@ -1,6 +1,7 @@
 -- `columns_visit::slide` meets its contract: the lines are read, sums and store moved; where there is a reading, the tally if it is needed, and the
 -- window answers.
 -- Assumes nothing.
+use mathlib.Core.List.{[]}
 use mathlib.Core.Path.{_≡_}
 use mathlib.Core.Bool.{false}
 use native.Mathlib.Omega.{arith}
@@ -57,11 +58,13 @@ abbrev steady : tie.After-carried-where → tie.After-monotone
 steady t = t .before .before .before .before .before .before
 
 -- the lists are the step's lines
-enters : (r : tie.After-read2) → let d = step (first r) in LinePixels (begin d .args .file .now) (begin d .args .plan) (d .step-to .result .entering)
+enters : (r : tie.After-read2) → let d = step (first r) in LinePixels (begin d .args .file .now) [] (begin d .args .plan)
+    (d .step-to .result .entering)
     (take (first r .read .result - 0) (drop 0 (first r .read .last .1 .1 .1 .0)))
 enters r = line-part (first r .read .result) (first r .read .last .1 .1 .1 .0) (first r .read .ensures .1)
 
-leaves : (r : tie.After-read2) → let d = step (first r) in LinePixels (begin d .args .file .now) (begin d .args .plan) (d .step-to .result .leaving)
+leaves : (r : tie.After-read2) → let d = step (first r) in LinePixels (begin d .args .file .now) [] (begin d .args .plan)
+    (d .step-to .result .leaving)
     (take (r .read2 .result - 0) (drop 0 (r .read2 .last .1 .1 .1 .0)))
 leaves r = line-part (r .read2 .result) (r .read2 .last .1 .1 .1 .0) (r .read2 .ensures .1)
 

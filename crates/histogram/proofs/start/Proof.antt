@@ -1,4 +1,5 @@
 -- `start` meets its contract: after k turns the histogram has k columns. Assumes nothing.
+use mathlib.Core.List.{[]}
 use mathlib.Core.Path.{_≡_, refl, _∙_, subst}
 use lib.ListN.{length, take, drop}
 use native.Mathlib.Omega.{arith}
@@ -14,7 +15,7 @@ use Rattle.histogram.proofs.start.Statement.{statement}
 use Rattle.histogram.proofs.start.Tie as tie
 
 abbrev Inv-loop : tie.InvT-loop
-Inv-loop file plan s t histogram₀ x n k₀ histogram k = (k ≤ n) × HistogramFilled file plan x t k histogram × (length histogram ≡ length histogram₀)
+Inv-loop file plan s t histogram₀ x n k₀ histogram k = (k ≤ n) × HistogramFilled file [] plan x t k histogram × (length histogram ≡ length histogram₀)
 
 abbrev μ-loop : tie.MeasureT-loop
 μ-loop file plan s t histogram₀ x n k₀ histogram k = n - k
@@ -53,7 +54,7 @@ abbrev turn : tie.After-read Inv-loop μ-loop → tie.In-loop Inv-loop μ-loop
 turn r = r .before .before .before
 
 listed : (r : tie.After-read Inv-loop μ-loop) → let at =
-    begin (turn r .before) in LinePixels (at .args .file .now) (at .args .plan) (line r .column-line .result)
+    begin (turn r .before) in LinePixels (at .args .file .now) [] (at .args .plan) (line r .column-line .result)
     (take (r .read .result - 0) (drop 0 (r .read .last .1 .1 .1 .0)))
 listed r = line-part (r .read .result) (r .read .last .1 .1 .1 .0) (r .read .ensures .1)
 

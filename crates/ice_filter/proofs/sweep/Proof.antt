@@ -5,8 +5,8 @@ use borrow.Author.Needs.{needs}
 use lib.ListN.{length, length-set}
 use Rattle.visit.specs.Visit.{stateOf}
 use Rattle.ways.specs.Visit.{stores}
-use Rattle.spec.proofs.Plans.{plane-small}
-use Rattle.ice_step.proofs.Laws.{histogram-blank, finished, within-of, fit-going}
+use Rattle.spec.proofs.Plans.{with-own, plane-small}
+use Rattle.ice_step.proofs.Laws.{histogram-blank, handed-back, finished, within-of, fit-going}
 use Rattle.ice_filter.proofs.FilterLoop.{Sweeping, first-in, some, sweeping-start, sweeping-low, sweeping-place, sweeping-more, sweeping-end}
 use Rattle.ice_filter.proofs.sweep.Statement.{statement}
 use Rattle.ice_filter.proofs.sweep.Tie as tie
@@ -19,12 +19,12 @@ use Rattle.spec.proofs.answer_number.Reads as answer-number-reads
 use Rattle.ways.proofs.dispatch.enter.Reads as enter-reads
 
 abbrev Inv-loop : tie.InvT-loop
-Inv-loop file plan way counts₀ words₀ numbers₀ summary output₀ width n weights box₀ histogram₀ visit₀ i₀ counts words numbers output box histogram
+Inv-loop file vs plan way counts₀ words₀ numbers₀ summary output₀ width n weights box₀ histogram₀ visit₀ i₀ counts words numbers output box histogram
     visit i =
-    Sweeping way file (stateOf way visit₀) (stores counts₀ words₀ numbers₀) output₀ (stores counts words numbers) output histogram box visit i
+    Sweeping way file vs (stateOf way visit₀) (stores counts₀ words₀ numbers₀) output₀ (stores counts words numbers) output histogram box visit i
 
 abbrev μ-loop : tie.MeasureT-loop
-μ-loop file plan way counts₀ words₀ numbers₀ summary output₀ width n weights box₀ histogram₀ visit₀ i₀ counts words numbers output box histogram
+μ-loop file vs plan way counts₀ words₀ numbers₀ summary output₀ width n weights box₀ histogram₀ visit₀ i₀ counts words numbers output box histogram
     visit i =
     n - i
 
@@ -32,14 +32,14 @@ abbrev μ-loop : tie.MeasureT-loop
 entry : (c : tie.After-answer-number Inv-loop μ-loop) → tie.Start Inv-loop μ-loop
 entry c =
     c .before .before .before .before .before .before .before .before .before .before .before .before .before .before .before .before .before .before
-    .before .before .before .before .before
+    .before .before .before .before .before .before
 
 room : (c : tie.After-answer-number Inv-loop μ-loop) → entry c .args .plan .width * entry c .args .plan .height ≤ length (entry c .args .output .now)
 unfolding entry
 room c = entry c .pre .1 .1
 
 mul-n : tie.Need-mul-n Inv-loop μ-loop
-mul-n c = omega (arith, plane-small (c .before .before .before .before .before .before .pre .0 .0))
+mul-n c = omega (arith, plane-small (c .before .before .before .before .before .before .before .pre .0 .0))
 
 slice-aggregate-built-rows : tie.Need-slice-aggregate-built-rows Inv-loop μ-loop
 slice-aggregate-built-rows c = search needs
@@ -52,7 +52,7 @@ slice-aggregate-enter c = search needs
 
 enter-requires : tie.Need-enter-requires Inv-loop μ-loop
 enter-requires c κs =
-    let at = c .before .before .before .before .before .before .before .before .before .before .before .before .before .before .before in (
+    let at = c .before .before .before .before .before .before .before .before .before .before .before .before .before .before .before .before in (
       (at .pre .0 .0, c .before .before .before .before .before .before .before .built-rows .ensures, at .pre .0 .1),
       (first-in (at .args .way) (at .pre .0 .0), (at .pre .1 .0 .stores, (refl, histogram-blank (at .pre .0 .0)))),
     )
@@ -221,10 +221,10 @@ finish-requires c κs =
     let w = l .loop .inv .going in
     let at = entry (l .before) in (
       (
-        at .pre .0 .0,
+        with-own (at .pre .0 .0),
         within-of _ (at .pre .0 .0) _ _ (w .held) (omega (arith, sweeping-low _ (at .pre .0 .0) _ _ _ _ _ _ _ _ _ (l .loop .inv))),
       ),
-      (w .visited .here .balance-box, at .pre .1 .0 .summary),
+      at .pre .1 .0 .summary,
     )
 
 -- from the end back to the loop, and to the first window
@@ -257,8 +257,12 @@ returns c =
     let v = entered c .enter .ensures in
     let q =
     sweeping-end _ (at .pre .0 .0) _ _ _ _ _ _ _ (l .loop .visit) (l .loop .i) (l .loop .inv) _ (at .args .output .now)
-    (omega (arith, c .before .before .before .before .before .loop-test .left)) (simp length-set (room (l .before))) (v .state) (v .kept) _ refl in
-    (finished (l .loop .visit) _ refl refl refl (q .0) (c .before .before .finish .ensures), q .1)
+    (omega (arith, c .before .before .before .before .before .loop-test .left)) (simp length-set (room (l .before))) (v .state) (v .kept) _ refl in (
+      finished (l .loop .visit) _ refl refl refl (q .0)
+          (handed-back (at .args .way) (at .pre .0 .0) (at .pre .0 .1) (stateOf (at .args .way) (l .loop .visit))
+          (l .loop .inv .going .visited .here .balance-box) (c .before .before .finish .ensures)),
+      q .1,
+    )
 
 pub sweep-spec : {M : Type 1} → statement M
 sweep-spec =

@@ -1,7 +1,7 @@
--- `finish` meets its contract: way 4 makes its summary and hands back no box, the others hand back the walk's. Assumes nothing.
+-- `finish` meets its contract: way 4 makes its summary and hands back no box, the others leave both. Assumes nothing.
 use borrow.Author.Needs.{needs}
 use mathlib.Core.Path.{refl, sym, _∙_}
-use Rattle.ice_step.proofs.Laws.{back-blocks, back-levels, blocks-fit}
+use Rattle.ice_step.proofs.Laws.{made-blocks, made-levels, blocks-fit}
 use Rattle.ice_step.proofs.finish.Statement.{statement}
 use Rattle.ice_step.proofs.finish.Tie as tie
 
@@ -14,7 +14,7 @@ fill-requires c κs =
     let at = i .before .before .before in
     let on = at .pre .0 .1 in (
       (at .pre .0 .0, on .column, on .row),
-      blocks-fit (at .args .way) (sym (i .before .by-blocks .ensures) ∙ i .if1 .taken) (at .pre .0 .0) _ (at .pre .1 .1),
+      blocks-fit (at .args .way) (sym (i .before .by-blocks .ensures) ∙ i .if1 .taken) (at .pre .0 .0) _ (at .pre .1),
     )
 
 same-length : tie.Need-same-length
@@ -25,12 +25,12 @@ returns c =
     let f = c .before .before in
     let i = f .before .before in
     let at = i .before .before .before in
-    back-blocks _ _ _ _ _ (at .args .way) (sym (i .before .by-blocks .ensures) ∙ i .if1 .taken) refl (f .fill .ensures)
+    made-blocks _ _ _ _ _ _ _ (at .args .way) (sym (i .before .by-blocks .ensures) ∙ i .if1 .taken) refl (f .fill .ensures)
 
 returns-2 : tie.Need-returns-2
 returns-2 c =
     let at = c .before .before .before in
-    back-levels _ _ _ _ _ (at .args .way) (sym (c .before .by-blocks .ensures) ∙ c .if1 .left) (at .pre .1 .0) refl
+    made-levels _ _ _ _ _ _ _ (at .args .way) (sym (c .before .by-blocks .ensures) ∙ c .if1 .left) refl refl
 
 pub finish-spec : {M : Type 1} → statement M
 finish-spec = tie.close (tie.spec by-blocks-requires fill-requires same-length returns returns-2)

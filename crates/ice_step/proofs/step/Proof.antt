@@ -11,14 +11,14 @@ use Rattle.ways.proofs.dispatch.slide.Reads as slide-reads
 
 next-requires : tie.Need-next-requires
 next-requires c κs = let at =
-    c .before .before .before .before .before in (settings-limits-in (at .pre .0 .0), (at .pre .1 .0 .column, at .pre .1 .0 .row))
+    c .before .before .before .before .before .before in (settings-limits-in (at .pre .0 .0), (at .pre .1 .0 .column, at .pre .1 .0 .row))
 
 enum-known-m : tie.Need-enum-known-m
 enum-known-m c = search needs
 
 slide-requires : tie.Need-slide-requires
 slide-requires c κs =
-    let at = c .before .before .before .before .before .before .before .before .before .before .before .before .before .before in
+    let at = c .before .before .before .before .before .before .before .before .before .before .before .before .before .before .before in
     let to = c .before .before .before .before .before .before in
     let on = at .pre .1 .0 in (
       at .pre .0,
@@ -48,7 +48,7 @@ returns : tie.Need-returns
 returns c =
     let at =
     c .before .before .before .before .before .before .before .before .before .before .before .before .before .before .before .before .before
-    .before .before .before .before in
+    .before .before .before .before .before in
     visited-moves _ (at .pre .0 .0) (at .args .visit) _ _ _ _ _ _ _ _
     (sym
     (c .before .before .before .before .before .before .before .before .before .before .before .before .before .before .before .next .ensures) ∙
@@ -57,7 +57,7 @@ returns c =
 
 returns-2 : tie.Need-returns-2
 returns-2 c =
-    let at = c .before .before .before .before .before .before .before .before .before .before .before in
+    let at = c .before .before .before .before .before .before .before .before .before .before .before .before in
     let h = at .pre .1 .1 .1 in
     visited-stays _ (at .pre .0 .0) (at .args .visit) _ _ _ _ _ _
     (sym (c .before .before .before .before .before .next .ensures) ∙ c .before .before .before .m2 .given .1)

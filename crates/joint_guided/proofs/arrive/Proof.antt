@@ -18,7 +18,7 @@ use Rattle.joint_guided.proofs.arrive.Statement.{statement}
 use Rattle.joint_guided.proofs.arrive.Tie as tie
 
 long : (at : tie.Start) → at .args .plan .levels + at .args .plan .levels ≤ length (at .args .histogram .now)
-long at = numbers-long (at .pre .0 .0 .planned) (at .pre .0 .2) refl refl
+long at = numbers-long (at .pre .0 .0 .pictured) (at .pre .0 .2) refl refl
 
 abbrev start : tie.After-carried-where → tie.Start
 start w = w .before .before .before .before .before .before .before .before .before .before .before .before
@@ -47,24 +47,24 @@ says r =
     let m = w .before .before in
     let at = start w in
     let k = at .pre .0 .0 in
-    answered-at (k .planned) (at .pre .0 .1) (k .column) (k .row) (m .before .of-window .ensures)
-    (profiled-parts (k .planned) (at .pre .0 .2) refl refl) (m .monotone .ensures) Joint (read w) (r .answer .ensures .0)
+    answered-at (k .pictured) (at .pre .0 .1) (k .column) (k .row) (m .before .of-window .ensures)
+    (profiled-parts (k .pictured) (at .pre .0 .2) refl refl) (m .monotone .ensures) Joint (read w) (r .answer .ensures .0)
     (r .answer .ensures .1)
 
 add-last : tie.Need-add-last
-add-last c = omega (arith, levels-high (c .before .before .before .before .before .before .before .before .pre .0 .0 .planned))
+add-last c = omega (arith, levels-high (c .before .before .before .before .before .before .before .before .pre .0 .0 .pictured))
 
 of-window-requires : tie.Need-of-window-requires
 of-window-requires c κs =
     let at = c .before .before .before .before .before .before .before .before in
     let k = at .pre .0 .0 in
-    ((k .planned, at .pre .0 .1), (k .column, k .row, at .pre .1 .0 .0))
+    ((k .pictured, at .pre .0 .1), (k .column, k .row, at .pre .1 .0 .0))
 
 monotone-requires : tie.Need-monotone-requires
 monotone-requires c κs =
     let at = c .before .before .before .before .before .before .before .before .before in
     let k = at .pre .0 .0 in
-    (guides-range (k .planned), c .of-window .ensures .1)
+    (guides-range (k .pictured), c .of-window .ensures .1)
 
 cast-carried-where : tie.Need-cast-carried-where
 cast-carried-where c = search needs
@@ -87,7 +87,7 @@ part-answer-end : tie.Need-part-answer-end
 part-answer-end c = omega (arith, long (start c))
 
 mul-answer : tie.Need-mul-answer
-mul-answer c = omega (arith, levels-high (start (c .before) .pre .0 .0 .planned))
+mul-answer c = omega (arith, levels-high (start (c .before) .pre .0 .0 .pictured))
 
 sub-answer-2 : tie.Need-sub-answer-2
 sub-answer-2 c = search needs
@@ -105,9 +105,9 @@ answer-requires c κs =
     let at = start w in
     let k = at .pre .0 .0 in
     let g = at .pre .1 .1 in
-    let cells = profiled-parts (k .planned) (at .pre .0 .2) refl refl in (
-      answerable (k .planned) (at .pre .0 .1) (k .column) (k .row) (m .before .of-window .ensures) cells (m .monotone .ensures) (g .1),
-      from-cut (k .planned) (at .pre .0 .1) (k .column) (k .row) (m .before .of-window .ensures) cells (m .monotone .ensures) (g .0)
+    let cells = profiled-parts (k .pictured) (at .pre .0 .2) refl refl in (
+      answerable (k .pictured) (at .pre .0 .1) (k .column) (k .row) (m .before .of-window .ensures) cells (m .monotone .ensures) (g .1),
+      from-cut (k .pictured) (at .pre .0 .1) (k .column) (k .row) (m .before .of-window .ensures) cells (m .monotone .ensures) (g .0)
           (λ e. at .pre .1 .0 .1 .carried _ (w .carried-where .ensures e)),
     )
 
@@ -120,7 +120,7 @@ move-to-requires c κs =
       searchable k,
       (
         g .0,
-        omega (arith, g .0, answer-low (k .planned) (k .column) (k .row) (read (r .before .before .before)) (says r)),
+        omega (arith, g .0, answer-low (k .pictured) (k .column) (k .row) (read (r .before .before .before)) (says r)),
         g .2 ∙ box-of k (at .args .cut .0) (g .0),
       ),
     )
@@ -141,7 +141,7 @@ returns-2 c =
       state =
           state-is Joint (frameOf (at .args .file .now)) (at .args .s) (at .args .t) (at .args .cut .0) (at .args .shifts) (f .level) (f .shifts)
           (f .level) (record { sums = at .args .a; below = f .tally; free = record { head = 0; count = 0 } }) (h .cut) (h .shifts) (h .answer);
-      box = box-at k (m .move-to .ensures) (omega arith) (answer-low (k .planned) (k .column) (k .row) (read (r .before .before .before)) h);
+      box = box-at k (m .move-to .ensures) (omega arith) (answer-low (k .pictured) (k .column) (k .row) (read (r .before .before .before)) h);
       guided = record { sums = at .pre .1 .0 .0; below = h .below; histogram = at .pre .0 .2 };
     })
 

@@ -17,10 +17,10 @@ start-requires : tie.Need-start-requires
 start-requires c κs =
     let at = c .before .before .before .before .before in
     let k = at .pre .0 .0 in
-    ((k .planned, k .column, k .row), at .pre .0 .2)
+    ((k .pictured, k .column, k .row), at .pre .0 .2)
 
 start-requires-2 : tie.Need-start-requires-2
-start-requires-2 c κs = let k = (begin (c .before .before)) .pre .0 .0 in (k .planned, (k .column, k .row))
+start-requires-2 c κs = let k = (begin (c .before .before)) .pre .0 .0 in (k .pictured, (k .column, k .row))
 
 tally-below-requires : tie.Need-tally-below-requires
 tally-below-requires c κs =
@@ -28,10 +28,10 @@ tally-below-requires c κs =
     let at = begin h in
     let k = at .pre .0 .0 in
     let v = h .start .ensures in (
-      numbers-long (k .planned) v refl refl,
-      level-cells (pixel-of (k .planned) (k .column) (k .row)) (profiled (k .planned) v refl refl),
+      numbers-long (k .pictured) v refl refl,
+      level-cells (pixel-of (k .pictured) (k .column) (k .row)) (profiled (k .pictured) v refl refl),
       levels-some
-          (k .planned),
+          (k .pictured),
     )
 
 sub-arrive : tie.Need-sub-arrive
@@ -63,11 +63,11 @@ arrive-requires c κs =
       (
         (
           a .start2 .ensures,
-          carries-still (pixel-of (k .planned) (k .column) (k .row))
-              (gathered (k .planned) (k .column) (k .row) (profiled (k .planned) (h .start .ensures) refl refl) (levels-some (k .planned))
+          carries-still (pixel-of (k .pictured) (k .column) (k .row))
+              (gathered (k .pictured) (k .column) (k .row) (profiled (k .pictured) (h .start .ensures) refl refl) (levels-some (k .pictured))
               (w .tally-below .ensures)) refl refl,
         ),
-        (levels-some (k .planned), omega arith, at .pre .1),
+        (levels-some (k .pictured), omega arith, at .pre .1),
       ),
     )
 

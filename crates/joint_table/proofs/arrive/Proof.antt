@@ -4,7 +4,8 @@ use mathlib.Core.Path.{_≡_, refl, sym, _∙_, subst}
 use native.Mathlib.Omega.{arith}
 use Prim.Native.Nat.{ℕ, _+_, _-_, _≤_}
 use lib.ListN.{take, drop, length-replicate}
-use Rattle.spec.specs.Frame.{frameOf}
+use Rattle.spec.specs.Frame.{frameWith}
+use Rattle.spec.proofs.Plans.{with-own}
 use Rattle.window.proofs.PixelLaws.{place-small}
 use Rattle.joint_search.specs.Window.{RowOwn, RowWeighs}
 use Rattle.joint_search.proofs.WindowLaws.{searchable, row-fits, box-of}
@@ -16,7 +17,7 @@ use Rattle.joint_table.proofs.arrive.Tie as tie
 
 -- the places passed: the centre's guide read; and the start
 abbrev begin : tie.After-struct-known → tie.Start
-begin d = d .before .before .before .before .before
+begin d = d .before .before .before .before .before .before
 
 abbrev start : tie.After-guide-at → tie.Start
 start g = begin (g .before)
@@ -25,16 +26,16 @@ abbrev read : tie.After-struct-known3 → tie.After-guide-at
 read d = d .before .before .before
 
 small : (g : tie.After-guide-at) → g .guide-at .result .0 ≤ 255
-small g = let k = start g .pre .0 .0 in centre-small (k .planned) (k .column) (k .row) (g .guide-at .ensures)
+small g = let k = start g .pre .0 .0 in centre-small (k .pictured) (k .column) (k .row) (g .guide-at .ensures)
 
 mul-place : tie.Need-mul-place
-mul-place c = let k = begin c .pre .0 .0 in omega (arith, place-small (k .planned) (centre-place (k .planned) (k .column) (k .row)))
+mul-place c = let k = begin c .pre .0 .0 in omega (arith, place-small (k .pictured) (centre-place (k .pictured) (k .column) (k .row)))
 
 add-place : tie.Need-add-place
-add-place c = let k = begin c .pre .0 .0 in omega (arith, place-small (k .planned) (centre-place (k .planned) (k .column) (k .row)))
+add-place c = let k = begin c .pre .0 .0 in omega (arith, place-small (k .pictured) (centre-place (k .pictured) (k .column) (k .row)))
 
 guide-at-requires : tie.Need-guide-at-requires
-guide-at-requires c κs = let k = begin c .pre .0 .0 in (k .planned, centre-place (k .planned) (k .column) (k .row))
+guide-at-requires c κs = let k = begin c .pre .0 .0 in (with-own (k .pictured), centre-place (k .pictured) (k .column) (k .row))
 
 -- built-in
 cast-from : tie.Need-cast-from
@@ -62,12 +63,13 @@ part-arrive-end c =
 
 -- the part of the constants weighs the window, where it has all 256 of the row
 built : (c : tie.After-struct-known3) {end : ℕ} → let at = start (read c) in let from = 255 - read c .guide-at .result .0 in
-    end ≡ from + 256 → RowWeighs (frameOf (at .args .file .now)) (at .args .s) (at .args .t) (take (end - from) (drop from (at .args .weights .now)))
+    end ≡ from + 256 → RowWeighs (frameWith (at .args .file .now) (at .args .plane .now)) (at .args .s) (at .args .t)
+    (take (end - from) (drop from (at .args .weights .now)))
 built c e =
     let g = read c in
     let at = start g in
     let k = at .pre .0 .0 in
-    mirror-weighs (k .planned) (k .column) (k .row) (g .guide-at .ensures) (at .pre .0 .2) (c .before .if1 .taken)
+    mirror-weighs (k .pictured) (k .column) (k .row) (g .guide-at .ensures) (at .pre .0 .2) (c .before .if1 .taken)
     (at .pre .0 .1 .mirror (c .before .if1 .taken)) refl e
 
 arrive-requires : tie.Need-arrive-requires
@@ -89,19 +91,19 @@ own-row-requires : tie.Need-own-row-requires
 own-row-requires c κs =
     let g = c .before .before .before in
     let k = start g .pre .0 .0 in (
-      k .planned,
-      omega (arith, centre-low (k .planned) (k .column) (k .row) (g .guide-at .ensures)),
+      with-own (k .pictured),
+      omega (arith, centre-low (k .pictured) (k .column) (k .row) (g .guide-at .ensures)),
       c .before .if1 .left,
       length-replicate {A = ℕ} 256 0,
     )
 
 own : (o : tie.After-own-row) → let at = start (o .before .before .before .before) in
-    RowOwn (frameOf (at .args .file .now)) (at .args .s) (at .args .t) (o .own-row .last .1 .1 .1 .0)
+    RowOwn (frameWith (at .args .file .now) (at .args .plane .now)) (at .args .s) (at .args .t) (o .own-row .last .1 .1 .1 .0)
 own o =
     let g = o .before .before .before .before in
     let at = start g in
     let k = at .pre .0 .0 in
-    row-weighs-own (k .planned) (k .column) (k .row) (g .guide-at .ensures) (at .pre .0 .2) (o .own-row .ensures)
+    row-weighs-own (k .pictured) (k .column) (k .row) (g .guide-at .ensures) (at .pre .0 .2) (o .own-row .ensures)
 
 -- the row read
 abbrev filled : tie.After-ones-if-hollow → tie.After-own-row
@@ -121,7 +123,7 @@ array-read-centre-weighs c =
 centre-weighs-requires : tie.Need-centre-weighs-requires
 centre-weighs-requires c κs =
     let k = start (c .before .before .before .before .before) .pre .0 .0 in
-    (k .planned, centre-place (k .planned) (k .column) (k .row))
+    (k .pictured, centre-place (k .pictured) (k .column) (k .row))
 
 ones-if-hollow-requires : tie.Need-ones-if-hollow-requires
 ones-if-hollow-requires c κs =
@@ -129,18 +131,18 @@ ones-if-hollow-requires c κs =
     let g = o .before .before .before .before in
     let at = start g in
     let k = at .pre .0 .0 in
-    let f = centre-is (k .planned) (k .column) (k .row) (g .guide-at .ensures) in (
+    let f = centre-is (k .pictured) (k .column) (k .row) (g .guide-at .ensures) in (
       (searchable k, row-fits k (own o), o .own-row .ensures .long),
       (at .pre .1 .0, λ e. centre-some k (at .pre .0 .3) (own o) (at .pre .0 .2) f (sym (c .before .centre-weighs .ensures) ∙ e)),
     )
 
 -- the row that the window is counted with
 counted : (h : tie.After-ones-if-hollow) → let at = start (filled h .before .before .before .before) in
-    RowWeighs (frameOf (at .args .file .now)) (at .args .s) (at .args .t) (h .ones-if-hollow .last .1 .1 .1 .1 .1 .0)
+    RowWeighs (frameWith (at .args .file .now) (at .args .plane .now)) (at .args .s) (at .args .t) (h .ones-if-hollow .last .1 .1 .1 .1 .1 .0)
 counted h =
     let o = filled h in
     let at = start (o .before .before .before .before) in
-    subst (RowWeighs (frameOf (at .args .file .now)) (at .args .s) (at .args .t)) (sym (h .ones-if-hollow .ensures .0))
+    subst (RowWeighs (frameWith (at .args .file .now) (at .args .plane .now)) (at .args .s) (at .args .t)) (sym (h .ones-if-hollow .ensures .0))
     (counted-weighs (at .pre .0 .0) (at .pre .0 .3) (own o))
 
 slice-aggregate-arrive : tie.Need-slice-aggregate-arrive

@@ -4,7 +4,7 @@ use mathlib.Core.Path.{_≡_, refl, _∙_}
 use mathlib.Core.Bool.{false}
 use Prim.Native.Nat.{ℕ}
 use native.Mathlib.Omega.{arith}
-use Rattle.spec.specs.Frame.{frameOf}
+use Rattle.spec.specs.Frame.{frameWith}
 use Rattle.spec.specs.Window.{empty}
 use Rattle.spec.proofs.Own.{count-empty, count-read}
 use Rattle.visit.proofs.Laws.{state-is, unread-state}
@@ -22,8 +22,8 @@ unread-requires c κs = search needs
 
 returns : tie.Need-returns
 returns c =
-    let at = c .before .before .before .before .before .before in
-    let p = frameOf (at .args .file .now) in
+    let at = c .before .before .before .before .before .before .before in
+    let p = frameWith (at .args .file .now) (at .args .plane .now) in
     let none = count-empty p (at .args .column) (at .args .row) (omega (arith, at .pre .0 .3, c .before .if1 .taken)) in
     rw (c .unread .ensures) (
       unread-state (at .args .way) p (at .args .column) (at .args .row) (at .args .cut) (at .args .shifts)
@@ -34,12 +34,13 @@ returns c =
 
 -- there is a reading
 abbrev start : tie.Else1 → tie.Start
-start e = e .before .before .before .before .before
+start e = e .before .before .before .before .before .before
 
-read : (e : tie.Else1) → let at = start e in empty (frameOf (at .args .file .now)) (at .args .column) (at .args .row) ≡ false
+read : (e : tie.Else1) → let at = start e in empty (frameWith (at .args .file .now) (at .args .plane .now)) (at .args .column) (at .args .row) ≡ false
 read e =
     let at = start e in
-    count-read (frameOf (at .args .file .now)) (at .args .column) (at .args .row) (omega (arith, at .pre .0 .3, e .if1 .left))
+    count-read (frameWith (at .args .file .now) (at .args .plane .now)) (at .args .column) (at .args .row)
+    (omega (arith, at .pre .0 .3, e .if1 .left))
 
 arrive-requires : tie.Need-arrive-requires
 arrive-requires c κs =
@@ -54,7 +55,7 @@ returns-2 c =
     let r = c .before in
     let e = r .before .before in
     let at = start e in
-    let p = frameOf (at .args .file .now) in
+    let p = frameWith (at .args .file .now) (at .args .plane .now) in
     let s = at .args .column in
     let t = at .args .row in
     let v = r .arrive .ensures in

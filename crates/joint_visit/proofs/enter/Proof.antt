@@ -3,20 +3,20 @@ use borrow.Author.Needs.{needs}
 use mathlib.Core.Path.{sym, _∙_}
 use native.Mathlib.Omega.{arith}
 use Rattle.visit.proofs.StartLaws.{levels-some}
-use Rattle.spec.proofs.Plans.{kind-table}
-use Rattle.joint_visit.proofs.VisitLaws.{counted-of, table-visited, guided-visited, blocks-visited}
+use Rattle.spec.proofs.Plans.{with-own, kind-table}
+use Rattle.joint_visit.proofs.VisitLaws.{counted-of, count-own, counted-own, box-own, table-visited, guided-visited, blocks-visited}
 use Rattle.joint_visit.proofs.enter.Statement.{statement}
 use Rattle.joint_visit.proofs.enter.Tie as tie
 
 abbrev begin : tie.After-build → tie.Start
-begin k = k .before .before .before .before .before .before .before .before .before
+begin k = k .before .before .before .before .before .before .before .before .before .before
 
 -- the build, from the branch on the kind
 abbrev built : tie.After-struct-known → tie.After-build
 built e = e .before .before .before .before .before
 
 build-requires : tie.Need-build-requires
-build-requires c κs = c .before .before .before .before .before .before .before .before .pre .0 .0
+build-requires c κs = c .before .before .before .before .before .before .before .before .before .pre .0 .0
 
 by-blocks-requires : tie.Need-by-blocks-requires
 by-blocks-requires c κs = search needs
@@ -26,7 +26,7 @@ enter-by-blocks-requires c κs =
     let i = c .before .before .before in
     let at = begin (built (i .before)) in
     let f = at .pre .0 .0 in
-    ((f .planned, i .if1 .taken, f .column, f .row), at .pre .0 .1)
+    ((with-own (f .pictured), i .if1 .taken, f .column, f .row), at .pre .0 .1)
 
 same-length : tie.Need-same-length
 same-length c = search needs
@@ -44,8 +44,8 @@ returns c =
     let i = w .before .before in
     let k = built (i .before) in
     let at = begin k in
-    blocks-visited (at .pre .0 .0 .planned) (at .args .way) 0 0 (at .pre .1 .1) (sym (w .before .by-blocks .ensures) ∙ w .if2 .taken) (i .if1 .taken)
-    (k .build .ensures) (r .enter-by-blocks .ensures)
+    blocks-visited (at .pre .0 .0 .pictured) (at .args .way) 0 0 (at .pre .1 .1) (sym (w .before .by-blocks .ensures) ∙ w .if2 .taken) (i .if1 .taken)
+    (at .pre .1 .2 (i .if1 .taken)) (k .build .ensures) (r .enter-by-blocks .ensures)
 
 enter-requires : tie.Need-enter-requires
 enter-requires c κs =
@@ -53,7 +53,15 @@ enter-requires c κs =
     let k = built (i .before) in
     let at = begin k in
     let f = at .pre .0 .0 in
-    ((counted-of (f .planned) (f .column) (f .row) (k .build .ensures), i .if1 .taken, at .pre .0 .1), k .build .ensures .box)
+    let none = at .pre .1 .2 (i .if1 .taken) in (
+      (
+        counted-own (at .args .file .now) (at .args .column) (at .args .row) none
+            (counted-of (f .pictured) (f .column) (f .row) (k .build .ensures)),
+        i .if1 .taken,
+        at .pre .0 .1,
+      ),
+      box-own (at .args .file .now) (at .args .column) (at .args .row) none 0 (k .build .ensures .box),
+    )
 
 same-length-4 : tie.Need-same-length-4
 same-length-4 c = search needs
@@ -68,13 +76,14 @@ returns-2 : tie.Need-returns-2
 returns-2 c =
     let r = c .before .before in
     let w = r .before .before .before .before .before in
-    let k = built (w .before .before .before) in
+    let i = w .before .before in
+    let k = built (i .before) in
     let at = begin k in
-    guided-visited (at .pre .0 .0 .planned) (at .args .way) 0 0 (at .pre .1 .1) (sym (w .before .by-blocks .ensures) ∙ w .if2 .left)
-    (k .build .ensures) (r .enter .ensures)
+    guided-visited (at .pre .0 .0 .pictured) (at .args .way) 0 0 (at .pre .1 .1) (sym (w .before .by-blocks .ensures) ∙ w .if2 .left)
+    (at .pre .1 .2 (i .if1 .taken)) (k .build .ensures) (r .enter .ensures)
 
 start-requires : tie.Need-start-requires
-start-requires c κs = let f = begin (built (c .before)) .pre .0 .0 in (f .planned, (f .column, f .row))
+start-requires c κs = let f = begin (built (c .before)) .pre .0 .0 in (with-own (f .pictured), (f .column, f .row))
 
 visit-requires : tie.Need-visit-requires
 visit-requires c κs =
@@ -83,12 +92,12 @@ visit-requires c κs =
     let at = begin k in
     let f = at .pre .0 .0 in (
       (
-        counted-of (f .planned) (f .column) (f .row) (k .build .ensures),
+        counted-of (f .pictured) (f .column) (f .row) (k .build .ensures),
         at .pre .1 .0,
-        kind-table (f .planned) (i .if1 .left),
-        c .before .before .before .start .ensures .count,
+        kind-table (f .pictured) (i .if1 .left),
+        count-own (f .pictured) (c .before .before .before .start .ensures),
       ),
-      (levels-some (f .planned), omega arith, k .build .ensures .box),
+      (levels-some (with-own (f .pictured)), omega arith, k .build .ensures .box),
     )
 
 same-length-7 : tie.Need-same-length-7
@@ -102,8 +111,9 @@ returns-3 c =
     let i = c .before .before .before .before .before in
     let k = built (i .before) in
     let at = begin k in
-    let f = at .pre .0 .0 .planned in
-    table-visited f (at .args .way) 0 0 (kind-table f (i .if1 .left)) (c .before .before .before .before .start .ensures .count) (k .build .ensures)
+    let f = at .pre .0 .0 .pictured in
+    table-visited f (at .args .way) 0 0 (kind-table f (i .if1 .left)) (count-own f (c .before .before .before .before .start .ensures))
+    (k .build .ensures)
     (c .visit .ensures)
 
 pub enter-spec : {M : Type 1} → statement M

@@ -2,6 +2,7 @@
 use borrow.Author.Needs.{needs}
 use native.Mathlib.Omega.{arith}
 use mathlib.Core.Path.{_≡_, refl, _∙_}
+use mathlib.Core.List.{[]}
 use Prim.Native.Nat.{_-_, _*_, _≤_, _<_}
 use lib.ListN.{length, length-set}
 use Rattle.window.proofs.PixelLaws.{place-small}
@@ -12,7 +13,7 @@ use Rattle.pixels.proofs.read.Tie as tie
 
 abbrev Inv-loop : tie.InvT-loop
 Inv-loop file plan line places₀ first stride n total₀ k₀ places total k =
-    (k ≤ n) × CopiedTo file (record { first = first; stride = stride; count = n }) k total places × (length places ≡ length places₀)
+    (k ≤ n) × CopiedTo file [] (record { first = first; stride = stride; count = n }) k total places × (length places ≡ length places₀)
 
 abbrev μ-loop : tie.MeasureT-loop
 μ-loop file plan line places₀ first stride n total₀ k₀ places total k = n - k
@@ -21,7 +22,7 @@ abbrev start : tie.At-loop Inv-loop μ-loop → tie.Start Inv-loop μ-loop
 start h = h .before .before .before
 
 loop-holds : tie.Need-loop-holds Inv-loop μ-loop
-loop-holds c = (omega arith, copied-none _ _ _ (c .before .before .pre .2), refl)
+loop-holds c = (omega arith, copied-none _ _ _ _ (c .before .before .pre .2), refl)
 
 mul-q : tie.Need-mul-q Inv-loop μ-loop
 mul-q c = let at = start (c .before) in omega (arith, place-small (at .pre .0) (at .pre .1 .inside _ (c .loop-test .taken)))
@@ -114,9 +115,12 @@ returns-2 c =
     let done : h .loop .k ≡ at .args .line .count = omega (arith, h .loop .inv .0, c .before .before .loop-test .left) in
     (omega arith, none-left (rw done at (h .loop .inv .1)) (c .if2 .taken))
 
+slice-aggregate-read-live : tie.Need-slice-aggregate-read-live Inv-loop μ-loop
+slice-aggregate-read-live c = search needs
+
 read-live-requires : tie.Need-read-live-requires Inv-loop μ-loop
 read-live-requires c κs =
-    let h = c .before .before .before .before in
+    let h = c .before .before .before .before .before in
     let at = start h in
     (at .pre .0, at .pre .1, omega (arith, h .loop .inv .1 .long))
 
@@ -156,6 +160,7 @@ read-spec =
     mul-if2
     same-length-2
     returns-2
+    slice-aggregate-read-live
     read-live-requires
     same-length-3
     returns-3)

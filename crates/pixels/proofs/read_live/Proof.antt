@@ -4,23 +4,24 @@ use mathlib.Core.Path.{_≡_, refl, _∙_}
 use mathlib.Core.Logic.{⊎-elim}
 use Prim.Native.Nat.{_-_, _*_, _≤_, _<_}
 use lib.ListN.{length, length-set}
+use Rattle.spec.proofs.Plans.{with-own}
 use Rattle.window.proofs.PixelLaws.{place-small}
 use Rattle.pixels.proofs.Laws.{put-long, ReadTo, read-none, dead-next, live-next, line-pixels}
 use Rattle.pixels.proofs.read_live.Statement.{statement}
 use Rattle.pixels.proofs.read_live.Tie as tie
 
 abbrev Inv-loop : tie.InvT-loop
-Inv-loop file plan places₀ first stride n k₀ m₀ places k m =
-    (k ≤ n) × ReadTo file plan (record { first = first; stride = stride; count = n }) k m places × (length places ≡ length places₀)
+Inv-loop file vs plan places₀ first stride n k₀ m₀ places k m =
+    (k ≤ n) × ReadTo file vs plan (record { first = first; stride = stride; count = n }) k m places × (length places ≡ length places₀)
 
 abbrev μ-loop : tie.MeasureT-loop
-μ-loop file plan places₀ first stride n k₀ m₀ places k m = n - k
+μ-loop file vs plan places₀ first stride n k₀ m₀ places k m = n - k
 
 abbrev start : tie.At-loop Inv-loop μ-loop → tie.Start Inv-loop μ-loop
-start h = h .before .before .before
+start h = h .before .before .before .before
 
 loop-holds : tie.Need-loop-holds Inv-loop μ-loop
-loop-holds c = (omega arith, read-none _ _ _ _ (c .before .before .pre .2), refl)
+loop-holds c = (omega arith, read-none _ _ _ _ _ (c .before .before .before .pre .2), refl)
 
 mul-q : tie.Need-mul-q Inv-loop μ-loop
 mul-q c = let at = start (c .before) in omega (arith, place-small (at .pre .0) (at .pre .1 .inside _ (c .loop-test .taken)))
@@ -28,12 +29,12 @@ mul-q c = let at = start (c .before) in omega (arith, place-small (at .pre .0) (
 add-q : tie.Need-add-q Inv-loop μ-loop
 add-q c = let at = start (c .before) in omega (arith, place-small (at .pre .0) (at .pre .1 .inside _ (c .loop-test .taken)))
 
-value-at-requires : tie.Need-value-at-requires Inv-loop μ-loop
-value-at-requires c κs = let at = start (c .before) in (at .pre .0, at .pre .1 .inside (c .before .loop .k) (c .loop-test .taken))
+value-in-requires : tie.Need-value-in-requires Inv-loop μ-loop
+value-in-requires c κs = let at = start (c .before) in (at .pre .0, at .pre .1 .inside (c .before .loop .k) (c .loop-test .taken))
 
 guide-at-requires : tie.Need-guide-at-requires Inv-loop μ-loop
 guide-at-requires c κs = let t = c .before in let at =
-    start (t .before) in (at .pre .0, at .pre .1 .inside (t .before .loop .k) (t .loop-test .taken))
+    start (t .before) in (with-own (at .pre .0), at .pre .1 .inside (t .before .loop .k) (t .loop-test .taken))
 
 -- a turn's pixel is one of 31, and its places are two of the 62
 turn-low : (c : tie.After-guide-at Inv-loop μ-loop) → (c .before .before .before .loop .k < 31) × (c .before .before .before .loop .m < 31)
@@ -60,7 +61,7 @@ mul-places-2 c = omega (arith, turn-low c .1)
 slice-write-places-2 : tie.Need-slice-write-places-2 Inv-loop μ-loop
 slice-write-places-2 c =
     let t = c .before .before in
-    rw (length-set (t .before .loop .places) (2 * t .before .loop .m) (c .before .value-at .result))
+    rw (length-set (t .before .loop .places) (2 * t .before .loop .m) (c .before .value-in .result))
     (omega (arith, turn-low c .1, t .before .loop .inv .1 .long))
 
 add-m : tie.Need-add-m Inv-loop μ-loop
@@ -81,13 +82,13 @@ loop-again c =
     ⊎-elim
     (λ w. rw (w .1) (
       omega (arith, t .loop-test .taken),
-      live-next (at .pre .0) (at .pre .1) (t .loop-test .taken) (v .1) (g .before .value-at .ensures) (g .guide-at .ensures) (w .0 .taken),
-      put-long (t .before .loop .places) (t .before .loop .m) (g .before .value-at .result) (g .guide-at .result .0) ∙ v .2,
+      live-next (at .pre .0) (at .pre .1) (t .loop-test .taken) (v .1) (g .before .value-in .ensures) (g .guide-at .ensures) (w .0 .taken),
+      put-long (t .before .loop .places) (t .before .loop .m) (g .before .value-in .result) (g .guide-at .result .0) ∙ v .2,
     ))
     (λ w. rw (w .1) (
       omega (arith, t .loop-test .taken),
-      dead-next (at .pre .0) (at .pre .1) (t .loop-test .taken) (v .1) (g .before .value-at .ensures) (g .guide-at .ensures) (w .0 .left),
-      put-long (t .before .loop .places) (t .before .loop .m) (g .before .value-at .result) (g .guide-at .result .0) ∙ v .2,
+      dead-next (at .pre .0) (at .pre .1) (t .loop-test .taken) (v .1) (g .before .value-in .ensures) (g .guide-at .ensures) (w .0 .left),
+      put-long (t .before .loop .places) (t .before .loop .m) (g .before .value-in .result) (g .guide-at .result .0) ∙ v .2,
     ))
     (c .if1 .came)
 
@@ -113,7 +114,7 @@ read-live-spec =
     loop-holds
     mul-q
     add-q
-    value-at-requires
+    value-in-requires
     guide-at-requires
     mul-here
     add-behind

@@ -1,4 +1,5 @@
 -- `add_window` meets its contract: after k turns the window's first k columns are in the sums. Assumes nothing.
+use mathlib.Core.List.{[]}
 use mathlib.Core.Path.{_≡_, sym, _∙_, subst}
 use native.Mathlib.Omega.{arith}
 use borrow.Author.Needs.{needs}
@@ -21,7 +22,7 @@ use Rattle.weight_sums.proofs.add_window.Tie as tie
 abbrev Inv-loop : tie.InvT-loop
 Inv-loop file plan weights formula s t bits sums₀ x n total₀ k₀ sums total k =
     (k ≤ n) × ColumnsAdded (2 ^ bits) file plan s t x k sums₀ sums ×
-    (toZ w64 total ≡ columnsFold _+ℤ_ (pos 0) file plan x t (signedBy weights formula 65535) k) × (natAbs (toZ w64 total) ≤ k * 5584831631325)
+    (toZ w64 total ≡ columnsFold _+ℤ_ (pos 0) file [] plan x t (signedBy weights formula 65535) k) × (natAbs (toZ w64 total) ≤ k * 5584831631325)
 
 abbrev μ-loop : tie.MeasureT-loop
 μ-loop file plan weights formula s t bits sums₀ x n total₀ k₀ sums total k = n - k
@@ -64,7 +65,7 @@ abbrev list : tie.After-add-pixels Inv-loop μ-loop → tie.After-read Inv-loop 
 list e = e .before .before .before .before .before
 
 listed : (r : tie.After-read Inv-loop μ-loop) → let at =
-    start (turn r .before) in LinePixels (at .args .file .now) (at .args .plan) (line r .column-line .result)
+    start (turn r .before) in LinePixels (at .args .file .now) [] (at .args .plan) (line r .column-line .result)
     (take (r .read .result - 0) (drop 0 (r .read .last .1 .1 .1 .0)))
 listed r = line-part (r .read .result) (r .read .last .1 .1 .1 .0) (r .read .ensures .1)
 
@@ -81,7 +82,7 @@ loop-holds c =
       omega arith,
       columns-start _ _ _ _ _ _ (at .pre .1 .0),
       sym
-          (columns-none _+ℤ_ (pos 0) (at .args .file .now) (at .args .plan) (c .before .low .result) (at .args .t)
+          (columns-none _+ℤ_ (pos 0) (at .args .file .now) [] (at .args .plan) (c .before .low .result) (at .args .t)
           (signedBy (at .args .weights .now) (at .args .formula) 65535)),
       omega arith,
     )

@@ -1,5 +1,6 @@
 -- `chain::moves::start` meets its contract. The loop's invariant: the list holds the first k columns of the window.
 -- Assumes nothing.
+use mathlib.Core.List.{[]}
 use mathlib.Core.Path.{_≡_, refl, sym, ap, _∙_, subst}
 use Prim.Native.Nat.{ℕ, _+_, _-_, _<_, _≤_}
 use native.Mathlib.Omega.{arith}
@@ -104,7 +105,7 @@ line-is r =
     (spanned h .before .low .ensures)
 
 listed : (r : tie.After-read Inv-loop μ-loop) → let at =
-    start (turn r .before) in LinePixels (at .args .file .now) (at .args .plan) (line r .column-line .result)
+    start (turn r .before) in LinePixels (at .args .file .now) [] (at .args .plan) (line r .column-line .result)
     (take (r .read .result - 0) (drop 0 (r .read .last .1 .1 .1 .0)))
 listed r = line-part (r .read .result) (r .read .last .1 .1 .1 .0) (r .read .ensures .1)
 

@@ -9,7 +9,8 @@ use Rattle.ice_step.specs.Finished.{Lent, lent, roomIn}
 use Rattle.checks.proofs.Laws.{known}
 use Rattle.ice.proofs.OutcomeLaws.{quiet}
 use Rattle.ice_step.proofs.Laws.{settings-limits-in}
-use Rattle.ice.proofs.CallLaws.{planned-of, file-decides, own-decides, filters-refused, filters-done, filter-granted}
+use Rattle.frame.proofs.Planning.{planned-of}
+use Rattle.ice.proofs.CallLaws.{file-decides, own-decides, filters-refused, filters-done, filter-granted}
 use borrow.Author.Needs.{needs}
 use Rattle.ice.proofs.calls.filter.Statement.{statement}
 use Rattle.ice.proofs.calls.filter.Tie as tie
@@ -75,37 +76,45 @@ way-of-requires c κs = search needs
 
 -- from the call back to the start
 abbrev start-of : tie.After-sweep-arg4 → tie.Start
-start-of c = c .before .before .before .before .before .before .before .before .before .before .before .before .before .before .before .before .before
+start-of c = c .before .before .before .before .before .before .before .before .before .before .before .before .before .before .before .before
+    .before .before
 
 -- where all checks have passed: the plan is the file's, and the outcome is accepted
 plan-at : (c : tie.After-sweep-arg4) →
     Planned
-    (c .before .before .before .before .before .before .before .before .before .before .before .before .before .before .before .before .before .args
-    .file .now) (c .before .before .before .before .before .before .before .before .before .before .before .open-plan .result .plan)
+    (c .before .before .before .before .before .before .before .before .before .before .before .before .before .before .before .before .before
+    .before .args
+    .file .now) (c .before .before .before .before .before .before .before .before .before .before .before .before .open-plan .result .plan)
 plan-at c =
-    planned-of (c .before .before .before .before .before .before .before .before .before .before .before .open-plan .result)
-    (c .before .before .before .before .before .before .before .before .before .before .before .open-plan .ensures)
-    (known (c .before .before .before .before .before .before .before .before .before .before .stops .ensures)
-    (c .before .before .before .before .before .before .before .before .before .if1 .left))
+    planned-of (c .before .before .before .before .before .before .before .before .before .before .before .before .open-plan .result)
+    (c .before .before .before .before .before .before .before .before .before .before .before .before .open-plan .ensures)
+    (known (c .before .before .before .before .before .before .before .before .before .before .before .stops .ensures)
+    (c .before .before .before .before .before .before .before .before .before .before .if1 .left))
 
 outcome-at : (c : tie.After-sweep-arg4) → let at =
-    c .before .before .before .before .before .before .before .before .before .before .before .before .before .before .before .before .before in
+    c .before .before .before .before .before .before .before .before .before .before .before .before .before .before .before .before .before
+    .before in
     filterOutcome (at .args .file .now) (at .args .way) (roomIn (held at)) (length (at .args .output .now)) ≡ accepted
 unfolding filterOutcome
 outcome-at c =
     sym
     (own-decides (plan-at c)
     (own
-    (c .before .before .before .before .before .before .before .before .before .before .before .before .before .before .before .before .before)))
-    ∙ sym (c .before .before .before .before .before .before .before .filter-verdict .ensures)
-    ∙ quiet (numbered (c .before .before .before .before .before .before .before .filter-verdict .result))
-    (known (c .before .before .before .before .before .before .stops2 .ensures) (c .before .before .before .before .before .if2 .left))
+    (c .before .before .before .before .before .before .before .before .before .before .before .before .before .before .before .before .before
+    .before)))
+    ∙ sym (c .before .before .before .before .before .before .before .before .filter-verdict .ensures)
+    ∙ quiet (numbered (c .before .before .before .before .before .before .before .before .filter-verdict .result))
+    (known (c .before .before .before .before .before .before .before .stops2 .ensures)
+    (c .before .before .before .before .before .before .if2 .left))
+
+slice-aggregate-sweep : tie.Need-slice-aggregate-sweep
+slice-aggregate-sweep c = search needs
 
 sweep-requires : tie.Need-sweep-requires
 sweep-requires c κs =
     let d = c .before in
     let k = plan-at d in
-    let g = filter-granted k _ _ (d .before .before .before .before .way-of .ensures) (held (start-of d)) _ (outcome-at d) in
+    let g = filter-granted k _ _ (d .before .before .before .before .before .way-of .ensures) (held (start-of d)) _ (outcome-at d) in
     ((k, g .serves), (g .fit, g .plane))
 
 same-length : tie.Need-same-length
@@ -128,7 +137,7 @@ returns-3 c =
     let t = c .before .before .before .before .before .before .before .before .before in
     let d = t .before .before in
     let at = start-of d in
-    filters-done _ _ _ (d .before .before .before .before .way-of .ensures) (held at) _ (at .args .output .now) _ _ (outcome-at d)
+    filters-done _ _ _ (d .before .before .before .before .before .way-of .ensures) (held at) _ (at .args .output .now) _ _ (outcome-at d)
     (t .sweep .ensures .0) (t .sweep .ensures .1)
 
 pub filter-spec : {M : Type 1} → statement M
@@ -144,6 +153,7 @@ filter-spec =
     refused-requires-2
     returns-2
     way-of-requires
+    slice-aggregate-sweep
     sweep-requires
     same-length
     same-length-2

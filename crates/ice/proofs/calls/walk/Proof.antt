@@ -9,7 +9,8 @@ use Rattle.ice_step.specs.Finished.{Lent, lent, roomIn}
 use Rattle.checks.proofs.Laws.{known}
 use Rattle.ice.proofs.OutcomeLaws.{quiet}
 use Rattle.ice_step.proofs.Laws.{settings-limits-in}
-use Rattle.ice.proofs.CallLaws.{planned-of, file-decides, own-decides, walks-refused, walks-done, granted}
+use Rattle.frame.proofs.Planning.{planned-of}
+use Rattle.ice.proofs.CallLaws.{file-decides, own-decides, walks-refused, walks-done, granted}
 use borrow.Author.Needs.{needs}
 use Rattle.ice.proofs.calls.walk.Statement.{statement}
 use Rattle.ice.proofs.calls.walk.Tie as tie

@@ -13,29 +13,29 @@ use Rattle.joint.proofs.start.fill.Statement.{statement}
 use Rattle.joint.proofs.start.fill.Tie as tie
 
 abbrev Inv-loop : tie.InvT-loop
-Inv-loop file plan x n t cut cells₀ counts₀ words₀ k₀ cells counts words k =
-    (k ≤ n) × Filled file plan x t (cut .0) k counts₀ words₀ counts words cells
+Inv-loop file vs plan x n t cut cells₀ counts₀ words₀ k₀ cells counts words k =
+    (k ≤ n) × Filled file vs plan x t (cut .0) k counts₀ words₀ counts words cells
 
 abbrev μ-loop : tie.MeasureT-loop
-μ-loop file plan x n t cut cells₀ counts₀ words₀ k₀ cells counts words k = n - k
+μ-loop file vs plan x n t cut cells₀ counts₀ words₀ k₀ cells counts words k = n - k
 
 abbrev start : tie.At-loop Inv-loop μ-loop → tie.Start Inv-loop μ-loop
-start h = h .before .before .before .before
+start h = h .before .before .before .before .before
 
 -- the places passed: the turn, its column, and the list that the column was read into
-abbrev line : tie.After-read Inv-loop μ-loop → tie.After-column-line Inv-loop μ-loop
+abbrev line : tie.After-read-in Inv-loop μ-loop → tie.After-column-line Inv-loop μ-loop
 line r = r .before .before
 
-abbrev turn : tie.After-read Inv-loop μ-loop → tie.In-loop Inv-loop μ-loop
+abbrev turn : tie.After-read-in Inv-loop μ-loop → tie.In-loop Inv-loop μ-loop
 turn r = r .before .before .before
 
-listed : (r : tie.After-read Inv-loop μ-loop) → let at =
-    start (turn r .before) in LinePixels (at .args .file .now) (at .args .plan) (line r .column-line .result)
-    (take (r .read .result - 0) (drop 0 (r .read .last .1 .1 .1 .0)))
-listed r = line-part (r .read .result) (r .read .last .1 .1 .1 .0) (r .read .ensures .1)
+listed : (r : tie.After-read-in Inv-loop μ-loop) → let at =
+    start (turn r .before) in LinePixels (at .args .file .now) (at .args .plane .now) (at .args .plan) (line r .column-line .result)
+    (take (r .read-in .result - 0) (drop 0 (r .read-in .last .1 .1 .1 .1 .0)))
+listed r = line-part (r .read-in .result) (r .read-in .last .1 .1 .1 .1 .0) (r .read-in .ensures .1)
 
 loop-holds : tie.Need-loop-holds Inv-loop μ-loop
-loop-holds c = (omega arith, c .before .before .before .pre .1)
+loop-holds c = (omega arith, c .before .before .before .before .pre .1)
 
 add-column-line : tie.Need-add-column-line Inv-loop μ-loop
 add-column-line c = let at = start (c .before) in omega (arith, at .pre .0 .1 .wide, plan-limits (at .pre .0 .0) .width, c .loop-test .taken)
@@ -45,11 +45,11 @@ column-line-requires c κs =
     let at = start (c .before) in
     (plan-limits (at .pre .0 .0), (omega (arith, at .pre .0 .1 .wide, plan-limits (at .pre .0 .0) .width, c .loop-test .taken), at .pre .0 .1 .row))
 
-slice-aggregate-read : tie.Need-slice-aggregate-read Inv-loop μ-loop
-slice-aggregate-read c = search needs
+slice-aggregate-read-in : tie.Need-slice-aggregate-read-in Inv-loop μ-loop
+slice-aggregate-read-in c = search needs
 
-read-requires : tie.Need-read-requires Inv-loop μ-loop
-read-requires c κs =
+read-in-requires : tie.Need-read-in-requires Inv-loop μ-loop
+read-in-requires c κs =
     let d = c .before in
     let h = d .before .before in
     let at = start h in (
@@ -115,8 +115,8 @@ fill-spec =
     loop-holds
     add-column-line
     column-line-requires
-    slice-aggregate-read
-    read-requires
+    slice-aggregate-read-in
+    read-in-requires
     sub-change-pixels
     part-change-pixels-start
     part-change-pixels-end

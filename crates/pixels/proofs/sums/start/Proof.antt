@@ -1,5 +1,6 @@
 -- `start` meets its contract: after k turns the three are those of k columns. Assumes nothing.
 use mathlib.Core.Path.{_≡_, _∙_, subst}
+use mathlib.Core.List.{[]}
 use lib.ListN.{take, drop}
 use native.Mathlib.Omega.{arith}
 use borrow.Author.Needs.{needs}
@@ -18,7 +19,7 @@ abbrev sums : ℕ → ℕ → ℕ → Sums
 sums n s q = record { count = n; sum = s; squares = q }
 
 abbrev Inv-loop : tie.InvT-loop
-Inv-loop file plan s t x n count₀ sum₀ squares₀ k₀ count sum squares k = (k ≤ n) × ColumnSums file plan x t k (sums count sum squares)
+Inv-loop file plan s t x n count₀ sum₀ squares₀ k₀ count sum squares k = (k ≤ n) × ColumnSums file [] plan x t k (sums count sum squares)
 
 abbrev μ-loop : tie.MeasureT-loop
 μ-loop file plan s t x n count₀ sum₀ squares₀ k₀ count sum squares k = n - k
@@ -58,7 +59,7 @@ abbrev turn : tie.After-read Inv-loop μ-loop → tie.In-loop Inv-loop μ-loop
 turn r = r .before .before .before
 
 listed : (r : tie.After-read Inv-loop μ-loop) → let at =
-    begin (turn r .before) in LinePixels (at .args .file .now) (at .args .plan) (line r .column-line .result)
+    begin (turn r .before) in LinePixels (at .args .file .now) [] (at .args .plan) (line r .column-line .result)
     (take (r .read .result - 0) (drop 0 (r .read .last .1 .1 .1 .0)))
 listed r = line-part (r .read .result) (r .read .last .1 .1 .1 .0) (r .read .ensures .1)
 
@@ -86,7 +87,7 @@ span-of-requires : tie.Need-span-of-requires Inv-loop μ-loop
 span-of-requires c κs = let at = c .before .before in let l = plan-limits (at .pre .0) in (at .pre .1 .0, l .width, l .radius)
 
 loop-holds : tie.Need-loop-holds Inv-loop μ-loop
-loop-holds c = (omega arith, columns-start _ _ _ _)
+loop-holds c = (omega arith, columns-start _ _ _ _ _)
 
 add-column-line : tie.Need-add-column-line Inv-loop μ-loop
 add-column-line c = let at = begin (c .before) in omega (arith, wide c, plan-limits (at .pre .0) .width)
