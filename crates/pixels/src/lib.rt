@@ -14,8 +14,8 @@ ghost use Rattle.spec.specs.Checks.{Planned, Pictured};
 ghost use Rattle.window.specs.Line.{InPlanes};
 ghost use Rattle.pixels.specs.Pixels.{LinePixels};
 
-// A line's live pixels, one after the other, of the file or of a plane in place of its values: each is written, and a dead one written over, so that no
-// branch goes by the reading.
+// A line's live pixels, one after the other, of the file or of a plane in place of its values: each is written, and a dead one written over, so that
+// no branch goes by the reading.
 fn read_live(file: &[u8], plane: &[u16], plan: Plan, line: Line, places: &mut [u16]) -> usize
     requires { ⌜ (Pictured (now file) (now plane) plan) × (InPlanes plan line) × (62 ≤ length (now places)) ⌝ }
     ensures { λ r. ⌜ (r ≤ 62) × (LinePixels (now (file .entry)) (now (plane .entry)) plan line (take r (now (places .exit)))) ⌝ }
@@ -73,8 +73,8 @@ pub fn read(file: &[u8], plan: Plan, line: Line, places: &mut [u16]) -> usize
     read_live(file, &none, plan, line, places)
 }
 
-// The same with the values of a plane in place of the file's own, where one is given. The choice is made once for a line: one for each pixel took every
-// filter 2 to 5 % longer.
+// The same with the values of a plane in place of the file's own, where one is given. The choice is made once for a line, so that a line of the file
+// is read by the loop above.
 pub fn read_in(file: &[u8], plane: &[u16], plan: Plan, line: Line, places: &mut [u16]) -> usize
     requires { ⌜ (Pictured (now file) (now plane) plan) × (InPlanes plan line) × (62 ≤ length (now places)) ⌝ }
     ensures { λ r. ⌜ (r ≤ 62) × (LinePixels (now (file .entry)) (now (plane .entry)) plan line (take r (now (places .exit)))) ⌝ }

@@ -1,9 +1,10 @@
 -- The plan's settings are the file's, as the checks of the tolerance call name them; and which check decides.
 -- Assumes nothing.
 use mathlib.Core.Path.{_≡_, refl, sym, ap, _∙_, subst}
-use mathlib.Core.Bool.{Bool, true, false, _||_}
+use mathlib.Core.Bool.{true, false, _||_}
 use mathlib.Core.List.{List, []}
 use Prim.Native.Nat.{ℕ, _*_, _≤_, _<_}
+use native.Mathlib.Nat.{mul-le-mul}
 use lib.Dec.{ltb, eqb}
 use lib.ListN.{length}
 use borrow.Author.Tests.{eq-eqb, ne-eqb, lt-ltb, le-ltb}
@@ -25,22 +26,22 @@ frame-settings : (b : List ℕ) → frameOf b .set ≡ settingsOf b
 unfolding frameOf
 frame-settings b = refl
 
--- what a call said of a test, and how the branch went
-pub known : {flag test : Bool} {b : Bool} → flag ≡ test → flag ≡ b → test ≡ b
-known e q = sym e ∙ q
-
 module _ {b : List ℕ} {z : Plan} (k : Planned b z) where
   settings-are : settingsIn z ≡ settingsOf b
   settings-are = ap settingsIn (k .plan) ∙ plan-settings b
 
+  pub limits-in : SettingsLimits (settingsIn z)
+  limits-in = subst SettingsLimits (frame-settings b ∙ sym settings-are) (facts k .limits .sound)
+
   pub size-is : z .width * z .height ≡ pixels (settingsOf b)
   size-is = ap pixels settings-are
 
+  -- there is a pixel
+  pub size-some : 1 ≤ z .width * z .height
+  size-some = let k = limits-in in mul-le-mul {n₁ = 1} (k .width-low) (k .height-low)
+
   pub levels-are : z .levels ≡ settingsOf b .levels
   levels-are = ap (λ (s : Settings). s .levels) settings-are
-
-  pub limits-in : SettingsLimits (settingsIn z)
-  limits-in = subst SettingsLimits (frame-settings b ∙ sym settings-are) (facts k .limits .sound)
 
   -- ---- the checks by the plan
   module _ (u : List ℕ) (have : Room) (l g : ℕ) where

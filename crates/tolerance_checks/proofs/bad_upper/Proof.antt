@@ -11,7 +11,7 @@ use Rattle.spec.specs.Frame.{pixelLevel}
 use Rattle.spec.specs.Tolerance.{badSpan}
 use Rattle.spec.proofs.Plans.{plane-small}
 use Rattle.spec.proofs.Tolerance.{wrong-length, found-bad, none-bad}
-use Rattle.tolerance_checks.proofs.Laws.{size-is, levels-are}
+use Rattle.tolerance_checks.proofs.Laws.{size-is, size-some, levels-are}
 use Rattle.tolerance_checks.proofs.bad_upper.Statement.{statement}
 use Rattle.tolerance_checks.proofs.bad_upper.Tie as tie
 
@@ -47,7 +47,9 @@ returns c = let at = c .before .before .before .before in
     (λ e. absurd (omega (arith, c .if1 .taken, e)))
 
 loop-holds : tie.Need-loop-holds Inv-loop μ-loop
-loop-holds c = (omega arith, omega (arith, c .if1 .left), λ j l. absurd (omega (arith, l)))
+loop-holds c =
+    let some = size-some (c .before .before .before .before .pre) in
+    (omega (arith, some), omega (arith, c .if1 .left), λ j l. absurd (omega (arith, l)))
 
 value-at-requires : tie.Need-value-at-requires Inv-loop μ-loop
 value-at-requires c κs = (start (c .before) .pre, c .loop-test .taken)
