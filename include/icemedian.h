@@ -24,10 +24,13 @@
  *   9       the pixel is outside the picture, or the level of a balance outside the levels
  *   10      over 1,048,576 moves
  *   11      a store that the way uses, the answers or the output is too short.
- *           In icemedian_tolerance: counts, words or either output
+ *           In icemedian_tolerance: counts, words or either output.
+ *           In icemedian_split and icemedian_join: the output is shorter than the file
  *   13      the length of the upper plane is not width * height, a reading is above its upper level, an upper level
  *           that is not 65,535 is >= level count, or only one of a pixel's reading and upper level is 65,535;
  *           checked after 8 and before 11
+ *   14      icemedian_split and icemedian_join alone: the guide plane or a table of the file's own has a byte in common
+ *           with the value plane; checked after 6 and before 7
  *
  * 12 is of the program icemedian alone.
  *
@@ -65,9 +68,10 @@
  * 0.7: the stack that is enough for a call is said by macros; no call changes.
  * 0.8: no call takes other arguments, but a value of 65,535 means no reading, which 7 refused before, so that an
  * answer may be 65,535 too; ICEMEDIAN_NO_READING and the cause ICEMEDIAN_EMPTY are new.
- * 0.9: icemedian_tolerance and its number 13 are new; nothing else changes. */
+ * 0.9: icemedian_tolerance and its number 13 are new; nothing else changes.
+ * 0.10: icemedian_split, icemedian_join and their number 14 are new; nothing else changes. */
 #define ICEMEDIAN_VERSION_MAJOR 0
-#define ICEMEDIAN_VERSION_MINOR 9
+#define ICEMEDIAN_VERSION_MINOR 10
 
 #ifdef __cplusplus
 #define ICEMEDIAN_SIZE(number) static_cast<size_t>(number)
@@ -149,6 +153,8 @@ enum { ICEMEDIAN_DEFAULT_RADIUS = 7, ICEMEDIAN_DEFAULT_SMOOTHING = 64 };
 #define ICEMEDIAN_EXPLAIN_STACK 16384
 #define ICEMEDIAN_BALANCE_STACK 2048
 #define ICEMEDIAN_CHECK_STACK 512
+#define ICEMEDIAN_SPLIT_STACK 1024
+#define ICEMEDIAN_JOIN_STACK 1024
 #define ICEMEDIAN_WRITE_STACK 256
 
 /* Checks 1 to 7. */
@@ -224,6 +230,18 @@ uint32_t icemedian_write(uint32_t width, uint32_t height, uint32_t levels, uint3
                          const uint16_t *table, size_t table_length,
                          uint8_t *output, size_t output_length,
                          size_t *length, uint64_t *offset);
+
+/* Splits the value plane of a file into byte planes, which pack better: checks 1 to 6, 14, 7 and 11, in this order.
+ * `output` gets the file's bytes, as many as it has, each in its place but for the value plane: there the high bytes of
+ * all values come first, pixel by pixel, and then the low bytes. A split file has the frame's trailer, but its value
+ * plane holds no levels: join it before any other call. */
+uint32_t icemedian_split(const uint8_t *file, size_t file_length,
+                         uint8_t *output, size_t output_length, uint64_t *offset);
+
+/* Joins the byte planes of a split file, so that `output` gets the very file that icemedian_split was handed: checks 1
+ * to 6, 14 and 11, in this order. It does not look at what the planes hold, so 7 is never given, there is no `offset`,
+ * and a file that is not split is rearranged all the same. */
+uint32_t icemedian_join(const uint8_t *file, size_t file_length, uint8_t *output, size_t output_length);
 
 #ifdef __cplusplus
 }
