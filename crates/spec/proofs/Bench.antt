@@ -73,6 +73,20 @@ use Rattle.spec.specs.Calls.{
   explainOutcome,
 }
 use Rattle.spec.specs.Tolerance.{badSpan, badUpper, toleranceChecks, toleranceOutcome}
+use Rattle.spec.specs.BytePlanes.{
+  highBytes,
+  lowBytes,
+  inTurn,
+  splitPlane,
+  joinedPlane,
+  withPlane,
+  splitFile,
+  joinedFile,
+  overlap,
+  badOverlap,
+  splitOutcome,
+  joinOutcome,
+}
 use Rattle.spec.specs.Writer.{fieldBytes, distanceBytes, written, writtenSize, badLength, scanList, writerOutcome}
 use Rattle.spec.specs.Program.{digits, spaced, rows, ways, tooLarge, programOutcome, beside, outputText, printed}
 
@@ -126,6 +140,7 @@ unfolding fold foldRect first tabulateFrom tabulate be16 be32 to16 to32 all16 tr
     columnStore entryOf entries blockWeight summary wayOf badWay roomOf badPixel lacks short walkChecks walkOutcome filterChecks filterOutcome
     balanceChecks balanceOutcome explainChecks explainOutcome badSpan badUpper toleranceChecks toleranceOutcome cumulativeBelow causeOf fieldBytes
     distanceBytes written writtenSize badLength scanList writerOutcome digits spaced rows ways tooLarge programOutcome beside outputText printed
+    highBytes lowBytes inTurn splitPlane joinedPlane withPlane splitFile joinedFile overlap badOverlap splitOutcome joinOutcome
 reply (accept b) = says (verdict b)
 reply (walk b s t l) = let p = frameOf b in closed (walkEnd Joint p s t l) (walkAnswers p s t l)
 reply (filter b) = let p = frameOf b in closed (filterEnd Joint p) (filtered p)
@@ -266,6 +281,15 @@ placedA = placed (take 12 fileA) (settings 3 1 8 4 2 1 1)
 -- 12 bytes of which a value plane of one pixel, a guide plane and a table of two by two may be any part, in kind 1
 abbrev placedTable : ℕ → ℕ → ℕ → List ℕ
 placedTable = placed (take 12 fileA) (settings 1 1 8 2 1 0 0)
+
+-- document 02, ask 8: the ask's value plane, 0102 0304 0203; and a table of two by two, a guide plane and a value plane of two pixels, 0203 0102,
+-- with a byte before, between and behind them, of which the planes and the table may be any part
+abbrev fileWords : List ℕ
+fileWords = made 3 1 1024 4 2 1 1 (0x102 ∷ 0x304 ∷ 0x203 ∷ []) (0 ∷ 0 ∷ 2 ∷ []) []
+
+abbrev placedWords : ℕ → ℕ → ℕ → List ℕ
+placedWords =
+    placed (9 ∷ 0 ∷ 1 ∷ 0 ∷ 2 ∷ 0 ∷ 3 ∷ 0 ∷ 4 ∷ 0 ∷ 1 ∷ 0 ∷ 0 ∷ 8 ∷ 2 ∷ 3 ∷ 1 ∷ 2 ∷ 7 ∷ []) (settings 2 1 1024 2 1 0 0)
 
 -- counts, words, 32-bit numbers; counts, words, weight sums
 abbrev room : ℕ → ℕ → ℕ → Room
@@ -496,6 +520,30 @@ cases =
     ∷ call (toleranceOutcome fileSpans (6 ∷ 1 ∷ 5 ∷ 4 ∷ 7 ∷ []) (room 32 8 0) 4 5) ⇒ says (refused 11 [])
     ∷ call (toleranceOutcome fileSpans (6 ∷ 1 ∷ 5 ∷ 4 ∷ 7 ∷ []) (room 32 8 0) 5 4) ⇒ says (refused 11 [])
     ∷ call (toleranceOutcome (take 39 fileA ++ (0x32 ∷ [])) [] (room 0 0 0) 0 0) ⇒ says (refused 1 [])
+    ∷ writes (splitFile fileWords) ⇒ prints ((1 ∷ 3 ∷ 2 ∷ 2 ∷ 4 ∷ 3 ∷ []) ++ drop 6 fileWords)
+    ∷ writes (joinedFile (splitFile fileWords)) ⇒ prints ((1 ∷ 2 ∷ 3 ∷ 4 ∷ 2 ∷ 3 ∷ []) ++ drop 6 fileWords)
+    ∷ writes (joinedFile fileWords) ⇒ prints ((1 ∷ 4 ∷ 2 ∷ 2 ∷ 3 ∷ 3 ∷ []) ++ drop 6 fileWords)
+    ∷ writes (splitFile (placedWords 5 10 18)) ⇒ prints (take 14 (placedWords 5 10 18) ++ (2 ∷ 1 ∷ 3 ∷ 2 ∷ []) ++ drop 18 (placedWords 5 10 18))
+    ∷ writes (joinedFile (splitFile (placedWords 5 10 18))) ⇒ prints (placedWords 5 10 18)
+    ∷ accept (splitFile fileWords) ⇒ says (refused 7 (4 ∷ []))
+    ∷ call (splitOutcome fileWords 40) ⇒ says accepted
+    ∷ call (joinOutcome (splitFile fileWords) 40) ⇒ says accepted
+    ∷ call (splitOutcome (placedWords 5 10 18) 47) ⇒ says accepted
+    ∷ call (splitOutcome (placedWords 5 10 18) 46) ⇒ says (refused 11 [])
+    ∷ call (splitOutcome (placedWords 5 9 0) 46) ⇒ says (refused 7 (10 ∷ []))
+    ∷ call (splitOutcome (placedWords 5 8 0) 46) ⇒ says (refused 14 [])
+    ∷ call (splitOutcome (placedWords 3 3 0) 46) ⇒ says (refused 6 [])
+    ∷ call (splitOutcome (placedWords 5 5 0) 47) ⇒ says (refused 14 [])
+    ∷ call (joinOutcome (placedWords 5 9 0) 47) ⇒ says accepted
+    ∷ call (joinOutcome (placedWords 5 8 0) 46) ⇒ says (refused 14 [])
+    ∷ call (joinOutcome (placedWords 9 5 0) 47) ⇒ says accepted
+    ∷ call (joinOutcome (placedWords 9 6 0) 47) ⇒ says (refused 14 [])
+    ∷ call (joinOutcome (placedWords 5 10 13) 47) ⇒ says accepted
+    ∷ call (joinOutcome (placedWords 5 10 12) 47) ⇒ says (refused 14 [])
+    ∷ call (joinOutcome (placedWords 19 10 15) 47) ⇒ says accepted
+    ∷ call (joinOutcome (placedWords 19 10 16) 47) ⇒ says (refused 14 [])
+    ∷ call (joinOutcome (placedWords 3 3 0) 46) ⇒ says (refused 6 [])
+    ∷ call (joinOutcome (placedWords 5 10 18) 46) ⇒ says (refused 11 [])
     ∷ []
 
 benches : map given cases ≡ map due cases

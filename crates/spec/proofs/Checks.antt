@@ -154,7 +154,12 @@ near at t e =
     let a = table-near at t _ refl (q .1) in
     record { value-long = v .0; value-in = v .1; guide-long = g .0; guide-in = g .1; table-long = a .0; table-in = a .1 }
 
--- ---- what an accepted file has passed
+-- ---- what a file has passed whose trailer and distances do; and an accepted file
+pub record TrailerPassed (b : List ℕ) : Type 0 where
+  pub long : 28 ≤ length b
+  pub settings : settingsOutcome (settingsOf b) ≡ accepted
+  pub near : Near (trailerAt b) (trailerOf b)
+
 pub record FilePassed (b : List ℕ) : Type 0 where
   pub long : 28 ≤ length b
   pub settings : settingsOutcome (settingsOf b) ≡ accepted
@@ -166,22 +171,22 @@ pub mark-long : (b : List ℕ) → badMark b ≡ false → 28 ≤ length b
 unfolding badMark
 mark-long b e = ltb-false _ _ (neither _ _ e .0)
 
-pub passed : (b : List ℕ) → verdict b ≡ accepted → FilePassed b
-unfolding verdict trailerOutcome contents
-passed b e =
+pub trailer-passed : (b : List ℕ) → trailerOutcome b ≡ accepted → TrailerPassed b
+unfolding trailerOutcome
+trailer-passed b e =
     let m = refuse 1 (badMark b) in
     let s = settingsOutcome (settingsOf b) in
     let d = refuse 6 (badDistance (trailerAt b) (trailerOf b)) in
+    let marked = both-accepted m (s ▷ d) e in
+    let set = both-accepted s d (marked .1) in
+    record { long = mark-long b (not-fired 1 _ (marked .0)); settings = set .0; near = near _ _ (not-fired 6 _ (set .1)) }
+
+pub passed : (b : List ℕ) → verdict b ≡ accepted → FilePassed b
+unfolding verdict contents
+passed b e =
     let x = valueScan b (planOf b) in
     let y = guideScan b (planOf b) in
-    let front = both-accepted (m ▷ s ▷ d) (x ▷ y) e in
-    let marked = both-accepted m (s ▷ d) (front .0) in
-    let set = both-accepted s d (marked .1) in
+    let front = both-accepted (trailerOutcome b) (x ▷ y) e in
+    let t = trailer-passed b (front .0) in
     let planes = both-accepted x y (front .1) in
-    record {
-      long = mark-long b (not-fired 1 _ (marked .0));
-      settings = set .0;
-      near = near _ _ (not-fired 6 _ (set .1));
-      values = planes .0;
-      guides = planes .1;
-    }
+    record { long = t .long; settings = t .settings; near = t .near; values = planes .0; guides = planes .1 }

@@ -1,6 +1,7 @@
 -- The first number that passes a test is the one below which none does; a list made place by place has its places.
 -- Assumes nothing.
-use mathlib.Core.Path.{_≡_, refl, sym, ap, _∙_}
+use mathlib.Core.Path.{_≡_, refl, sym, ap, ap₂, _∙_}
+use mathlib.Core.List.{List, _∷_, _++_}
 use mathlib.Core.Bool.{Bool, true, false, true≢false}
 use native.Mathlib.Decide.{decLt}
 use Prim.Native.Nat.{ℕ, zero, suc, _+_, _≤_, _<_}
@@ -62,3 +63,25 @@ length-tabulate n f = length-listFrom f 0 n
 pub getD-tabulate : {A : Type 0} (n : ℕ) (f : ℕ → A) (k : ℕ) (d : A) → k < n → getD (tabulate n f) k d ≡ f k
 unfolding tabulate
 getD-tabulate n f k d h = getD-listFrom f 0 n k d h ∙ ap f (zero-add k)
+
+-- so many places and then so many more
+listFrom-add : {A : Type 0} (f : ℕ → A) (a n m : ℕ) → tabulateFrom f a (n + m) ≡ tabulateFrom f a n ++ tabulateFrom f (a + n) m
+unfolding tabulateFrom
+listFrom-add f a zero m = ap₂ (tabulateFrom f) (sym (add-zero a)) (zero-add m)
+listFrom-add f a (suc n) m =
+    ap (tabulateFrom f a) (suc-add n m)
+    ∙ ap (λ (l : List _). f a ∷ l) (listFrom-add f (suc a) n m ∙ ap (λ (b : ℕ). tabulateFrom f (suc a) n ++ tabulateFrom f b m)
+    (suc-add a n ∙ sym (add-suc a n)))
+
+listFrom-moved : {A : Type 0} (f : ℕ → A) (b a n : ℕ) → tabulateFrom f (b + a) n ≡ tabulateFrom (λ k. f (b + k)) a n
+unfolding tabulateFrom
+listFrom-moved f b a zero = refl
+listFrom-moved f b a (suc n) =
+    ap (λ (l : List _). f (b + a) ∷ l) (ap (λ (k : ℕ). tabulateFrom f k n) (sym (add-suc b a)) ∙ listFrom-moved f b (suc a) n)
+
+pub tabulate-add : {A : Type 0} (n m : ℕ) (f : ℕ → A) → tabulate (n + m) f ≡ tabulate n f ++ tabulate m (λ k. f (n + k))
+unfolding tabulate
+tabulate-add n m f =
+    listFrom-add f 0 n m
+    ∙ ap (λ (l : List _). tabulateFrom f 0 n ++ l)
+    (ap (λ (k : ℕ). tabulateFrom f k m) (zero-add n ∙ sym (add-zero n)) ∙ listFrom-moved f n 0 m)

@@ -14,6 +14,7 @@ pub mod Levels
 pub mod Totals
 pub mod Warmer
 pub mod Tolerance
+pub mod BytePlanes
 pub mod Monotone
 pub mod Minimum
 pub mod Present

@@ -15,5 +15,6 @@ pub mod Coarse
 pub mod Explain
 pub mod Calls
 pub mod Tolerance
+pub mod BytePlanes
 pub mod Writer
 pub mod Program

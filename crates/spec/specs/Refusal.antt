@@ -20,6 +20,7 @@ use Rattle.spec.specs.declared.Refusal.the-variants.{
   Room,
   Program,
   Upper,
+  Overlap,
 }
 use Rattle.spec.specs.declared.Verdict.{Verdict}
 use Rattle.spec.specs.declared.Verdict.the-variants.{Accepted, Refused}
@@ -60,6 +61,7 @@ number Moves = 10
 number Room = 11
 number Program = 12
 number Upper = 13
+number Overlap = 14
 
 -- the offset beside number 7
 abbrev pub offsetOf : Refusal → ℕ
@@ -76,6 +78,7 @@ offsetOf Moves = 0
 offsetOf Room = 0
 offsetOf Program = 0
 offsetOf Upper = 0
+offsetOf Overlap = 0
 
 -- the values beside the number
 abbrev pub valuesOf : Refusal → List ℕ

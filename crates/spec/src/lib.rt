@@ -88,6 +88,8 @@ pub enum Refusal {
     Program,
     // document 02: the plane of upper levels
     Upper,
+    // document 02: a part of the file that overlaps the value plane
+    Overlap,
 }
 
 // What the checks say.
@@ -225,6 +227,7 @@ pub fn number_of(refusal: Refusal) -> u8
         Refusal::Room => 11,
         Refusal::Program => 12,
         Refusal::Upper => 13,
+        Refusal::Overlap => 14,
     }
 }
 
@@ -245,6 +248,7 @@ pub fn offset_of(refusal: Refusal) -> usize
         Refusal::Room => 0,
         Refusal::Program => 0,
         Refusal::Upper => 0,
+        Refusal::Overlap => 0,
     }
 }
 

@@ -2,7 +2,8 @@
 use Rattle.spec.proofs.Outcomes.{stopped, quiet, past}
 use Rattle.spec.specs.Checks.{trailerOutcome, contents, verdict}
 use Rattle.spec.specs.Frame.{planOf}
-use Rattle.frame.proofs.Planning.{trailer-passed, planes-in-file}
+use Rattle.spec.proofs.Checks.{trailer-passed}
+use Rattle.frame.proofs.Planning.{planes-in-file}
 use borrow.Author.Needs.{needs}
 use Rattle.frame.proofs.check.check.Statement.{statement}
 use Rattle.frame.proofs.check.check.Tie as tie
