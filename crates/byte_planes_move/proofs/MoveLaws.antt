@@ -3,6 +3,7 @@
 use mathlib.Core.Path.{_≡_, refl, sym, ap, ap₂, _∙_}
 use mathlib.Core.List.{List, [], _∷_, _++_, append-assoc}
 use Prim.Native.Nat.{ℕ, _+_, _-_, _*_, _%_, _≤_, _<_}
+use native.Mathlib.Nat.{zero-add}
 use native.Mathlib.Numerals.{add-one}
 use native.Mathlib.Omega.{arith}
 use lib.Arith.{digits-mod}
@@ -13,7 +14,7 @@ use Rattle.spec.specs.Bytes.{AllBytes}
 use Rattle.spec.specs.BytePlanes.{highBytes, lowBytes, inTurn, splitPlane, joinedPlane}
 use Rattle.spec.proofs.First.{length-tabulate, getD-tabulate, tabulate-add}
 use Rattle.spec.proofs.Lists.{sets-append, part-long, part-cell}
-use Rattle.spec.proofs.BytePlanes.{high-long, low-long, high-at, low-at, turn-long, turn-next}
+use Rattle.spec.proofs.BytePlanes.{high-long, low-long, high-at, low-at, turn-long, turn-next, split-long, joined-long}
 use Rattle.big_endian_part.specs.Part.{lowFirst}
 use Rattle.byte_planes_move.specs.EveryOther.{everyOther}
 
@@ -159,3 +160,28 @@ module _ (l file : List ℕ) (at n : ℕ) (fits : at + 2 * n ≤ length file) wh
   unfolding joinedPlane
   join-all q e is =
       is ∙ ap₂ (λ (x y : List ℕ). sets l at (inTurn x y)) (take-all q highs (omega (arith, front-long))) (take-all q lows (omega (arith, back-long)))
+
+-- ---- a whole file: the bytes before the plane, the plane's, those behind it
+pub file-moved : (l file plane : List ℕ) (at n : ℕ) {e : ℕ} {x y z : List ℕ} → at + 2 * n ≤ length file → length plane ≡ 2 * n
+    → x ≡ sets l 0 (take (at - 0) (drop 0 file)) → y ≡ sets x at plane → z ≡ sets y e (take (length file - e) (drop e file)) → e ≡ at + 2 * n
+    → z ≡ sets l 0 (take at file ++ plane ++ drop (at + 2 * n) file)
+file-moved l file plane at n {e} {x} {y} {z} fits long ex ey ez ee =
+    let none : at - 0 ≡ at = omega arith in
+    let end = at + 2 * n in
+    let head : length (take at file) ≡ at = length-take-le at file (omega arith) in
+    let front : length (take at file ++ plane) ≡ end = omega (arith, length-append (take at file) plane) in
+    let first : x ≡ sets l 0 (take at file) = ex ∙ ap (λ (k : ℕ). sets l 0 (take k file)) none in
+    let second : y ≡ sets l 0 (take at file ++ plane) =
+    ey ∙ ap (λ (k : List ℕ). sets k at plane) first ∙ ap (λ (j : ℕ). sets (sets l 0 (take at file)) j plane) (sym head ∙ sym (zero-add _))
+    ∙ sets-append (take at file) plane l 0 in
+    let rest : take (length file - end) (drop end file) ≡ drop end file = take-all (length file - end) (drop end file) (omega (arith, length-drop end file)) in
+    ez ∙ ap (λ (k : ℕ). sets y k (take (length file - k) (drop k file))) ee ∙ ap (sets y end) rest ∙ ap (λ (k : List ℕ). sets k end (drop end file)) second
+    ∙ ap (λ (j : ℕ). sets (sets l 0 (take at file ++ plane)) j (drop end file)) (sym front ∙ sym (zero-add _))
+    ∙ sets-append (take at file ++ plane) (drop end file) l 0
+
+-- the two planes have the plane's length
+pub split-plane-long : (file : List ℕ) (at n : ℕ) → at + 2 * n ≤ length file → length (splitPlane (planeAt file at n)) ≡ 2 * n
+split-plane-long file at n fits = split-long (planeAt file at n) n (part-long file at (2 * n) fits)
+
+pub joined-plane-long : (file : List ℕ) (at n : ℕ) → at + 2 * n ≤ length file → length (joinedPlane n (planeAt file at n)) ≡ 2 * n
+joined-plane-long file at n fits = joined-long (planeAt file at n) n (part-long file at (2 * n) fits)

@@ -1,7 +1,8 @@
-// The bytes of a file moved into an output: a plane's bytes split into byte planes, or joined again, and the others copied to where they stand.
-// The caller makes sure that there is room.
+// The bytes of a file moved into an output: those of a plane split into byte planes, or joined again, the others copied to where they stand. The caller
+// makes sure that there is room.
 use big_endian_part::copy_low_first;
 ghost use mathlib.Core.Path.{_≡_};
+ghost use mathlib.Core.List.{_++_};
 ghost use Prim.Native.Nat.{_+_, _*_, _-_, _<_, _≤_};
 ghost use lib.ListN.{length, take, drop};
 ghost use lib.Seq.{sets};
@@ -9,7 +10,7 @@ ghost use Rattle.spec.specs.BytePlanes.{splitPlane, joinedPlane};
 ghost use Rattle.byte_planes_move.specs.EveryOther.{everyOther};
 
 // The bytes from one to another, which it ends before, as they are.
-pub fn copy(file: &[u8], from: usize, to: usize, output: &mut [u8])
+fn copy(file: &[u8], from: usize, to: usize, output: &mut [u8])
     requires { ⌜ (from ≤ to) × (to ≤ length (now file)) × (to ≤ length (now output)) ⌝ }
     ensures { λ _. ⌜ now (output .exit) ≡ sets (now (output .entry)) from (take (to - from) (drop from (now (file .entry)))) ⌝ }
 {
@@ -20,7 +21,7 @@ pub fn copy(file: &[u8], from: usize, to: usize, output: &mut [u8])
     }
 }
 
-// The bytes that are taken together, out of a short array: the compiler takes bytes that are two apart one by one, but two-byte numbers many at a time.
+// The bytes that are taken together, out of a short array: the compiler takes two-byte numbers many at a time, but bytes that are two apart one by one.
 const RUN: usize = 64;
 
 // 64 bytes, two apart: the low bytes of 64 numbers that are read low byte first.
@@ -63,7 +64,7 @@ fn put_every_other(file: &[u8], from: usize, n: usize, at: usize, output: &mut [
 }
 
 // A plane of n numbers from a byte on, behind which the file has another byte: the high bytes of all, then the low bytes of all.
-pub fn split(file: &[u8], at: usize, n: usize, output: &mut [u8])
+fn split_plane(file: &[u8], at: usize, n: usize, output: &mut [u8])
     requires { ⌜ (at + 2 * n < length (now file)) × (at + 2 * n ≤ length (now output)) ⌝ }
     ensures { λ _. ⌜ now (output .exit) ≡ sets (now (output .entry)) at (splitPlane (take (2 * n) (drop at (now (file .entry))))) ⌝ }
 {
@@ -72,7 +73,7 @@ pub fn split(file: &[u8], at: usize, n: usize, output: &mut [u8])
 }
 
 // Such a plane joined: of each number its high byte and then its low byte.
-pub fn join(file: &[u8], at: usize, n: usize, output: &mut [u8])
+fn join_plane(file: &[u8], at: usize, n: usize, output: &mut [u8])
     requires { ⌜ (at + 2 * n ≤ length (now file)) × (at + 2 * n ≤ length (now output)) ⌝ }
     ensures { λ _. ⌜ now (output .exit) ≡ sets (now (output .entry)) at (joinedPlane n (take (2 * n) (drop at (now (file .entry))))) ⌝ }
 {
@@ -84,4 +85,26 @@ pub fn join(file: &[u8], at: usize, n: usize, output: &mut [u8])
         output[number + 1] = file[low + q];
         q += 1;
     }
+}
+
+// A whole file whose plane of n numbers begins at a byte, and ends before the file does: that plane split.
+pub fn split_file(file: &[u8], at: usize, n: usize, output: &mut [u8])
+    requires { ⌜ (at + 2 * n < length (now file)) × (length (now file) ≤ length (now output)) ⌝ }
+    ensures { λ _. ⌜ now (output .exit) ≡ sets (now (output .entry)) 0
+        (take at (now (file .entry)) ++ splitPlane (take (2 * n) (drop at (now (file .entry)))) ++ drop (at + 2 * n) (now (file .entry))) ⌝ }
+{
+    copy(file, 0, at, output);
+    split_plane(file, at, n, output);
+    copy(file, at + 2 * n, file.len(), output);
+}
+
+// And that plane joined.
+pub fn join_file(file: &[u8], at: usize, n: usize, output: &mut [u8])
+    requires { ⌜ (at + 2 * n < length (now file)) × (length (now file) ≤ length (now output)) ⌝ }
+    ensures { λ _. ⌜ now (output .exit) ≡ sets (now (output .entry)) 0
+        (take at (now (file .entry)) ++ joinedPlane n (take (2 * n) (drop at (now (file .entry)))) ++ drop (at + 2 * n) (now (file .entry))) ⌝ }
+{
+    copy(file, 0, at, output);
+    join_plane(file, at, n, output);
+    copy(file, at + 2 * n, file.len(), output);
 }

@@ -3,7 +3,7 @@
 -- Assumes nothing.
 use mathlib.Core.Path.{_≡_, refl, sym, ap, ap₂, _∙_, subst}
 use mathlib.Core.Bool.{Bool, true, false, not, _||_}
-use mathlib.Core.Logic.{_↔_}
+use mathlib.Core.Logic.{_↔_, _≢_}
 use mathlib.Core.List.{List, [], _∷_, _++_, append-assoc}
 use Prim.Native.Nat.{ℕ, zero, suc, _+_, _-_, _*_, _≤_, _<_, min, max}
 use native.Mathlib.Nat.{add-zero}
@@ -11,7 +11,7 @@ use native.Mathlib.Omega.{arith}
 use lib.Dec.{ltb, eqb}
 use lib.ListN.{length, getD, take, drop, length-append, length-drop, take-append-drop, List·getD-append}
 use lib.Seq.{take-at, drop-at, take-take, take-add, getD-append-add, getD-take, getD-drop, length-take-le}
-use borrow.Author.Tests.{ltb-true, ltb-false, lt-ltb, le-ltb}
+use borrow.Author.Tests.{ltb-true, ltb-false, lt-ltb, le-ltb, eqb-true, eqb-false}
 use Rattle.spec.specs.declared.Plan.{Plan}
 use Rattle.spec.specs.declared.Settings.{Settings}
 use Rattle.spec.specs.Bytes.{be16, be32}
@@ -383,7 +383,7 @@ overlap-common a m c n = (
   λ r. lt-ltb (max a c) (min (a + m) (c + n)) (omega (arith, r .1, r .2, r .3, r .4)),
 )
 
--- as code tests it: one run ends before the other begins, or one of them is empty, or neither
+-- as code tests it: one run ends before the other begins, or it is empty, or neither
 module _ (a m c n : ℕ) where
   pub ends-before : a + m ≤ c → false ≡ overlap a m c n
   unfolding overlap
@@ -393,13 +393,18 @@ module _ (a m c n : ℕ) where
   unfolding overlap
   begins-behind h = sym (le-ltb (max a c) (min (a + m) (c + n)) (omega arith))
 
-  pub overlap-none : n ≡ 0 → false ≡ overlap a m c n
+  pub first-empty : m ≡ 0 → false ≡ overlap a m c n
   unfolding overlap
-  overlap-none h = sym (le-ltb (max a c) (min (a + m) (c + n)) (omega arith))
+  first-empty h = sym (le-ltb (max a c) (min (a + m) (c + n)) (omega arith))
 
-  pub overlap-some : c < a + m → a < c + n → 0 < m → 0 < n → true ≡ overlap a m c n
+  -- by the second's length where they meet and the first is not empty
+  pub second-decides : c < a + m → a < c + n → 0 < m → not (eqb n 0) ≡ overlap a m c n
   unfolding overlap
-  overlap-some g h i j = sym (lt-ltb (max a c) (min (a + m) (c + n)) (omega arith))
+  second-decides g h i = go (eqb n 0) refl
+    where
+      go : (d : Bool) → eqb n 0 ≡ d → not d ≡ ltb (max a c) (min (a + m) (c + n))
+      go true e = let z : n ≡ 0 = eqb-true n 0 e in sym (le-ltb (max a c) (min (a + m) (c + n)) (omega arith))
+      go false e = let z : n ≢ 0 = eqb-false n 0 e in sym (lt-ltb (max a c) (min (a + m) (c + n)) (omega arith))
 
 -- ---- the outcomes
 

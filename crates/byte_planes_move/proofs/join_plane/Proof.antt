@@ -1,12 +1,12 @@
--- `join` meets its contract. The invariant: the first q numbers are joined. Assumes nothing.
+-- `join_plane` meets its contract. The invariant: the first q numbers are joined. Assumes nothing.
 use mathlib.Core.Path.{_≡_, refl, ap, _∙_}
 use Prim.Native.Nat.{_-_, _≤_}
 use native.Mathlib.Omega.{arith}
 use lib.ListN.{length, length-set}
 use lib.Seq.{length-sets}
 use Rattle.byte_planes_move.proofs.MoveLaws.{Joined, none-joined, join-next, join-all}
-use Rattle.byte_planes_move.proofs.join.Statement.{statement}
-use Rattle.byte_planes_move.proofs.join.Tie as tie
+use Rattle.byte_planes_move.proofs.join_plane.Statement.{statement}
+use Rattle.byte_planes_move.proofs.join_plane.Tie as tie
 
 abbrev Inv-loop : tie.InvT-loop
 Inv-loop file at n output₀ low q₀ output q = (q ≤ n) × Joined output₀ file at n q output
@@ -72,8 +72,8 @@ returns c =
     let h = c .before in
     join-all _ _ _ _ (h .before .pre .0) (h .loop .q) (omega (arith, h .loop .inv .0, c .loop-test .left)) (h .loop .inv .1)
 
-pub join-spec : {M : Type 1} → statement M
-join-spec =
+pub join-plane-spec : {M : Type 1} → statement M
+join-plane-spec =
     tie.close
     (tie.spec
     Inv-loop

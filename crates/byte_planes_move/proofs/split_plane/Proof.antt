@@ -1,11 +1,11 @@
--- `split` meets its contract. Assumes nothing.
+-- `split_plane` meets its contract. Assumes nothing.
 use mathlib.Core.Path.{refl}
 use native.Mathlib.Omega.{arith}
 use borrow.Author.Needs.{needs}
 use lib.Seq.{length-sets}
 use Rattle.byte_planes_move.proofs.MoveLaws.{both-put}
-use Rattle.byte_planes_move.proofs.split.Statement.{statement}
-use Rattle.byte_planes_move.proofs.split.Tie as tie
+use Rattle.byte_planes_move.proofs.split_plane.Statement.{statement}
+use Rattle.byte_planes_move.proofs.split_plane.Tie as tie
 
 put-every-other-requires : tie.Need-put-every-other-requires
 put-every-other-requires c κs = search needs
@@ -31,8 +31,8 @@ returns c =
     both-put (s .args .output .now) (s .args .file .now) (s .args .at) (s .args .n) (omega (arith, s .pre .0)) (first .put-every-other .ensures)
     (c .before .before .put-every-other2 .ensures) refl refl
 
-pub split-spec : {M : Type 1} → statement M
-split-spec =
+pub split-plane-spec : {M : Type 1} → statement M
+split-plane-spec =
     tie.close
     (tie.spec
     put-every-other-requires
