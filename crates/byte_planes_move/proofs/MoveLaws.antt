@@ -145,7 +145,8 @@ module _ (l file : List ℕ) (at n : ℕ) (fits : at + 2 * n ≤ length file) wh
   join-next {q} {i} {j} {x} {y} {out} h ei ej ex ey is =
       let done = inTurn (take q highs) (take q lows) in
       let many : length done ≡ 2 * q =
-      turn-long (take q highs) (take q lows) q (length-take-le q highs (omega (arith, front-long))) (length-take-le q lows (omega (arith, back-long))) in
+      turn-long (take q highs) (take q lows) q (length-take-le q highs (omega (arith, front-long)))
+      (length-take-le q lows (omega (arith, back-long))) in
       let hx : x ≡ getD highs q 0 = ex ∙ sym (getD-take n bytes q 0 h ∙ part-cell file at (2 * n) q (omega arith)) in
       let place : at + n + q ≡ at + (n + q) = omega arith in
       let hy : y ≡ getD lows q 0 =
@@ -174,8 +175,10 @@ file-moved l file plane at n {e} {x} {y} {z} fits long ex ey ez ee =
     let second : y ≡ sets l 0 (take at file ++ plane) =
     ey ∙ ap (λ (k : List ℕ). sets k at plane) first ∙ ap (λ (j : ℕ). sets (sets l 0 (take at file)) j plane) (sym head ∙ sym (zero-add _))
     ∙ sets-append (take at file) plane l 0 in
-    let rest : take (length file - end) (drop end file) ≡ drop end file = take-all (length file - end) (drop end file) (omega (arith, length-drop end file)) in
-    ez ∙ ap (λ (k : ℕ). sets y k (take (length file - k) (drop k file))) ee ∙ ap (sets y end) rest ∙ ap (λ (k : List ℕ). sets k end (drop end file)) second
+    let rest : take (length file - end) (drop end file) ≡ drop end file =
+    take-all (length file - end) (drop end file) (omega (arith, length-drop end file)) in
+    ez ∙ ap (λ (k : ℕ). sets y k (take (length file - k) (drop k file))) ee ∙ ap (sets y end) rest
+    ∙ ap (λ (k : List ℕ). sets k end (drop end file)) second
     ∙ ap (λ (j : ℕ). sets (sets l 0 (take at file ++ plane)) j (drop end file)) (sym front ∙ sym (zero-add _))
     ∙ sets-append (take at file ++ plane) (drop end file) l 0
 

@@ -1,5 +1,5 @@
-// The bytes of a file moved into an output: those of a plane split into byte planes, or joined again, the others copied to where they stand. The caller
-// makes sure that there is room.
+// The bytes of a file moved into an output: those of a plane split into byte planes, or joined again, the others copied to where they stand. The
+// caller makes sure that there is room.
 use big_endian_part::copy_low_first;
 ghost use mathlib.Core.Path.{_≡_};
 ghost use mathlib.Core.List.{_++_};
@@ -21,7 +21,8 @@ fn copy(file: &[u8], from: usize, to: usize, output: &mut [u8])
     }
 }
 
-// The bytes that are taken together, out of a short array: the compiler takes two-byte numbers many at a time, but bytes that are two apart one by one.
+// The bytes that are taken together, out of a short array: the compiler takes bytes that are two apart one by one, but two-byte numbers many at a
+// time.
 const RUN: usize = 64;
 
 // 64 bytes, two apart: the low bytes of 64 numbers that are read low byte first.

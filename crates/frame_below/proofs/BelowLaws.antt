@@ -1,21 +1,53 @@
--- Laws of numbers below a limit, of any numbers: one more of which the largest is known, and so many more. Assumes nothing.
+-- Laws of numbers below a limit, of any numbers: one more of which the largest is known, and so many more; and numbers with bits of others.
+-- Assumes nothing.
 use mathlib.Core.Path.{_≡_, subst}
 use mathlib.Core.Logic.{⊎-elim}
-use Prim.Native.Nat.{ℕ, _+_, _-_, _≤_, _<_}
+use Prim.Native.Nat.{ℕ, _+_, _-_, _*_, _/_, _%_, _≤_, _<_}
 use native.Mathlib.Omega.{arith}
+use lib.Bits.{bitOr, or-add-and, and-le-l, and-le-r, or-mod, or-shr}
+use lib.Dec.{eqb}
 use borrow.Author.Count.{below-more}
+use mathlib.Core.Bool.{Bool, true, false}
+use Rattle.spec.specs.Base.{if_then_else_}
+use Rattle.spec.specs.Checks.{judged}
+use Rattle.spec.specs.Frame.{noReading}
+use Rattle.big_endian_part.specs.Part.{exchanged}
 use Rattle.ints.specs.Order.{lt-or-le}
 use Rattle.frame_below.specs.Below.{Below}
 
 pub most-next : (number : ℕ → ℕ) {j most next : ℕ} → Below number j (most + 1) → most ≤ next → number j ≤ next → Below number (j + 1) (next + 1)
 most-next number {j} {most} {next} b h l = below-more (λ (i : ℕ). number i < next + 1) j (λ i less. omega (arith, b i less)) (omega arith)
 
-pub run-below : (number : ℕ → ℕ) (k m : ℕ) {most limit : ℕ} → Below number k limit → Below (λ j. number (k + j)) m (most + 1) → most < limit
-    → Below number (k + m) limit
-run-below number k m {most} {limit} before run h j l =
+pub run-below : (number : ℕ → ℕ) (k m : ℕ) {limit : ℕ} → Below number k limit → Below (λ j. number (k + j)) m limit → Below number (k + m) limit
+run-below number k m {limit} before run j l =
     ⊎-elim (λ less. before j less)
     (λ past.
     let place : k + (j - k) ≡ j = omega arith in
-    let here : number j < most + 1 = subst (λ (i : ℕ). number i < most + 1) place (run (j - k) (omega arith)) in
-    omega arith)
+    subst (λ (i : ℕ). number i < limit) place (run (j - k) (omega arith)))
     (lt-or-le j k)
+
+-- ---- the bits of two numbers together: no byte of either is larger than theirs, so neither is with its bytes exchanged
+or-left : (a b : ℕ) → a ≤ bitOr a b
+or-left a b = omega (arith, or-add-and a b, and-le-r a b)
+
+or-right : (a b : ℕ) → b ≤ bitOr a b
+or-right a b = omega (arith, or-add-and a b, and-le-l a b)
+
+pub bits-left : (a b : ℕ) → exchanged a ≤ exchanged (bitOr a b)
+unfolding exchanged
+bits-left a b =
+    omega (arith, or-mod a b 8, or-shr a b 8, or-left (a % 256) (b % 256), or-left (a / 256) (b / 256))
+
+pub bits-right : (a b : ℕ) → exchanged b ≤ exchanged (bitOr a b)
+unfolding exchanged
+bits-right a b =
+    omega (arith, or-mod a b 8, or-shr a b 8, or-right (a % 256) (b % 256), or-right (a / 256) (b / 256))
+
+-- what is judged is not larger than the number
+pub judged-below : (values : Bool) {n limit : ℕ} → n < limit → judged values n < limit
+judged-below true {n} {limit} h = go (eqb n noReading)
+  where
+    go : (b : Bool) → (if b then 0 else n) < limit
+    go true = omega arith
+    go false = h
+judged-below false h = h

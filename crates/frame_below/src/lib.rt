@@ -1,9 +1,11 @@
 // Check 7 sped up: how many numbers of a plane, values or not, are from its first on surely below a limit, as the check judges them. They are looked
-// at 64 at a time, by the largest of each 64, which the compiler takes many at a time; where it is too large the check goes on one by one, so nothing
-// more is promised.
+// at 64 at a time, which the compiler takes many at a time: those of a file by their bits, and by the largest of them where the bits do not tell.
+// Where that is too large the check goes on one by one, so nothing more is promised.
 use big_endian_part::copy_low_first;
 use big_endian_part::exchanged;
 use spec::judged;
+ghost use mathlib.Core.Path.{_≡_};
+ghost use mathlib.Core.Bool.{false};
 ghost use Prim.Native.Nat.{_+_, _*_, _≤_};
 ghost use lib.ListN.{length, getD};
 ghost use Rattle.spec.specs.Checks.{judged};
@@ -63,6 +65,34 @@ fn most_of_file(file: &[u8], values: bool, offset: usize) -> u16
     most
 }
 
+// No number of the 64, judged or not, is larger: neither of its bytes has a bit that the answer's byte lacks. Fewer steps than the largest takes, and
+// as good where the limit is a power of two.
+fn bits_of_file(file: &[u8], offset: usize) -> u16
+    requires { ⌜ offset + 2 * 64 ≤ length (now file) ⌝ }
+    ensures { λ r. ⌜ Below (plane (now (file .entry)) offset) 64 (r + 1) ⌝ }
+{
+    let mut numbers = [0u16; 64];
+    copy_low_first(file, offset, RUN, &mut numbers);
+    let mut bits = 0u16;
+    let mut j = 0;
+    while j < RUN {
+        bits = bits | numbers[j];
+        j += 1;
+    }
+    exchanged(bits)
+}
+
+// Whether one of the 64 may be as large as the limit.
+fn may_reach(file: &[u8], values: bool, offset: usize, limit: usize) -> bool
+    requires { ⌜ offset + 2 * 64 ≤ length (now file) ⌝ }
+    ensures { λ r. ⌜ (r ≡ false → Below (λ j. judged values (plane (now (file .entry)) offset j)) 64 limit) ⌝ }
+{
+    if (bits_of_file(file, offset) as usize) < limit {
+        return false;
+    }
+    limit <= most_of_file(file, values, offset) as usize
+}
+
 // So many of the n numbers from an offset on.
 pub fn file_below(file: &[u8], values: bool, offset: usize, n: usize, limit: usize) -> usize
     requires { ⌜ offset + 2 * n ≤ length (now file) ⌝ }
@@ -70,7 +100,7 @@ pub fn file_below(file: &[u8], values: bool, offset: usize, n: usize, limit: usi
 {
     let mut k = 0;
     while RUN <= n - k {
-        if limit <= most_of_file(file, values, offset + 2 * k) as usize {
+        if may_reach(file, values, offset + 2 * k, limit) {
             return k;
         }
         k += RUN;

@@ -53,13 +53,15 @@ returns-3 : tie.Need-returns-3
 returns-3 c =
     let e = c .before .before .before in
     let k = e .before .before .before in
-    table-meets _ (k .plan-of .ensures) (passed (k .before)) (e .before .overlap .ensures) (e .if2 .left) (c .before .overlap2 .ensures) (c .if3 .taken)
+    table-meets _ (k .plan-of .ensures) (passed (k .before)) (e .before .overlap .ensures) (e .if2 .left) (c .before .overlap2 .ensures)
+    (c .if3 .taken)
 
 returns-4 : tie.Need-returns-4
 returns-4 c =
     let e = c .before .before .before in
     let k = e .before .before .before in
-    none-meets _ (k .plan-of .ensures) (passed (k .before)) (e .before .overlap .ensures) (e .if2 .left) (c .before .overlap2 .ensures) (c .if3 .left)
+    none-meets _ (k .plan-of .ensures) (passed (k .before)) (e .before .overlap .ensures) (e .if2 .left) (c .before .overlap2 .ensures)
+    (c .if3 .left)
 
 pub check-parts-spec : {M : Type 1} → statement M
 check-parts-spec =

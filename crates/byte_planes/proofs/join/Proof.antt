@@ -1,5 +1,7 @@
 -- `join` meets its contract: each check in its place decides, and then the bytes are moved. Assumes nothing.
 use mathlib.Core.Path.{_≡_, refl}
+use mathlib.Core.List.{List}
+use Prim.Native.Nat.{ℕ}
 use native.Mathlib.Omega.{arith}
 use borrow.Author.Needs.{needs}
 use Rattle.spec.specs.declared.Refusal.the-variants.{Room}
@@ -24,13 +26,16 @@ use Rattle.byte_planes.proofs.join.Statement.{statement}
 use Rattle.byte_planes.proofs.join.Tie as tie
 
 -- checks 1 to 6 and 14 are passed
-parts : (e : tie.Else1) → (trailerOutcome (e .before .before .before .before .before .args .file .now) ▷ refuse 14 (badOverlap (planOf (e .before .before .before .before .before .args .file .now)))) ≡ accepted
+abbrev bytes : tie.Else1 → List ℕ
+bytes e = e .before .before .before .before .before .args .file .now
+
+parts : (e : tie.Else1) → (trailerOutcome (bytes e) ▷ refuse 14 (badOverlap (planOf (bytes e)))) ≡ accepted
 parts e = quiet (e .before .before .check-parts .ensures) (e .before .stops .ensures) (e .if1 .left)
 
-trailer : (e : tie.Else1) → trailerOutcome (e .before .before .before .before .before .args .file .now) ≡ accepted
+trailer : (e : tie.Else1) → trailerOutcome (bytes e) ≡ accepted
 trailer e = trailer-of-parts _ (parts e)
 
-fit : (k : tie.After-plan-of) → PartsFit (k .before .before .before .before .before .before .before .args .file .now) (k .plan-of .result)
+fit : (k : tie.After-plan-of) → PartsFit (bytes (k .before .before)) (k .plan-of .result)
 fit k = parts-fit (trailer (k .before .before)) (k .plan-of .ensures)
 
 check-parts-requires : tie.Need-check-parts-requires

@@ -1,5 +1,7 @@
 -- `split` meets its contract: each check in its place decides, and then the bytes are moved. Assumes nothing.
 use mathlib.Core.Path.{_≡_, refl, sym}
+use mathlib.Core.List.{List}
+use Prim.Native.Nat.{ℕ}
 use native.Mathlib.Omega.{arith}
 use borrow.Author.Needs.{needs}
 use Rattle.spec.specs.declared.Refusal.the-variants.{Room}
@@ -26,17 +28,20 @@ use Rattle.byte_planes.proofs.split.Statement.{statement}
 use Rattle.byte_planes.proofs.split.Tie as tie
 
 -- checks 1 to 6 and 14 are passed
-parts : (e : tie.Else1) → (trailerOutcome (e .before .before .before .before .before .args .file .now) ▷ refuse 14 (badOverlap (planOf (e .before .before .before .before .before .args .file .now)))) ≡ accepted
+abbrev bytes : tie.Else1 → List ℕ
+bytes e = e .before .before .before .before .before .args .file .now
+
+parts : (e : tie.Else1) → (trailerOutcome (bytes e) ▷ refuse 14 (badOverlap (planOf (bytes e)))) ≡ accepted
 parts e = quiet (e .before .before .check-parts .ensures) (e .before .stops .ensures) (e .if1 .left)
 
-trailer : (e : tie.Else1) → trailerOutcome (e .before .before .before .before .before .args .file .now) ≡ accepted
+trailer : (e : tie.Else1) → trailerOutcome (bytes e) ≡ accepted
 trailer e = trailer-of-parts _ (parts e)
 
-fit : (k : tie.After-plan-of) → PartsFit (k .before .before .before .before .before .before .args .file .now) (k .plan-of .result)
+fit : (k : tie.After-plan-of) → PartsFit (bytes (k .before)) (k .plan-of .result)
 fit k = parts-fit (trailer (k .before)) (k .plan-of .ensures)
 
 -- what the contents say, of the file's own plan
-levels : (h : tie.After-contents) → numbered (h .contents .result) ≡ contents (h .before .before .before .before .before .before .before .args .file .now) (planOf (h .before .before .before .before .before .before .before .args .file .now))
+levels : (h : tie.After-contents) → let b = bytes (h .before .before) in numbered (h .contents .result) ≡ contents b (planOf b)
 levels h = rw (sym (h .before .plan-of .ensures)) (h .contents .ensures)
 
 check-parts-requires : tie.Need-check-parts-requires
@@ -64,7 +69,8 @@ returns-2 : tie.Need-returns-2
 returns-2 c =
     let h = c .before .before in
     splits-refused _ _ (h .contents .result)
-    (split-contents-stop _ _ (parts (h .before .before)) (levels h) (c .before .stops2 .ensures) (c .if2 .taken)) (same (c .before .stops2 .ensures) (c .if2 .taken))
+    (split-contents-stop _ _ (parts (h .before .before)) (levels h) (c .before .stops2 .ensures) (c .if2 .taken))
+    (same (c .before .stops2 .ensures) (c .if2 .taken))
 
 returns-3 : tie.Need-returns-3
 returns-3 c =

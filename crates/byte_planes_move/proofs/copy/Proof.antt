@@ -52,7 +52,8 @@ returns c =
     let h = c .before in
     let a = h .before in
     let done : h .loop .i ≡ a .args .to = omega (arith, h .loop .inv .1, c .loop-test .left) in
-    h .loop .inv .2 ∙ ap (λ (k : ℕ). sets (a .args .output .now) (a .args .from) (take (k - a .args .from) (drop (a .args .from) (a .args .file .now)))) done
+    let bytes = drop (a .args .from) (a .args .file .now) in
+    h .loop .inv .2 ∙ ap (λ (k : ℕ). sets (a .args .output .now) (a .args .from) (take (k - a .args .from) bytes)) done
 
 pub copy-spec : {M : Type 1} → statement M
 copy-spec =

@@ -62,7 +62,8 @@ loop-again : tie.Need-loop-again Inv-loop μ-loop
 loop-again c =
     let h = c .before .before .before in
     let a = h .before in
-    (omega (arith, c .before .before .loop-test .taken), join-next _ _ _ _ (a .pre .0) (c .before .before .loop-test .taken) refl refl refl refl (h .loop .inv .1))
+    let t = c .before .before .loop-test .taken in
+    (omega (arith, t), join-next _ _ _ _ (a .pre .0) t refl refl refl refl (h .loop .inv .1))
 
 same-length : tie.Need-same-length Inv-loop μ-loop
 same-length c = long (c .before)

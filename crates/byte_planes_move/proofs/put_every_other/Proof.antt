@@ -20,7 +20,10 @@ abbrev μ-loop : tie.MeasureT-loop
 μ-loop file from n at output₀ q₀ output q = n - q
 
 -- at the loop: the length, and what was stored before it
-long : (h : tie.At-loop Inv-loop μ-loop) → length (h .loop .output) ≡ length (h .before .before .before .before .before .before .before .args .output .now)
+abbrev start : tie.At-loop Inv-loop μ-loop → tie.Start Inv-loop μ-loop
+start h = h .before .before .before .before .before .before .before
+
+long : (h : tie.At-loop Inv-loop μ-loop) → length (h .loop .output) ≡ length (start h .args .output .now)
 long h = h .loop .inv .1 ∙ ap length (h .before .before .before .put-runs .ensures .1) ∙ simp length-sets
 
 put-runs-requires : tie.Need-put-runs-requires Inv-loop μ-loop
@@ -45,7 +48,7 @@ add-output-2 c =
 
 slice-write-output : tie.Need-slice-write-output Inv-loop μ-loop
 slice-write-output c =
-    omega (arith, c .before .loop-test .taken, c .before .before .before .before .before .before .before .before .before .pre, long (c .before .before))
+    omega (arith, c .before .loop-test .taken, start (c .before .before) .pre, long (c .before .before))
 
 add-q : tie.Need-add-q Inv-loop μ-loop
 add-q c = omega arith

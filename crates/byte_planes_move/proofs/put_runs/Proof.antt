@@ -37,7 +37,8 @@ put-run-requires : tie.Need-put-run-requires Inv-loop μ-loop
 put-run-requires c κs =
     let h = c .before .before in
     let s = h .before .before .before in
-    (omega (arith, c .before .loop-test .taken, s .pre .0, h .loop .inv .0), omega (arith, c .before .loop-test .taken, s .pre .1, h .loop .inv .0, long h))
+    let t = c .before .loop-test .taken in
+    (omega (arith, t, s .pre .0, h .loop .inv .0), omega (arith, t, s .pre .1, h .loop .inv .0, long h))
 
 add-k : tie.Need-add-k Inv-loop μ-loop
 add-k c = omega arith

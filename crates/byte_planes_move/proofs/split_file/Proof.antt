@@ -23,10 +23,11 @@ add-copy c = search needs
 
 copy-requires-2 : tie.Need-copy-requires-2
 copy-requires-2 c κs =
-    let s = c .before .before .before .before .before .before .before .before .before .before .before in (
+    let s = c .before .before .before .before .before .before .before .before .before .before .before in
+    let first = c .before .before .before .before .before .before .before in (
       omega (arith, s .pre .0),
       omega arith,
-      rw (c .before .before .before .split-plane .ensures) (rw length-sets (rw (c .before .before .before .before .before .before .before .copy .ensures) (rw length-sets (s .pre .1)))),
+      rw (c .before .before .before .split-plane .ensures) (rw length-sets (rw (first .copy .ensures) (rw length-sets (s .pre .1)))),
     )
 
 same-length : tie.Need-same-length
@@ -36,8 +37,9 @@ returns : tie.Need-returns
 returns c =
     let s = c .before .before .before .before .before .before .before .before .before .before .before .before .before .before in
     let a = s .args in
+    let first = c .before .before .before .before .before .before .before .before .before .before in
     file-moved (a .output .now) (a .file .now) _ (a .at) (a .n) (omega (arith, s .pre .0))
-    (split-plane-long (a .file .now) (a .at) (a .n) (omega (arith, s .pre .0))) (c .before .before .before .before .before .before .before .before .before .before .copy .ensures)
+    (split-plane-long (a .file .now) (a .at) (a .n) (omega (arith, s .pre .0))) (first .copy .ensures)
     (c .before .before .before .before .before .before .split-plane .ensures) (c .before .before .copy2 .ensures) refl
 
 pub split-file-spec : {M : Type 1} → statement M

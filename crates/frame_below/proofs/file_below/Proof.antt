@@ -22,17 +22,14 @@ loop-holds c = (omega arith, λ j less. absurd (omega arith))
 sub-loop : tie.Need-sub-loop Inv-loop μ-loop
 sub-loop c = omega arith
 
-mul-most-of-file : tie.Need-mul-most-of-file Inv-loop μ-loop
-mul-most-of-file c = omega arith
+mul-may-reach : tie.Need-mul-may-reach Inv-loop μ-loop
+mul-may-reach c = omega arith
 
-add-most-of-file : tie.Need-add-most-of-file Inv-loop μ-loop
-add-most-of-file c = omega arith
+add-may-reach : tie.Need-add-may-reach Inv-loop μ-loop
+add-may-reach c = omega arith
 
-most-of-file-requires : tie.Need-most-of-file-requires Inv-loop μ-loop
-most-of-file-requires c κs = omega arith
-
-cast-if1 : tie.Need-cast-if1 Inv-loop μ-loop
-cast-if1 c = omega arith
+may-reach-requires : tie.Need-may-reach-requires Inv-loop μ-loop
+may-reach-requires c κs = omega arith
 
 returns : tie.Need-returns Inv-loop μ-loop
 returns c = c .before .before .before .loop .inv
@@ -48,12 +45,11 @@ loop-again c =
     let d = c .before .before .before in
     let a = d .before .before .args in
     let b = a .file .now in
-    let m = c .before .most-of-file .result in
     let place : (j : ℕ) → a .offset + 2 * d .loop .k + 2 * j ≡ a .offset + 2 * (d .loop .k + j) = λ j. omega arith in
     let number : ℕ → ℕ = λ j. judged (a .values) (plane b (a .offset) j) in
-    let run : Below (λ j. number (d .loop .k + j)) 64 (m + 1) =
-    λ j less. subst (λ (at : ℕ). judged (a .values) (be16 b at) < m + 1) (place j) (c .before .most-of-file .ensures j less) in
-    (omega arith, run-below number (d .loop .k) 64 (d .loop .inv .1) run (omega arith))
+    let run : Below (λ j. number (d .loop .k + j)) 64 (a .limit) =
+    λ j less. subst (λ (at : ℕ). judged (a .values) (be16 b at) < a .limit) (place j) (c .before .may-reach .ensures (c .if1 .left) j less) in
+    (omega arith, run-below number (d .loop .k) 64 (d .loop .inv .1) run)
 
 returns-2 : tie.Need-returns-2 Inv-loop μ-loop
 returns-2 c = c .before .loop .inv
@@ -66,10 +62,9 @@ file-below-spec =
     μ-loop
     loop-holds
     sub-loop
-    mul-most-of-file
-    add-most-of-file
-    most-of-file-requires
-    cast-if1
+    mul-may-reach
+    add-may-reach
+    may-reach-requires
     returns
     add-k
     loop-less

@@ -37,7 +37,7 @@ loop-again c =
     let d = c .before .before .before in
     let a = d .before .before .args in
     let number : ℕ → ℕ = λ j. judged (a .values) (getD (a .list .now) j 0) in
-    (omega arith, run-below number (d .loop .k) 64 (d .loop .inv .1) (c .before .most-of-list .ensures) (omega arith))
+    (omega arith, run-below number (d .loop .k) 64 (d .loop .inv .1) (λ j less. omega (arith, c .before .most-of-list .ensures j less)))
 
 returns-2 : tie.Need-returns-2 Inv-loop μ-loop
 returns-2 c = c .before .loop .inv
