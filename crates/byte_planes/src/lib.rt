@@ -80,7 +80,8 @@ pub fn join(file: &[u8], output: &mut [u8]) -> Verdict
     if stops(v) {
         return v;
     }
-    if output.len() < file.len() {
+    let room = output.len();
+    if room < file.len() {
         return Verdict::Refused(Refusal::Room);
     }
     let plan = plan_of(file);

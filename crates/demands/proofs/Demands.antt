@@ -1,5 +1,5 @@
 -- The three demands and requests 4 and 7, proved from the contracts of the calls and the laws of the definitions; specs/Demands.antt has the
--- statements.
+-- statements, BytePlanes.antt what is said of the calls on byte planes.
 -- Assumes nothing.
 use Prim.Native.Nat.{ℕ, zero, suc, _+_, _*_, _/_, _%_, _≤_, _<_}
 use mathlib.Core.Path.{_≡_, refl, sym, ap, ap₂, _∙_, subst}
@@ -80,7 +80,17 @@ use Rattle.ice.specs.Result.{noGrounds}
 use Rattle.ice.specs.Contract.{Untouched, Ended, Walks, Filters, Explains}
 use Rattle.tolerance.specs.declared.Tolerated.{Tolerated}
 use Rattle.tolerance.specs.Contract.{Buffers, outcomeOf, AllKept, BothFiltered, Tolerates}
-use Rattle.demands.proofs.Table.{walk-table, filter-table, balance-table, explain-table, tolerance-table, writer-table}
+use Rattle.demands.proofs.Table.{
+  walk-table,
+  filter-table,
+  balance-table,
+  explain-table,
+  tolerance-table,
+  writer-table,
+  split-table,
+  join-table,
+}
+use Rattle.demands.proofs.BytePlanes.{accepted-verdict, split-or-refused, joined-or-refused}
 use Rattle.demands.specs.Demands.{
   WalkedOrRefused,
   FilteredOrRefused,
@@ -108,11 +118,6 @@ use Rattle.demands.specs.Demands.{
   LeastIsFiltered,
   Request7,
 }
-
--- ---- a verdict and its outcome
-accepted-verdict : (v : Verdict) → numbered v ≡ accepted → v ≡ Accepted
-accepted-verdict Accepted e = refl
-accepted-verdict (Refused r) e = absurd (not-refused e)
 
 -- ---- demand 1
 walked-or-refused : WalkedOrRefused
@@ -207,6 +212,8 @@ demand-1 =
       explain = explained-or-refused;
       tolerance = tolerated-or-refused;
       writer = written-or-refused;
+      split = split-or-refused;
+      join = joined-or-refused;
       table =
           record {
             walk = walk-table;
@@ -215,6 +222,8 @@ demand-1 =
             explain = explain-table;
             tolerance = tolerance-table;
             writer = writer-table;
+            split = split-table;
+            join = join-table;
           };
     }
 

@@ -45,9 +45,23 @@ use Rattle.spec.specs.Calls.{
   explainOutcome,
 }
 use Rattle.spec.specs.Tolerance.{badUpper, toleranceChecks, toleranceOutcome}
+use Rattle.spec.specs.BytePlanes.{badOverlap, splitOutcome, joinOutcome}
 use Rattle.spec.specs.Writer.{writtenSize, badLength, scanList, writerOutcome}
 use Rattle.spec.proofs.Checks.{not-refused, both-accepted}
-use Rattle.demands.specs.Table.{fileRows, walkRows, filterRows, balanceRows, explainRows, writerRows, ByTable, toleranceRows, InOrder}
+use Rattle.demands.specs.Table.{
+  trailerRows,
+  fileRows,
+  walkRows,
+  filterRows,
+  balanceRows,
+  explainRows,
+  writerRows,
+  ByTable,
+  toleranceRows,
+  splitRows,
+  joinRows,
+  InOrder,
+}
 
 -- ---- the first row that fires
 abbrev firstOf : List Outcome → Outcome
@@ -163,29 +177,33 @@ file-numbered b own h =
     )
 
 -- ---- the outcomes are the first rows that fire
-flat : (a b c d e f g w : Outcome) → (((a ▷ ((b ▷ c ▷ d ▷ e) ▷ f)) ▷ g) ▷ w) ≡ (a ▷ b ▷ c ▷ d ▷ e ▷ f ▷ g ▷ w)
-flat (refused n l) b c d e f g w = refl
-flat accepted (refused n l) c d e f g w = refl
-flat accepted accepted (refused n l) d e f g w = refl
-flat accepted accepted accepted (refused n l) e f g w = refl
-flat accepted accepted accepted accepted (refused n l) f g w = refl
-flat accepted accepted accepted accepted accepted f g w = assoc f g w
-  where
-    assoc : (u v x : Outcome) → ((u ▷ v) ▷ x) ≡ (u ▷ v ▷ x)
-    assoc accepted v x = refl
-    assoc (refused n l) v x = refl
+assoc : (u v x : Outcome) → ((u ▷ v) ▷ x) ≡ (u ▷ v ▷ x)
+assoc accepted v x = refl
+assoc (refused n l) v x = refl
+
+flat : (a b c d e f w : Outcome) → ((a ▷ ((b ▷ c ▷ d ▷ e) ▷ f)) ▷ w) ≡ (a ▷ b ▷ c ▷ d ▷ e ▷ f ▷ w)
+flat (refused n l) b c d e f w = refl
+flat accepted (refused n l) c d e f w = refl
+flat accepted accepted (refused n l) d e f w = refl
+flat accepted accepted accepted (refused n l) e f w = refl
+flat accepted accepted accepted accepted e f w = assoc e f w
 
 last : (u : Outcome) → u ≡ (u ▷ accepted)
 last accepted = refl
 last (refused n l) = refl
 
-file-first : (b : List ℕ) (w : Outcome) (own : List Outcome) → w ≡ firstOf own → (verdict b ▷ w) ≡ firstOf (fileRows b own)
-unfolding verdict trailerOutcome settingsOutcome
-file-first b w own e =
+trailer-first : (b : List ℕ) (w : Outcome) (others : List Outcome) → w ≡ firstOf others → (trailerOutcome b ▷ w) ≡ firstOf (trailerRows b others)
+unfolding trailerOutcome settingsOutcome
+trailer-first b w others e =
     let k = settingsOf b in
-    ap (λ (u : Outcome). verdict b ▷ u) e ∙ flat (refuse 1 (badMark b)) (refuse 2 (badSize k)) (refuse 3 (badCounts k)) (refuse 4 (badKind k))
-    (refuse 5 (badRadius k))
-    (refuse 6 (badDistance (trailerAt b) (trailerOf b))) (contents b (planOf b)) (firstOf own)
+    ap (λ (u : Outcome). trailerOutcome b ▷ u) e ∙ flat (refuse 1 (badMark b)) (refuse 2 (badSize k)) (refuse 3 (badCounts k)) (refuse 4 (badKind k))
+    (refuse 5 (badRadius k)) (refuse 6 (badDistance (trailerAt b) (trailerOf b))) (firstOf others)
+
+file-first : (b : List ℕ) (w : Outcome) (own : List Outcome) → w ≡ firstOf own → (verdict b ▷ w) ≡ firstOf (fileRows b own)
+unfolding verdict
+file-first b w own e =
+    assoc (trailerOutcome b) (contents b (planOf b)) w
+    ∙ trailer-first b (contents b (planOf b) ▷ w) (contents b (planOf b) ∷ own) (ap (λ (u : Outcome). contents b (planOf b) ▷ u) e)
 
 pub walk-table : (b : List ℕ) (way s t n : ℕ) (have : Room) (out : ℕ) → ByTable (walkRows b way s t n have out) (walkOutcome b way s t n have out)
 unfolding walkOutcome walkChecks
@@ -303,3 +321,20 @@ tolerance-table b upper have least greatest =
     let own : List Outcome = refuse 8 w ∷ refuse 13 x ∷ refuse 11 r ∷ [] in
     in-order (fileRows b own) (toleranceOutcome b upper have least greatest)
     (file-first b (toleranceChecks b upper have least greatest) own (ap (λ (u : Outcome). refuse 8 w ▷ refuse 13 x ▷ u) (last (refuse 11 r))))
+
+pub split-table : (b : List ℕ) (room : ℕ) → InOrder (splitRows b room) (splitOutcome b room)
+unfolding splitOutcome
+split-table b room =
+    let x = refuse 14 (badOverlap (planOf b)) in
+    let y = contents b (planOf b) in
+    let r = ltb room (length b) in
+    in-order (splitRows b room) (splitOutcome b room)
+    (trailer-first b (x ▷ y ▷ refuse 11 r) (x ∷ y ∷ refuse 11 r ∷ []) (ap (λ (u : Outcome). x ▷ y ▷ u) (last (refuse 11 r))))
+
+pub join-table : (b : List ℕ) (room : ℕ) → InOrder (joinRows b room) (joinOutcome b room)
+unfolding joinOutcome
+join-table b room =
+    let x = refuse 14 (badOverlap (planOf b)) in
+    let r = ltb room (length b) in
+    in-order (joinRows b room) (joinOutcome b room)
+    (trailer-first b (x ▷ refuse 11 r) (x ∷ refuse 11 r ∷ []) (ap (λ (u : Outcome). x ▷ u) (last (refuse 11 r))))

@@ -1,11 +1,11 @@
--- The three demands, and document 02's requests 4 and 7, over windows without their dead pixels (request 6), as statements about the promises of the
--- calls.
--- A reader starts here; proofs/Demands.antt proves each.
+-- The three demands, and document 02's requests 4, 7 and 8, over windows without their dead pixels (request 6), as statements about the promises of
+-- the calls.
+-- A reader starts here; proofs/Demands.antt proves each, proofs/BytePlanes.antt those of request 8.
 -- b are a file's bytes, upper a plane of upper levels, before and after the stores around a call, old and new its answers or output, r its result.
 -- Assumes nothing.
 use Prim.Native.Nat.{ℕ, suc, _+_, _-_, _*_, _≤_, _<_}
 use mathlib.Core.Path.{_≡_}
-use mathlib.Core.Bool.{false}
+use mathlib.Core.Bool.{true, false}
 use mathlib.Core.Logic.{_⊎_, _↔_}
 use mathlib.Core.List.{List, _++_}
 use lib.Dec.{leb}
@@ -13,16 +13,18 @@ use lib.ListN.{length, getD, take, drop}
 use lib.IntN.{pos, _*ℤ_}
 use lib.Signed.{_≤ℤ_, _<ℤ_}
 use Rattle.spec.specs.declared.Settings.{Settings}
+use Rattle.spec.specs.declared.Plan.{Plan}
 use Rattle.spec.specs.declared.Room.{Room}
 use Rattle.spec.specs.declared.Way.{Way}
 use Rattle.spec.specs.declared.Move.the-variants.{To, Nowhere}
 use Rattle.spec.specs.declared.Cause.{Cause}
 use Rattle.spec.specs.declared.Cause.the-variants.{Hollow, Empty}
 use Rattle.spec.specs.declared.Grounds.{Grounds}
+use Rattle.spec.specs.declared.Verdict.{Verdict}
 use Rattle.spec.specs.declared.Verdict.the-variants.{Accepted}
 use Rattle.spec.specs.Base.{if_then_else_, sum}
 use Rattle.spec.specs.Refusal.{accepted, refused, numbered}
-use Rattle.spec.specs.Frame.{Frame, level, noReading, pixels, frameOf, withValues}
+use Rattle.spec.specs.Frame.{Frame, level, noReading, pixels, settingsOf, planOf, frameOf, withValues}
 use Rattle.spec.specs.Window.{InWindow, Σ, pixelCount}
 use Rattle.spec.specs.Weight.{ownWeight, ownTotal, weight}
 use Rattle.spec.specs.Median.{totalWeight, cumulative, balance, LevelOrNone, differences, NoneNegative, NotAllZero}
@@ -31,6 +33,7 @@ use Rattle.spec.specs.Filter.{filtered, filterEnd}
 use Rattle.spec.specs.Explain.{Applies, Grounded}
 use Rattle.spec.specs.Calls.{wayOf, walkOutcome, filterOutcome, balanceOutcome, explainOutcome}
 use Rattle.spec.specs.Tolerance.{ownValues, LeastAndGreatest, toleranceOutcome}
+use Rattle.spec.specs.BytePlanes.{splitFile, joinedFile, badOverlap, splitOutcome, joinOutcome}
 use Rattle.spec.specs.Writer.{written, writtenSize, writerOutcome}
 use Rattle.ice_step.specs.declared.Walked.{Walked}
 use Rattle.ice_step.specs.Finished.{Lent, roomIn}
@@ -43,7 +46,19 @@ use Rattle.ice.specs.Result.{noGrounds}
 use Rattle.ice.specs.Contract.{Untouched, Ended, Walks, Filters, Balances, Explains}
 use Rattle.tolerance.specs.declared.Tolerated.{Tolerated}
 use Rattle.tolerance.specs.Contract.{Buffers, outcomeOf, AllKept, BothFiltered, Tolerates}
-use Rattle.demands.specs.Table.{walkRows, filterRows, balanceRows, explainRows, writerRows, ByTable, toleranceRows, InOrder}
+use Rattle.byte_planes.specs.Contract.{Splits, Joins}
+use Rattle.demands.specs.Table.{
+  walkRows,
+  filterRows,
+  balanceRows,
+  explainRows,
+  writerRows,
+  ByTable,
+  toleranceRows,
+  splitRows,
+  joinRows,
+  InOrder,
+}
 
 -- ---- demand 1
 
@@ -96,6 +111,19 @@ WrittenOrRefused =
     → ((r ≡ Length (writtenSize settings (length a))) × (new ≡ written settings v g a ++ drop (length (written settings v g a)) old))
     ⊎ ((n : ℕ) × (l : List ℕ) × (reported r ≡ declined n l) × (writerOutcome settings v g a (length old) ≡ refused n l) × (new ≡ old))
 
+-- a file split, or joined: its bytes rearranged and then the rest of the output, or the output as it was
+abbrev pub SplitOrRefused : Type 0
+SplitOrRefused =
+    (b old : List ℕ) (r : Verdict) (new : List ℕ) → Splits b old r new
+    → ((r ≡ Accepted) × (splitOutcome b (length old) ≡ accepted) × (new ≡ splitFile b ++ drop (length b) old))
+    ⊎ ((n : ℕ) × (l : List ℕ) × (numbered r ≡ refused n l) × (splitOutcome b (length old) ≡ refused n l) × (new ≡ old))
+
+abbrev pub JoinedOrRefused : Type 0
+JoinedOrRefused =
+    (b old : List ℕ) (r : Verdict) (new : List ℕ) → Joins b old r new
+    → ((r ≡ Accepted) × (joinOutcome b (length old) ≡ accepted) × (new ≡ joinedFile b ++ drop (length b) old))
+    ⊎ ((n : ℕ) × (l : List ℕ) × (numbered r ≡ refused n l) × (joinOutcome b (length old) ≡ refused n l) × (new ≡ old))
+
 -- the table of refusals: each number exactly if its row fires and no row before it does
 pub record EachNumber : Type 0 where
   pub walk : (b : List ℕ) (way s t n : ℕ) (have : Room) (out : ℕ) → ByTable (walkRows b way s t n have out) (walkOutcome b way s t n have out)
@@ -105,6 +133,8 @@ pub record EachNumber : Type 0 where
   pub tolerance : (b upper : List ℕ) (have : Room) (least greatest : ℕ)
       → InOrder (toleranceRows b upper have least greatest) (toleranceOutcome b upper have least greatest)
   pub writer : (settings : Settings) (v g a : List ℕ) (room : ℕ) → ByTable (writerRows settings v g a room) (writerOutcome settings v g a room)
+  pub split : (b : List ℕ) (room : ℕ) → InOrder (splitRows b room) (splitOutcome b room)
+  pub join : (b : List ℕ) (room : ℕ) → InOrder (joinRows b room) (joinOutcome b room)
 
 pub record Demand1 : Type 0 where
   pub walk : WalkedOrRefused
@@ -113,6 +143,8 @@ pub record Demand1 : Type 0 where
   pub explain : ExplainedOrRefused
   pub tolerance : ToleratedOrRefused
   pub writer : WrittenOrRefused
+  pub split : SplitOrRefused
+  pub join : JoinedOrRefused
   pub table : EachNumber
 
 -- ---- demand 2
@@ -272,3 +304,43 @@ LeastIsFiltered =
 pub record Request7 : Type 0 where
   pub planes : LeastAndGreatestGiven
   pub least : LeastIsFiltered
+
+-- ---- document 02's request 8: high bytes first, low bytes after
+
+-- the output of a split, byte by byte. The value plane begins at byte v of the file and has two bytes for each of n pixels: the high byte of pixel q,
+-- and its low byte; every other byte of the file, where it stands; and what lay in the output beyond the file's length
+pub record BytesSplit (b old new : List ℕ) (v n : ℕ) : Type 0 where
+  pub high : (q : ℕ) → q < n → getD new (v + q) 0 ≡ getD b (v + 2 * q) 0
+  pub low : (q : ℕ) → q < n → getD new (v + n + q) 0 ≡ getD b (v + 2 * q + 1) 0
+  pub before : (k : ℕ) → k < v → getD new k 0 ≡ getD b k 0
+  pub behind : (k : ℕ) → v + 2 * n ≤ k → k < length b → getD new k 0 ≡ getD b k 0
+  pub beyond : (k : ℕ) → length b ≤ k → getD new k 0 ≡ getD old k 0
+  pub long : length new ≡ length old
+
+abbrev pub EveryByte : Type 0
+EveryByte =
+    (b old : List ℕ) (r : Verdict) (new : List ℕ) → Splits b old r new → r ≡ Accepted
+    → BytesSplit b old new (planOf b .value) (pixels (settingsOf b))
+
+-- of a file that was split, the first bytes of the output, as many as the file has, are joined without refusal into any output with room for them, and
+-- that output's first bytes are the file
+abbrev pub Restored : Type 0
+Restored =
+    (b old old′ : List ℕ) (r r′ : Verdict) (new new′ : List ℕ) → Splits b old r new → r ≡ Accepted → length b ≤ length old′
+    → Joins (take (length b) new) old′ r′ new′ → (r′ ≡ Accepted) × (take (length b) new′ ≡ b)
+
+-- check 14: some byte is in the value plane, and in the guide plane or in the table
+abbrev pub In : ℕ → ℕ → ℕ → Type 0
+In start n k = (start ≤ k) × (k < start + n)
+
+abbrev pub SharedByte : Type 0
+SharedByte =
+    (plan : Plan)
+    → (badOverlap plan ≡ true)
+    ↔ ((k : ℕ) × In (plan .value) (2 * (plan .width * plan .height)) k
+    × (In (plan .guide) (2 * (plan .width * plan .height)) k ⊎ In (plan .table) (2 * plan .weights) k))
+
+pub record Request8 : Type 0 where
+  pub bytes : EveryByte
+  pub restored : Restored
+  pub overlap : SharedByte

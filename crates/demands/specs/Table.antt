@@ -1,5 +1,5 @@
 -- Document 01's table of refusals, a row for each number from 1 on: what the row's check says by itself, in the order of the rows; and document 02's
--- checks of the tolerance call, in their own order.
+-- checks of the tolerance call and of the calls on byte planes, in their own order.
 -- Assumes nothing.
 use Prim.Native.Nat.{ℕ, suc, _+_, _*_, _≤_, _<_}
 use mathlib.Core.Path.{_≡_}
@@ -15,13 +15,18 @@ use Rattle.spec.specs.Frame.{trailerAt, settingsOf, trailerOf, planOf, pixels}
 use Rattle.spec.specs.Checks.{badMark, badSize, badCounts, badKind, badRadius, badDistance, contents}
 use Rattle.spec.specs.Calls.{badWay, badPixel, short}
 use Rattle.spec.specs.Tolerance.{badUpper}
+use Rattle.spec.specs.BytePlanes.{badOverlap}
 use Rattle.spec.specs.Writer.{writtenSize, badLength, scanList}
 
--- rows 1 to 7, which every call on a file makes first, and then those of the call
-abbrev pub fileRows : List ℕ → List Outcome → List Outcome
-fileRows b own =
+-- rows 1 to 6, of the trailer and the distances, which every call on a file makes first, and then others
+abbrev pub trailerRows : List ℕ → List Outcome → List Outcome
+trailerRows b others =
     refuse 1 (badMark b) ∷ refuse 2 (badSize (settingsOf b)) ∷ refuse 3 (badCounts (settingsOf b)) ∷ refuse 4 (badKind (settingsOf b))
-    ∷ refuse 5 (badRadius (settingsOf b)) ∷ refuse 6 (badDistance (trailerAt b) (trailerOf b)) ∷ contents b (planOf b) ∷ own
+    ∷ refuse 5 (badRadius (settingsOf b)) ∷ refuse 6 (badDistance (trailerAt b) (trailerOf b)) ∷ others
+
+-- rows 1 to 7, and then those of the call
+abbrev pub fileRows : List ℕ → List Outcome → List Outcome
+fileRows b own = trailerRows b (contents b (planOf b) ∷ own)
 
 -- a row that a call does not make is accepted
 abbrev pub walkRows : List ℕ → ℕ → ℕ → ℕ → ℕ → Room → ℕ → List Outcome
@@ -64,6 +69,13 @@ toleranceRows b upper have least greatest =
     fileRows b
     (refuse 8 (eqb (settingsOf b .kind) 2) ∷ refuse 13 (badUpper b upper)
     ∷ refuse 11 (short (settingsOf b) 1 have least (pixels (settingsOf b)) || ltb greatest (pixels (settingsOf b))) ∷ [])
+
+-- document 02: 14 stands after the distances, so before 7; the call that joins makes no check 7
+abbrev pub splitRows : List ℕ → ℕ → List Outcome
+splitRows b room = trailerRows b (refuse 14 (badOverlap (planOf b)) ∷ contents b (planOf b) ∷ refuse 11 (ltb room (length b)) ∷ [])
+
+abbrev pub joinRows : List ℕ → ℕ → List Outcome
+joinRows b room = trailerRows b (refuse 14 (badOverlap (planOf b)) ∷ refuse 11 (ltb room (length b)) ∷ [])
 
 -- a number is given, with its values, exactly if a row fires with it and no row before that one does; and the outcome is accepted exactly if no row
 -- fires

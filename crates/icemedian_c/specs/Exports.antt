@@ -18,7 +18,8 @@ use Rattle.spec.specs.Walk.{State, walkEnd, walkAnswers}
 use Rattle.spec.specs.Filter.{filtered, filterEnd}
 use Rattle.spec.specs.Calls.{wayOf, boxOf, walkOutcome, filterOutcome, balanceOutcome, explainOutcome}
 use Rattle.spec.specs.Writer.{written, writtenSize, writerOutcome, stored}
-use Rattle.c_values.specs.Results.{given, Reported, causeNumber, LentGrounds}
+use Rattle.spec.specs.BytePlanes.{splitFile, joinedFile, splitOutcome, joinOutcome}
+use Rattle.c_values.specs.Results.{statusOf, given, Reported, causeNumber, LentGrounds}
 use Rattle.ice_step.specs.declared.Walked.{Walked}
 use Rattle.ice_step.specs.Finished.{Lent, roomIn}
 use Rattle.ice.specs.Contract.{Ended}
@@ -98,3 +99,14 @@ pub record WriteCall (settings : Settings) (v g a old new : List ℕ) (r len₀ 
   pub reported : Reported (writerOutcome settings v g a (length old)) r offset₀ offset
   pub length-is : len ≡ given (writerOutcome settings v g a (length old)) (writtenSize settings (length a)) len₀
   pub output : new ≡ stored (writerOutcome settings v g a (length old)) (written settings v g a) old
+
+-- ---- split and join
+
+pub record SplitCall (b old new : List ℕ) (r offset₀ offset : ℕ) : Type 0 where
+  pub reported : Reported (splitOutcome b (length old)) r offset₀ offset
+  pub output : new ≡ stored (splitOutcome b (length old)) (splitFile b) old
+
+-- there is no offset: no check of the call has one
+pub record JoinCall (b old new : List ℕ) (r : ℕ) : Type 0 where
+  pub status-is : r ≡ statusOf (joinOutcome b (length old))
+  pub output : new ≡ stored (joinOutcome b (length old)) (joinedFile b) old

@@ -1,6 +1,6 @@
 // The calls for C and Rust: numbers and slices as pointer and length, a status out (0, or the documents' number), every other result through a lent
 // number. A refused call writes nothing but the offset of number 7. include/icemedian.h documents them. Each takes any arguments; the work and the
-// promises are those of frame, frame_write, ice and tolerance.
+// promises are those of frame, frame_write, byte_planes, ice and tolerance.
 use c_values::give_grounds;
 use c_values::give_walk;
 use c_values::report;
@@ -13,7 +13,7 @@ ghost use Rattle.ice_step.specs.Finished.{lent};
 ghost use Rattle.tolerance.specs.Contract.{buffers};
 ghost use Rattle.c_values.specs.Results.{Reported, lentGrounds};
 ghost use Rattle.c_values.specs.Settings.{settingsFrom};
-ghost use Rattle.icemedian_c.specs.Exports.{WalkCall, FilterCall, ToleranceCall, BalanceCall, ExplainCall, WriteCall};
+ghost use Rattle.icemedian_c.specs.Exports.{WalkCall, FilterCall, ToleranceCall, BalanceCall, ExplainCall, WriteCall, SplitCall, JoinCall};
 
 // Checks 1 to 7.
 #[no_mangle]
@@ -214,4 +214,23 @@ pub extern "C" fn icemedian_write(
             report(v, offset)
         }
     }
+}
+
+// The file with its value plane split into byte planes, into an output of the file's length.
+#[no_mangle]
+pub extern "C" fn icemedian_split(file: &[u8], output: &mut [u8], offset: &mut u64) -> u32
+    ensures { λ r. ⌜ SplitCall (now (file .entry)) (now (output .entry)) (now (output .exit)) r (now (offset .entry)) (now (offset .exit)) ⌝ }
+{
+    let v = byte_planes::split(file, output);
+    report(v, offset)
+}
+
+// The file that was split. No check of it has an offset, so what `report` writes one to is of no use.
+#[no_mangle]
+pub extern "C" fn icemedian_join(file: &[u8], output: &mut [u8]) -> u32
+    ensures { λ r. ⌜ JoinCall (now (file .entry)) (now (output .entry)) (now (output .exit)) r ⌝ }
+{
+    let v = byte_planes::join(file, output);
+    let mut unused = 0u64;
+    report(v, &mut unused)
 }
