@@ -2,9 +2,9 @@
 
 use crate::{raw, Refusal};
 
-/// The file with its value plane split: the high bytes of all values first, then the low bytes. Slowly moving bytes then
-/// lie together and pack better. Every other byte stays in its place, and [`join`] gives the very file back. Until then
-/// the plane holds no levels, and no other call should be handed the split file.
+/// The file with its value plane split: the high bytes of all values first, then the low bytes. Slowly moving bytes
+/// then lie together and pack better. Every other byte stays in its place, and [`join`] gives the very file back. Until
+/// then the plane holds no levels, and no other call should be handed the split file.
 ///
 /// ```
 /// use icemedian::{join, split, write, Refusal, Settings, Weights};

@@ -32,8 +32,8 @@
 //!
 //! Where levels are known within a tolerance, [`tolerance`] gives the least and the greatest answer of each pixel.
 //!
-//! For an archive, [`split`] moves the high bytes of a frame's values before their low bytes, and [`join`] gives the very
-//! file back.
+//! For an archive, [`split`] moves the high bytes of a frame's values before their low bytes, and [`join`] gives the
+//! very file back.
 //!
 //! A refusal says its number and its reason:
 //!

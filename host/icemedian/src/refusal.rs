@@ -57,8 +57,8 @@ pub enum Refusal {
     /// 13: the first pixel, counted row by row from the top left, whose upper level does not go with its reading: it is
     /// below the reading or no level of the frame, or only one of the two is [`NO_READING`].
     UpperLevel { pixel: usize, reading: u16, upper: u16 },
-    /// 14: this part, the guide plane or else the table, has a byte in common with the value plane, which can then not be
-    /// split or joined alone.
+    /// 14: this part, the guide plane or else the table, has a byte in common with the value plane, which can then not
+    /// be split or joined alone.
     Overlap { part: Part },
     /// A status that the documents do not have: the archive is not the one that this crate is written for.
     Unknown { status: u32 },

@@ -1,6 +1,6 @@
 //! Document 01's bench windows A to H, D as document 02's request 3 has it, its edges and its 40-byte frame, rows of
-//! hollow windows, of dead pixels, of the coarse way, of tolerances and of byte planes, what explains them, and a few rows
-//! more.
+//! hollow windows, of dead pixels, of the coarse way, of tolerances and of byte planes, what explains them, and a few
+//! rows more.
 
 use crate::byte_planes::{join, join_plane, split, split_plane};
 use crate::calls;

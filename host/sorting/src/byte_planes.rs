@@ -1,5 +1,5 @@
-//! High bytes first, low bytes after: request 8 of document 02. The value plane is split into its high bytes and its low
-//! bytes, or joined from them, and every other byte of the file is copied.
+//! High bytes first, low bytes after: request 8 of document 02. The value plane is split into its high bytes and its
+//! low bytes, or joined from them, and every other byte of the file is copied.
 
 use crate::frame::{locate, open};
 use crate::refusal::{check, Refusal};
@@ -40,8 +40,8 @@ pub fn split(file: &[u8], lent: usize) -> Result<Vec<u8>, Refusal> {
     Ok(with_plane(file, values, split_plane))
 }
 
-/// The file that was split, for an output of `lent` bytes: checks 1 to 6, 14 and 11, in this order. The moved plane holds
-/// no levels, so check 7 is not made.
+/// The file that was split, for an output of `lent` bytes: checks 1 to 6, 14 and 11, in this order. The moved plane
+/// holds no levels, so check 7 is not made.
 pub fn join(file: &[u8], lent: usize) -> Result<Vec<u8>, Refusal> {
     let values = own_bytes(file)?;
     check(11, lent < file.len())?;

@@ -132,7 +132,8 @@ pub fn number16(bytes: &[u8], offset: usize) -> u16 {
     u16::from_be_bytes([bytes[offset], bytes[offset + 1]])
 }
 
-fn number32(bytes: &[u8], offset: usize) -> usize {
+/// The 32-bit number at `offset`.
+pub fn number32(bytes: &[u8], offset: usize) -> usize {
     let word = [bytes[offset], bytes[offset + 1], bytes[offset + 2], bytes[offset + 3]];
     u32::from_be_bytes(word) as usize
 }
@@ -214,11 +215,15 @@ pub fn check_planes(settings: &Settings, values: (&[u16], usize), guides: (&[u16
     check_contents(guides.0, guides.1, |guide| guide < settings.guides)
 }
 
+/// Checks 1 to 5: the settings.
+pub fn settings(file: &[u8]) -> Result<Settings, Refusal> {
+    settings_of(trailer_of(file)?).asked().settings()
+}
+
 /// Checks 1 to 6: the settings, and where the parts begin.
 pub fn locate(file: &[u8]) -> Result<(Settings, Places), Refusal> {
-    let trailer = trailer_of(file)?;
-    let settings = settings_of(trailer).asked().settings()?;
-    let places = places_of(file.len() - TRAILER, trailer, &settings)?;
+    let (settings, start) = (settings(file)?, file.len() - TRAILER);
+    let places = places_of(start, &file[start..], &settings)?;
     Ok((settings, places))
 }
 

@@ -1,6 +1,6 @@
-//! Document 01's weighted median filter, with the weights of document 02's request 1, the coarse way of its
-//! request 2, the hollow windows of its request 3, the explanations of its request 4, the dead pixels of its request 6,
-//! the tolerances of its request 7 and the byte planes of its request 8, written from these documents and sharing no code
+//! Document 01's weighted median filter, with the weights of document 02's request 1, the coarse way of its request 2,
+//! the hollow windows of its request 3, the explanations of its request 4, the dead pixels of its request 6, the
+//! tolerances of its request 7 and the byte planes of its request 8, written from these documents and sharing no code
 //! with the proved library: every window is gathered anew, its pixels are sorted by level, and weights are added until
 //! they reach half of the whole.
 //!
