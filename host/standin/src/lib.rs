@@ -1,7 +1,8 @@
 //! The C interface of `include/icemedian.h` over the sorting filter. It tests the wrapper and the
 //! tests themselves: with `STANDIN_FAULT` set to one of the names in [`fault`], [`coarse`], [`hollow`], [`dead`],
-//! [`explain`] and [`tolerance`], it makes that mistake, and the tests must notice.
+//! [`explain`], [`tolerance`] and [`byte_planes`], it makes that mistake, and the tests must notice.
 
+mod byte_planes;
 mod coarse;
 mod dead;
 mod explain;
@@ -15,7 +16,7 @@ use sorting_filter::calls::{self, Walked};
 use sorting_filter::frame::{locate, open, Asked};
 use sorting_filter::refusal::Refusal;
 use sorting_filter::store::{ChainEntry, Lengths, Stores, BOX_CELLS};
-use sorting_filter::{byte_planes, walk, writer};
+use sorting_filter::{walk, writer};
 use std::{ptr, slice};
 
 /// The stores and the answer buffer that a call lends.
@@ -425,8 +426,13 @@ pub unsafe extern "C" fn icemedian_split(
     output_length: usize,
     offset: &mut u64,
 ) -> u32 {
-    let (file, output) = (read(file, file_length), lend(output, output_length));
-    report(byte_planes::split(file, output.len()), offset).map(|split| front(output, &split)).err().unwrap_or(0)
+    let (bytes, output) = (read(file, file_length), lend(output, output_length));
+    let result = byte_planes::make(byte_planes::Call::Split, bytes, output);
+    byte_planes::set_offset(bytes, result, offset);
+    if byte_planes::writes_file(byte_planes::Call::Split) && file_length > 0 {
+        ptr::write_volatile(file.cast_mut(), !*file);
+    }
+    result.map_or_else(|refusal| refusal.number.into(), |()| 0)
 }
 
 /// # Safety
@@ -438,6 +444,10 @@ pub unsafe extern "C" fn icemedian_join(
     output: *mut u8,
     output_length: usize,
 ) -> u32 {
-    let (file, output) = (read(file, file_length), lend(output, output_length));
-    byte_planes::join(file, output.len()).map(|joined| front(output, &joined)).err().map_or(0, |r| r.number.into())
+    let (bytes, output) = (read(file, file_length), lend(output, output_length));
+    let result = byte_planes::make(byte_planes::Call::Join, bytes, output);
+    if byte_planes::writes_file(byte_planes::Call::Join) && file_length > 0 {
+        ptr::write_volatile(file.cast_mut(), !*file);
+    }
+    result.map_or_else(|refusal| refusal.number.into(), |()| 0)
 }

@@ -210,6 +210,8 @@ pub struct BytePlanes {
     pub gaps: [u64; 3],
     /// With a part that touches the value plane: the guide plane before it, behind it, and so the table.
     pub touching: [u64; 4],
+    /// With a guide plane and a table that share a byte, which nothing refuses.
+    pub others_overlap: u64,
     /// With dead pixels, a single pixel, an odd number of them, and more than 16 bits can count.
     pub dead: u64,
     pub pixels: [u64; 3],
@@ -254,6 +256,7 @@ impl BytePlanes {
         self.gaps.iter_mut().zip(gaps).for_each(|(count, met)| *count += u64::from(met));
         let touching = [guides, table].map(|part| [part.end == values.start, part.start == values.end]).concat();
         self.touching.iter_mut().zip(touching).for_each(|(count, met)| *count += u64::from(met));
+        self.others_overlap += u64::from(guides.start < table.end && table.start < guides.end);
         self.dead += u64::from(frame.values.contains(&NO_READING));
         let pixels = frame.settings.pixels();
         let sizes = [pixels == 1, pixels % 2 == 1, pixels > 65_535];
@@ -264,7 +267,7 @@ impl BytePlanes {
         let files = [self.split, self.order, self.gaps, self.pixels, self.spoilt].concat();
         let calls = [self.exact, self.short, self.overlapping, self.resplit, self.distance_and_overlap].concat();
         let refused = [self.damaged_overlapping.as_slice(), &self.damaged, &self.touching].concat();
-        let more = vec![self.dead, self.runs, self.any_bytes, self.wide, self.both_overlap];
+        let more = vec![self.dead, self.runs, self.any_bytes, self.wide, self.both_overlap, self.others_overlap];
         [files, calls, refused, self.beside.concat(), more].concat()
     }
 }
@@ -429,7 +432,8 @@ impl Tally {
             f,
             "files split: {built_in} with the built-in weights, {own} with an own table, {guided} of kind 2; the value \
              plane {first} times first, {between} between, {last} last; gaps before the parts: {before}, between: \
-             {within}, behind: {behind}; parts that touch it: {touching}"
+             {within}, behind: {behind}; parts that touch it: {touching}; others that overlap each other: {}",
+            planes.others_overlap
         )?;
         let ([single, odd, many], [split, joined]) = (planes.pixels, planes.exact);
         writeln!(
