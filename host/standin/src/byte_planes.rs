@@ -10,7 +10,7 @@ use std::ops::Range;
 use Call::{Join, Split};
 use Part::{Guide, Table};
 
-#[derive(Clone, Copy)]
+#[derive(Clone, Copy, PartialEq, Eq)]
 pub enum Call {
     Split,
     Join,
@@ -27,6 +27,13 @@ struct Layout {
     settings: Settings,
     parts: [Range<usize>; 3],
     before: usize,
+}
+
+impl Layout {
+    /// Whether a byte before the trailer is no part's.
+    fn gap(&self, byte: usize) -> bool {
+        !self.parts.iter().any(|part| part.contains(&byte))
+    }
 }
 
 /// The call with the mistake, if one of these is asked for.
@@ -191,17 +198,18 @@ fn contents(call: Call, file: &[u8], layout: &Layout) -> Result<(), Refusal> {
     let [values, guides, table] = parts.clone().map(|part| numbers(&file[part]));
     let [value_start, guide_start, table_start] = parts.clone().map(|part| part.start);
     let value = |value: u16| value < k.levels || value == NO_READING;
+    let guide = |guide: u16| guide < k.guides;
     let right = || check_planes(k, (&values, value_start), (&guides, guide_start));
     match (call, CHOSEN.as_str()) {
         (Split, "split_contents_unchecked") => Ok(()),
-        (Split, "split_values_unchecked") => check_contents(&guides, guide_start, |guide| guide < k.guides),
+        (Split, "split_values_unchecked") => check_contents(&guides, guide_start, guide),
         (Split, "split_guides_unchecked") => check_contents(&values, value_start, value),
-        (Split, "split_guides_checked_first") => {
-            check_contents(&guides, guide_start, |guide| guide < k.guides).and_then(|()| right())
+        (Split, "split_guides_checked_first") => check_contents(&guides, guide_start, guide).and_then(|()| right()),
+        (Split, "split_dead_refused") => {
+            check_contents(&values, value_start, |value| value < k.levels).and_then(|()| right())
         }
-        (Split, "split_dead_refused") => check_contents(&values, value_start, |value| value < k.levels),
         (Split, "split_dead_guide_passes") => check_contents(&values, value_start, value)
-            .and_then(|()| check_contents(&guides, guide_start, |guide| guide < k.guides || guide == NO_READING)),
+            .and_then(|()| check_contents(&guides, guide_start, |number| guide(number) || number == NO_READING)),
         (Split, "split_weights_checked") => {
             right().and_then(|()| check_contents(&table, table_start, |weight| weight <= 256))
         }
@@ -211,7 +219,7 @@ fn contents(call: Call, file: &[u8], layout: &Layout) -> Result<(), Refusal> {
             right().and_then(|()| check_contents(&moved, value_start, value))
         }
         (Split, _) | (Join, "join_contents_checked") => right(),
-        (Join, "join_guides_checked") => check_contents(&guides, guide_start, |guide| guide < k.guides),
+        (Join, "join_guides_checked") => check_contents(&guides, guide_start, guide),
         (Join, "join_joined_checked") => {
             check_contents(&numbers(&join_plane(&file[parts[0].clone()])), value_start, value)
         }
@@ -291,15 +299,15 @@ fn plane(call: Call, plane: &[u8], width: usize) -> Vec<u8> {
         (Split, "split_far_left") | (Join, "join_far_left") => first(pixels.min(65_536)),
         // As a library might that decodes the numbers.
         (Split, "split_sign_cut") | (Join, "join_sign_cut") => {
-            let places = |place: usize| if matches!(call, Split) { place < pixels } else { place % 2 == 0 };
+            let places = |place: usize| if call == Split { place < pixels } else { place % 2 == 0 };
             let cut = |(place, byte): (usize, u8)| if places(place) { byte & 127 } else { byte };
             right.into_iter().enumerate().map(cut).collect()
         }
         (Split, "split_dead_as_zero") | (Join, "join_dead_as_zero") => {
-            let joined = if matches!(call, Split) { plane } else { &right };
+            let joined = if call == Split { plane } else { &right };
             let alive = |&number: &u16| if number == NO_READING { 0 } else { number };
             let bytes: Vec<u8> = numbers(joined).iter().flat_map(|number| alive(number).to_be_bytes()).collect();
-            if matches!(call, Split) {
+            if call == Split {
                 split_plane(&bytes)
             } else {
                 bytes
@@ -345,11 +353,12 @@ fn left(call: Call, layout: &Layout) -> Vec<usize> {
     let [values, guides, table] = layout.parts.clone();
     let start = values.start.min(guides.start).min(if table.is_empty() { values.start } else { table.start });
     let end = values.end.max(guides.end).max(table.end);
-    let gap = |byte: &usize| !layout.parts.iter().any(|part| part.contains(byte));
     let all = layout.before + TRAILER;
     match (call, CHOSEN.as_str()) {
         (Split, "split_front_gap_left") | (Join, "join_front_gap_left") => (0..start).collect(),
-        (Split, "split_middle_gap_left") | (Join, "join_middle_gap_left") => (start..end).filter(gap).collect(),
+        (Split, "split_middle_gap_left") | (Join, "join_middle_gap_left") => {
+            (start..end).filter(|&byte| layout.gap(byte)).collect()
+        }
         (Split, "split_back_gap_left") | (Join, "join_back_gap_left") => (end..layout.before).collect(),
         (Split, "split_values_left") | (Join, "join_values_left") => values.collect(),
         (Split, "split_guides_left") | (Join, "join_guides_left") => guides.collect(),
@@ -364,8 +373,7 @@ fn left(call: Call, layout: &Layout) -> Vec<usize> {
 fn put(call: Call, file: &[u8], layout: &Layout, output: &mut [u8]) {
     let mut moved = rearranged(call, file, layout);
     if let (Split, "split_gaps_cleared") | (Join, "join_gaps_cleared") = (call, CHOSEN.as_str()) {
-        let gap = |byte: &usize| !layout.parts.iter().any(|part| part.contains(byte));
-        (0..layout.before).filter(gap).for_each(|byte| moved[byte] = 0);
+        (0..layout.before).filter(|&byte| layout.gap(byte)).for_each(|byte| moved[byte] = 0);
     }
     let lent = left(call, layout).into_iter().filter(|&place| place < output.len());
     lent.for_each(|place| moved[place] = output[place]);

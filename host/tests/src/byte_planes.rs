@@ -8,7 +8,7 @@ use crate::refusals::count;
 use crate::tally::Tally;
 use crate::{same, Check};
 use sorting_filter::byte_planes::{join, split};
-use sorting_filter::frame::{locate, open, Settings, KIND_GUIDED, KIND_TABLE, TRAILER};
+use sorting_filter::frame::{locate, open, Settings, KIND_GUIDED, KIND_TABLE, NO_READING, TRAILER};
 use sorting_filter::random::{damage, laid_out_file, put_distance, Random};
 use sorting_filter::refusal::Refusal;
 use sorting_filter::writer;
@@ -139,11 +139,11 @@ pub fn test(random: &mut Random, file: &[u8], tally: &mut Tally) -> Check {
     test_contents(random, file, tally)
 }
 
-/// A number too large at the first pixel of a plane, at its last or at any.
-fn spoil(random: &mut Random, file: &mut [u8], plane: &Range<usize>, least: u16) {
+/// A number that is too large, from `least` to `most`, at the first pixel of a plane, at its last or at any.
+fn spoil(random: &mut Random, file: &mut [u8], plane: &Range<usize>, least: u16, most: u16) {
     let any = plane.start + 2 * random.below(plane.len() / 2);
     let place = random.pick(&[plane.start, plane.end - 2, any]);
-    let number = random.pick(&[least, 32_768, 65_534]);
+    let number = random.pick(&[least, 32_768, 65_534, most]);
     file[place..place + 2].copy_from_slice(&number.to_be_bytes());
 }
 
@@ -154,10 +154,10 @@ fn test_contents(random: &mut Random, file: &[u8], tally: &mut Tally) -> Check {
     for wrong in 1..4 {
         let mut spoilt = file.to_vec();
         if wrong & 1 != 0 {
-            spoil(random, &mut spoilt, &values, settings.levels);
+            spoil(random, &mut spoilt, &values, settings.levels, NO_READING - 1);
         }
         if wrong & 2 != 0 {
-            spoil(random, &mut spoilt, &guides, settings.guides);
+            spoil(random, &mut spoilt, &guides, settings.guides, NO_READING);
         }
         accepted(random, Call::Join, &spoilt, tally)?;
         refused(random, Call::Split, &spoilt, file.len(), 7, tally)?;
@@ -183,7 +183,7 @@ fn test_overlapping(random: &mut Random, file: &[u8], tally: &mut Tally) -> Chec
     let over_guide = values.clone().any(|byte| guides.contains(&byte));
     let over_table = values.clone().any(|byte| table.contains(&byte));
     let mut spoilt = file.to_vec();
-    spoil(random, &mut spoilt, &values, settings.levels);
+    spoil(random, &mut spoilt, &values, settings.levels, NO_READING - 1);
     for call in Call::BOTH {
         let (lent, more) = (short(random, file), random.below(2));
         refused(random, call, file, file.len() + more, 14, tally)?;
