@@ -95,15 +95,16 @@ fn number_14_names_the_part_that_overlaps() {
     };
     let over = |part| Some(Refusal::Overlap { part });
     assert_eq!(given([20, 14, 8]), None);
-    // One byte in common before the value plane and behind it, and all of them.
-    for distances in [[20, 15, 8], [13, 14, 0], [20, 20, 8], [13, 14, 8]] {
+    // One byte in common at the front of the value plane and at its end, all of them, and some.
+    for distances in [[9, 14, 0], [20, 15, 8], [20, 20, 8], [13, 14, 0]] {
         assert_eq!(given(distances), over(Part::Guide), "{distances:?}");
     }
-    for distances in [[20, 14, 15], [13, 20, 8], [20, 14, 20], [6, 12, 8]] {
+    for distances in [[13, 6, 20], [20, 14, 15], [20, 14, 20], [6, 12, 8]] {
         assert_eq!(given(distances), over(Part::Table), "{distances:?}");
     }
-    // Where both do, the guide plane is named.
+    // Where both overlap, the guide plane is named.
     assert_eq!(given([20, 15, 15]), over(Part::Guide));
+    assert_eq!(given([13, 14, 8]), over(Part::Guide));
     // Parts that touch share nothing; distance 0 is no table, wherever the value plane is.
     for distances in [[14, 20, 8], [20, 14, 14], [6, 12, 0], [12, 6, 20]] {
         assert_eq!(given(distances), None, "{distances:?}");

@@ -696,12 +696,13 @@ fn byte_planes_refuse_in_order() {
     let (values, guide, table) = (35, 39, 43);
     assert_eq!(given(&[], 48), [None, None]);
     assert_eq!(given(&[], 47), both(11));
-    // One byte in common, at either end, with the guide plane and with the table.
-    for changes in [[(guide, 15)], [(values, 13)], [(table, 15)], [(values, 8)]] {
-        assert_eq!(given(&changes, 48), both(14));
-        assert_eq!(given(&changes, 0), both(14));
+    // One byte in common, at the front and at the end, with the guide plane and with the table.
+    let (front, end) = ([(values, 9), (table, 0)], [(guide, 15)]);
+    let (table_front, table_end) = ([(values, 13), (guide, 6), (table, 20)], [(table, 15)]);
+    for changes in [front.as_slice(), &end, &table_front, &table_end] {
+        assert_eq!(given(changes, 48), both(14));
+        assert_eq!(given(changes, 0), both(14));
     }
-    assert_eq!(given(&[(values, 13), (table, 0)], 48), both(14));
     // The guide plane and the table may have bytes in common, and distance 0 is no table.
     assert_eq!(given(&[(table, 14)], 48), [None, None]);
     assert_eq!(given(&[(values, 6), (guide, 12), (table, 0)], 48), [None, None]);

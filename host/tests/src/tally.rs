@@ -254,7 +254,10 @@ impl BytePlanes {
         let gap = |byte: usize| !parts.iter().any(|part| part.contains(&byte));
         let gaps = [start > 0, (start..end).any(gap), end < before];
         self.gaps.iter_mut().zip(gaps).for_each(|(count, met)| *count += u64::from(met));
-        let touching = [guides, table].map(|part| [part.end == values.start, part.start == values.end]).concat();
+        let sides = |part: &Range<usize>| {
+            [part.end == values.start, part.start == values.end].map(|met| met && !part.is_empty())
+        };
+        let touching = [guides, table].map(sides).concat();
         self.touching.iter_mut().zip(touching).for_each(|(count, met)| *count += u64::from(met));
         self.others_overlap += u64::from(guides.start < table.end && table.start < guides.end);
         self.dead += u64::from(frame.values.contains(&NO_READING));
