@@ -1,7 +1,7 @@
 /* What the header promises a C program: NULL where a length is 0, numbers that are too wide refused and not
  * cut down, results left alone by refusals, what is read may overlap, a weight may be any number, way 4's
- * count and summary, a window in which nothing weighs, an explanation of each cause, dead pixels, tolerances, and the
- * macros. It prints each promise that is not kept. */
+ * count and summary, a window in which nothing weighs, an explanation of each cause, dead pixels, tolerances, byte
+ * planes, and the macros. It prints each promise that is not kept. */
 #include "icemedian.h"
 #include <stdio.h>
 #include <string.h>
@@ -481,6 +481,94 @@ static void test_tolerance_overlap(void) {
     expect("its greatest", span_greatest[0] == 257 && span_greatest[1] == 514, 1);
 }
 
+/* A file that may only be read: a byte that is no part's, values 0102 0304 0203, their guides, a table, another such
+ * byte, the trailer. Then the same file split. */
+enum { MOVED = 50 };
+#define MOVED_GUIDES 0, 0, 0, 1, 0, 0
+#define MOVED_TABLE 0, 9, 0, 8, 0, 7, 0, 6
+#define MOVED_TRAILER 0, 3, 0, 1, 4, 0, 0, 2, 1, 1, 0, 0, 0, 0, 0, 21, 0, 0, 0, 15, 0, 0, 0, 9, 0x49, 0x43, 0x45, 0x31
+#define MOVED_REST MOVED_GUIDES, MOVED_TABLE, 0x66, MOVED_TRAILER
+static const uint8_t moved[MOVED] = {0x77, 1, 2, 3, 4, 2, 3, MOVED_REST};
+static const uint8_t moved_split[MOVED] = {0x77, 1, 3, 2, 2, 4, 3, MOVED_REST};
+static uint8_t moved_output[MOVED + 1], moved_wrong[MOVED];
+
+/* An output of this length, NULL where it is 0, full of one byte before the call. */
+static uint32_t split(const uint8_t *frame, size_t frame_length, size_t output_length) {
+    memset(moved_output, 0xA5, sizeof moved_output);
+    return icemedian_split(frame_length ? frame : NULL, frame_length, output_length ? moved_output : NULL,
+                           output_length, &result.offset);
+}
+
+static uint32_t join(const uint8_t *frame, size_t frame_length, size_t output_length) {
+    memset(moved_output, 0xA5, sizeof moved_output);
+    return icemedian_join(frame_length ? frame : NULL, frame_length, output_length ? moved_output : NULL,
+                          output_length);
+}
+
+/* The whole output, and what lies beyond it. */
+static void expect_moved(const char *what, uint32_t status, const uint8_t *wanted) {
+    expect_status(what, status, 0);
+    expect("its bytes", memcmp(moved_output, wanted, MOVED) == 0, 1);
+    expect("beyond them", moved_output[MOVED], 0xA5);
+}
+
+static void expect_output_left(const char *what) {
+    static uint8_t filled[sizeof moved_output];
+    memset(filled, 0xA5, sizeof filled);
+    expect(what, memcmp(moved_output, filled, sizeof filled) == 0, 1);
+}
+
+/* A refusal, and that no byte is written. */
+static void expect_unmoved(const char *what, uint32_t status, uint32_t number) {
+    expect_status(what, status, number);
+    expect_output_left("its output left");
+}
+
+static void test_byte_planes(void) {
+    static const uint8_t joined[MOVED] = {0x77, 1, 4, 2, 2, 3, 3, MOVED_REST};
+    expect_moved("split", split(moved, MOVED, MOVED), moved_split);
+    expect_moved("split, a longer output", split(moved, MOVED, MOVED + 1), moved_split);
+    expect_moved("join", join(moved_split, MOVED, MOVED), moved);
+    expect_moved("join, a longer output", join(moved_split, MOVED, MOVED + 1), moved);
+    expect_moved("join, a file that is not split", join(moved, MOVED, MOVED), joined);
+    expect_unmoved("split, no file", split(moved, 0, MOVED), 1);
+    expect_unmoved("join, no file", join(moved, 0, MOVED), 1);
+    expect_unmoved("split, no mark and no output", split(moved, MOVED - 1, 0), 1);
+    expect_unmoved("join, no mark and no output", join(moved, MOVED - 1, 0), 1);
+    expect_unmoved("split, no output", split(moved, MOVED, 0), 11);
+    expect_unmoved("join, no output", join(moved, MOVED, 0), 11);
+    expect_unmoved("split, an output too short", split(moved, MOVED, MOVED - 1), 11);
+    expect_unmoved("join, an output too short", join(moved, MOVED, MOVED - 1), 11);
+}
+
+/* The last bytes of the guide plane's distance and of the table's. */
+enum { GUIDE_DISTANCE = MOVED - 9, TABLE_DISTANCE = MOVED - 5 };
+
+static void test_byte_planes_refused(void) {
+    memcpy(moved_wrong, moved, sizeof moved);
+    moved_wrong[1] = 4;
+    expect_contents("split, value 1026", split(moved_wrong, MOVED, MOVED), 1);
+    expect_output_left("its output left");
+    expect_contents("split, value 1026, no output", split(moved_wrong, MOVED, 0), 1);
+    expect_status("join, value 1026", join(moved_wrong, MOVED, MOVED), 0);
+    expect_unmoved("join, value 1026, no output", join(moved_wrong, MOVED, 0), 11);
+    moved_wrong[GUIDE_DISTANCE] = 16;
+    expect_unmoved("split, a guide within the last value", split(moved_wrong, MOVED, MOVED), 14);
+    expect_unmoved("join, a guide within the last value", join(moved_wrong, MOVED, MOVED), 14);
+    expect_unmoved("split, such a guide, no output", split(moved_wrong, MOVED, 0), 14);
+    expect_unmoved("join, such a guide, no output", join(moved_wrong, MOVED, 0), 14);
+    moved_wrong[TABLE_DISTANCE] = 23;
+    expect_unmoved("split, such a guide, a table before the file", split(moved_wrong, MOVED, MOVED), 6);
+    expect_unmoved("join, such a guide, a table before the file", join(moved_wrong, MOVED, MOVED), 6);
+    memcpy(moved_wrong, moved, sizeof moved);
+    moved_wrong[TABLE_DISTANCE] = 16;
+    expect_unmoved("split, a weight within the last value", split(moved_wrong, MOVED, MOVED), 14);
+    expect_unmoved("join, a weight within the last value", join(moved_wrong, MOVED, MOVED), 14);
+    moved_wrong[TABLE_DISTANCE] = 15;
+    expect_status("split, a table from the guide plane's first byte", split(moved_wrong, MOVED, MOVED), 0);
+    expect_status("join, a table from the guide plane's first byte", join(moved_wrong, MOVED, MOVED), 0);
+}
+
 static void test_wide(void) {
     expect_status("filter, way 257", filter(FILE_BYTES, 257, COUNTS, WORDS, NUMBERS, BLOCKS, PIXELS), 8);
     expect_status("walk, way 257", walk(FILE_BYTES, 257, 2, COUNTS, WORDS, NUMBERS, BLOCKS, 3), 8);
@@ -499,7 +587,7 @@ static void test_wide(void) {
 
 static void test_macros(void) {
     expect("version, major", ICEMEDIAN_VERSION_MAJOR, 0);
-    expect("version, minor", ICEMEDIAN_VERSION_MINOR, 9);
+    expect("version, minor", ICEMEDIAN_VERSION_MINOR, 10);
     expect("no reading", ICEMEDIAN_NO_READING, 65535);
     expect("width", ICEMEDIAN_WIDTH(file, FILE_BYTES), W);
     expect("height", ICEMEDIAN_HEIGHT(file, FILE_BYTES), H);
@@ -540,6 +628,8 @@ int main(void) {
     test_bounds_dead();
     test_tolerance_refused();
     test_tolerance_overlap();
+    test_byte_planes();
+    test_byte_planes_refused();
     test_wide();
     test_macros();
     return failures != 0;

@@ -1,6 +1,7 @@
 //! The frame: planes first, a trailer of 28 bytes last that points back to them.
 
 use crate::refusal::{check, Refusal};
+use std::ops::Range;
 
 /// Length of the trailer in bytes.
 pub const TRAILER: usize = 28;
@@ -117,6 +118,13 @@ impl Places {
         let apart = self.values.abs_diff(self.guides);
         (apart < 2 * settings.pixels()).then_some(apart)
     }
+
+    /// The bytes of the value plane, of the guide plane and of the table, which has none for distance 0.
+    pub fn bytes(&self, settings: &Settings) -> [Range<usize>; 3] {
+        let part = |place: usize, numbers: usize| place..place + 2 * numbers;
+        let table = self.table.map_or(0..0, |place| part(place, settings.table_weights()));
+        [part(self.values, settings.pixels()), part(self.guides, settings.pixels()), table]
+    }
 }
 
 /// The 16-bit number at `offset`, high byte first.
@@ -124,7 +132,8 @@ pub fn number16(bytes: &[u8], offset: usize) -> u16 {
     u16::from_be_bytes([bytes[offset], bytes[offset + 1]])
 }
 
-fn number32(bytes: &[u8], offset: usize) -> usize {
+/// The 32-bit number at `offset`.
+pub fn number32(bytes: &[u8], offset: usize) -> usize {
     let word = [bytes[offset], bytes[offset + 1], bytes[offset + 2], bytes[offset + 3]];
     u32::from_be_bytes(word) as usize
 }
@@ -206,11 +215,15 @@ pub fn check_planes(settings: &Settings, values: (&[u16], usize), guides: (&[u16
     check_contents(guides.0, guides.1, |guide| guide < settings.guides)
 }
 
+/// Checks 1 to 5: the settings.
+pub fn settings(file: &[u8]) -> Result<Settings, Refusal> {
+    settings_of(trailer_of(file)?).asked().settings()
+}
+
 /// Checks 1 to 6: the settings, and where the parts begin.
 pub fn locate(file: &[u8]) -> Result<(Settings, Places), Refusal> {
-    let trailer = trailer_of(file)?;
-    let settings = settings_of(trailer).asked().settings()?;
-    let places = places_of(file.len() - TRAILER, trailer, &settings)?;
+    let (settings, start) = (settings(file)?, file.len() - TRAILER);
+    let places = places_of(start, &file[start..], &settings)?;
     Ok((settings, places))
 }
 

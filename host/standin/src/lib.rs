@@ -1,7 +1,8 @@
 //! The C interface of `include/icemedian.h` over the sorting filter. It tests the wrapper and the
 //! tests themselves: with `STANDIN_FAULT` set to one of the names in [`fault`], [`coarse`], [`hollow`], [`dead`],
-//! [`explain`] and [`tolerance`], it makes that mistake, and the tests must notice.
+//! [`explain`], [`tolerance`] and [`byte_planes`], it makes that mistake, and the tests must notice.
 
+mod byte_planes;
 mod coarse;
 mod dead;
 mod explain;
@@ -413,4 +414,40 @@ pub unsafe extern "C" fn icemedian_write(
             status
         }
     }
+}
+
+/// # Safety
+/// As the header says.
+#[no_mangle]
+pub unsafe extern "C" fn icemedian_split(
+    file: *const u8,
+    file_length: usize,
+    output: *mut u8,
+    output_length: usize,
+    offset: &mut u64,
+) -> u32 {
+    let (bytes, output) = (read(file, file_length), lend(output, output_length));
+    let result = byte_planes::make(byte_planes::Call::Split, bytes, output);
+    byte_planes::set_offset(bytes, result, offset);
+    if byte_planes::writes_file(byte_planes::Call::Split) && file_length > 0 {
+        ptr::write_volatile(file.cast_mut(), !*file);
+    }
+    result.map_or_else(|refusal| refusal.number.into(), |()| 0)
+}
+
+/// # Safety
+/// As the header says.
+#[no_mangle]
+pub unsafe extern "C" fn icemedian_join(
+    file: *const u8,
+    file_length: usize,
+    output: *mut u8,
+    output_length: usize,
+) -> u32 {
+    let (bytes, output) = (read(file, file_length), lend(output, output_length));
+    let result = byte_planes::make(byte_planes::Call::Join, bytes, output);
+    if byte_planes::writes_file(byte_planes::Call::Join) && file_length > 0 {
+        ptr::write_volatile(file.cast_mut(), !*file);
+    }
+    result.map_or_else(|refusal| refusal.number.into(), |()| 0)
 }

@@ -1,5 +1,6 @@
 //! The list of damaged files: what document 01 says of each, held against the library and the sorting filter.
 
+use crate::byte_planes;
 use crate::library::{self, Status};
 use crate::tally::Tally;
 use crate::tolerance;
@@ -60,6 +61,7 @@ pub fn test(random: &mut Random, tally: &mut Tally) -> Check {
         let explained = library::explain(&damaged.file, (0, 0));
         library::compare_explain(&what, explained, &calls::explain(&damaged.file, (0, 0)))?;
         tolerance::test_listed(random, &whole, &damaged.file, tally)
+            .and_then(|()| byte_planes::test_listed(random, &damaged.file, tally))
             .map_err(|error| format!("{}: {error}", damaged.name))?;
         tally.damaged += 1;
     }

@@ -1,6 +1,7 @@
-//! Accepted frames: walks and filters in every serving way, balances, explanations and tolerances.
+//! Accepted frames: walks and filters in every serving way, balances, explanations, tolerances and byte planes.
 
 use crate::buffers::{compare, Buffers};
+use crate::byte_planes;
 use crate::explain;
 use crate::library::{self, Status};
 use crate::overlap;
@@ -144,6 +145,7 @@ pub fn test_accepted(random: &mut Random, file: &[u8], tally: &mut Tally) -> Che
     test_balance(random, file, &frame, tally)?;
     explain::test(random, file, &frame, &plane, tally)?;
     tolerance::test(random, file, &frame, tally)?;
+    byte_planes::test(random, file, tally)?;
     same("the file after the calls", &file, &untouched.as_slice())
 }
 
@@ -157,8 +159,9 @@ fn count_overlap(file: &[u8], tally: &mut Tally) {
     }
 }
 
-/// The list of small walks, each in every serving way, every pixel of their frames explained and the frames with upper
-/// levels: the bench windows A to H, chosen shapes, and every start of small frames with moves into the border and unknown bytes.
+/// The list of small walks, each in every serving way, every pixel of their frames explained, the frames with upper
+/// levels and split: the bench windows A to H, chosen shapes, and every start of small frames with moves into the
+/// border and unknown bytes.
 pub fn test_listed(random: &mut Random, tally: &mut Tally) -> Check {
     for case in cases::read(include_str!("../../cases.txt"))? {
         let frame = open(&case.file).map_err(|refusal| format!("{}: {refusal}", case.name))?;
@@ -167,7 +170,9 @@ pub fn test_listed(random: &mut Random, tally: &mut Tally) -> Check {
                 .map_err(|error| format!("{}, {way:?}: {error}", case.name))?;
             tally.listed += 1;
         }
-        tolerance::test(random, &case.file, &frame, tally).map_err(|error| format!("{}: {error}", case.name))?;
+        tolerance::test(random, &case.file, &frame, tally)
+            .and_then(|()| byte_planes::test(random, &case.file, tally))
+            .map_err(|error| format!("{}: {error}", case.name))?;
         for pixel in 0..frame.settings.pixels() {
             explain::test_at(&case.file, &frame, place(&frame.settings, pixel), tally)
                 .map_err(|error| format!("{}: {error}", case.name))?;

@@ -149,3 +149,14 @@ pub fn write(asked: &Asked, values: &[u16], guide: &[u16], table: &[u16], output
 pub fn compare_write(what: &str, library: (Status, usize), expected: &Result<Vec<u8>, Refusal>) -> Check {
     same(what, &library, &(Status::of(expected), expected.as_ref().map_or(LENGTH, Vec::len)))
 }
+
+pub fn split(file: &[u8], output: &mut [u8]) -> Status {
+    let mut offset = OFFSET;
+    let status = raw::split(file, output, &mut offset);
+    Status { status, offset }
+}
+
+/// Has no offset to write.
+pub fn join(file: &[u8], output: &mut [u8]) -> Status {
+    Status { status: raw::join(file, output), offset: OFFSET }
+}

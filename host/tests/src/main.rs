@@ -1,11 +1,12 @@
 //! Random frames through the library's C interface, held against the sorting filter.
 //!
-//! `library_tests [FRAMES] [--seed N] [--program PATH]` makes FRAMES frames (2,000 if not said), walks
-//! and filters each in every serving way, explains its pixels, filters it with upper levels, all once more with its
+//! `library_tests [FRAMES] [--seed N] [--program PATH]` makes FRAMES frames (2,000 if not said), walks and filters each
+//! in every serving way, explains its pixels, filters it with upper levels, splits and joins it, all once more with its
 //! table damaged, damages it, and writes it again. With `--program` it also feeds frames to the program's standard
 //! input. The same seed gives the same frames everywhere.
 
 mod buffers;
+mod byte_planes;
 mod damaged;
 mod dead;
 mod every_window;
@@ -70,6 +71,7 @@ fn test_frame(random: &mut Random, tally: &mut Tally) -> Check {
     refusals::test_damaged(random, &file, tally)?;
     tolerance::test_refused(random, &file, tally)?;
     tolerance::test_damaged(random, &file, tally)?;
+    byte_planes::test_damaged(random, &file, tally)?;
     writing::test_writer(random, &file, tally)
 }
 
@@ -82,7 +84,7 @@ fn run(options: &Options) -> Result<Tally, String> {
             failures.push(format!("seed {} frame {number}: {message}", options.seed));
         }
         if failures.len() == FAILURES_MOST {
-            break;
+            return Err(failures.join("\n"));
         }
     }
     let wide = wide::test(&mut Random::new(options.seed), &mut tally);
@@ -113,6 +115,14 @@ fn run(options: &Options) -> Result<Tally, String> {
     failures.extend(largest.err().map(|message| format!("the largest frame with upper levels: {message}")));
     let within = tolerance::test_within_file(&mut Random::new(options.seed), &mut tally);
     failures.extend(within.err().map(|message| format!("upper levels within the file: {message}")));
+    let row = byte_planes::test_row(&mut Random::new(options.seed), &mut tally);
+    failures.extend(row.err().map(|message| format!("a row as byte planes: {message}")));
+    let beside = byte_planes::test_beside(&mut Random::new(options.seed), &mut tally);
+    failures.extend(beside.err().map(|message| format!("parts beside the value plane: {message}")));
+    let runs = byte_planes::test_runs(&mut Random::new(options.seed), &mut tally);
+    failures.extend(runs.err().map(|message| format!("runs of bytes: {message}")));
+    let largest = byte_planes::test_largest(&mut Random::new(options.seed), &mut tally);
+    failures.extend(largest.err().map(|message| format!("the largest frame as byte planes: {message}")));
     let blocks = frames::test_blocks(&mut Random::new(options.seed), &mut tally);
     failures.extend(blocks.err().map(|message| format!("blocks: {message}")));
     let largest = frames::test_largest(&mut Random::new(options.seed), &mut tally);

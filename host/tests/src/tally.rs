@@ -1,9 +1,11 @@
 //! Counts of what a run covered, so that a run which tests nothing is seen.
 
+use crate::byte_planes::BESIDE;
 use sorting_filter::explain::{Cause, Explanation};
 use sorting_filter::frame::{Frame, KIND_GUIDED, NO_READING};
 use sorting_filter::tolerance::Tolerated;
 use std::fmt;
+use std::ops::Range;
 
 /// The greatest sum of weights of a window by a table: 961 pixels of the largest weight.
 const HEAVIEST: i64 = 961 * 65_535;
@@ -197,6 +199,82 @@ impl Tolerance {
     }
 }
 
+/// Files split into byte planes and joined.
+#[derive(Default)]
+pub struct BytePlanes {
+    /// Files that are split: with the built-in weights, with a table of the file's own, and of kind 2.
+    pub split: [u64; 3],
+    /// Of them with the value plane before the other parts, between them and behind them.
+    pub order: [u64; 3],
+    /// With bytes that are no part's before the parts, between them and behind them.
+    pub gaps: [u64; 3],
+    /// With a part that touches the value plane: the guide plane before it, behind it, and so the table.
+    pub touching: [u64; 4],
+    /// With a guide plane and a table that share a byte, which nothing refuses.
+    pub others_overlap: u64,
+    /// With dead pixels, a single pixel, an odd number of them, and more than 16 bits can count.
+    pub dead: u64,
+    pub pixels: [u64; 3],
+    /// Counts of pixels about the ends of runs.
+    pub runs: u64,
+    /// Files that are not split but joined, which split then refuses with 7 or gives back.
+    pub resplit: [u64; 2],
+    /// Files joined, and refused with 7 as well as with 11, for a value, for a guide and for both; and joined of any
+    /// bytes.
+    pub spoilt: [u64; 3],
+    pub any_bytes: u64,
+    /// By call: with no longer output than needed, refused with 11, and with 14, alone and beside 7, 11 and both.
+    pub exact: [u64; 2],
+    pub short: [u64; 2],
+    pub overlapping: [u64; 2],
+    /// With outputs longer than 16 bits can say.
+    pub wide: u64,
+    /// The guide plane and the table at each place beside the value plane.
+    pub beside: [[u64; BESIDE]; 2],
+    /// Files in which both overlap it.
+    pub both_overlap: u64,
+    /// Calls refused with 6 for the guide plane while the table overlaps, and for the table while the guide plane does.
+    pub distance_and_overlap: [u64; 2],
+    /// Calls that a check from 1 to 5 refuses, and 14 too; that one from 1 to 6 refuses, and 11 too.
+    pub damaged_overlapping: [u64; 5],
+    pub damaged: [u64; 6],
+}
+
+impl BytePlanes {
+    /// Counts a file that is split, by its parts' bytes and how many lie before the trailer.
+    pub fn count(&mut self, frame: &Frame, parts: &[Range<usize>; 3], before: usize) {
+        let [values, guides, table] = parts;
+        let kind = if frame.settings.kind == KIND_GUIDED { 2 } else { usize::from(!frame.table.is_empty()) };
+        self.split[kind] += 1;
+        let others: Vec<&Range<usize>> = [guides, table].into_iter().filter(|part| !part.is_empty()).collect();
+        let earlier = others.iter().filter(|part| part.start < values.start).count();
+        self.order[if earlier == 0 { 0 } else { 1 + usize::from(earlier == others.len()) }] += 1;
+        let start = others.iter().fold(values.start, |start, part| start.min(part.start));
+        let end = others.iter().fold(values.end, |end, part| end.max(part.end));
+        let gap = |byte: usize| !parts.iter().any(|part| part.contains(&byte));
+        let gaps = [start > 0, (start..end).any(gap), end < before];
+        self.gaps.iter_mut().zip(gaps).for_each(|(count, met)| *count += u64::from(met));
+        let sides = |part: &Range<usize>| {
+            [part.end == values.start, part.start == values.end].map(|met| met && !part.is_empty())
+        };
+        let touching = [guides, table].map(sides).concat();
+        self.touching.iter_mut().zip(touching).for_each(|(count, met)| *count += u64::from(met));
+        self.others_overlap += u64::from(guides.start < table.end && table.start < guides.end);
+        self.dead += u64::from(frame.values.contains(&NO_READING));
+        let pixels = frame.settings.pixels();
+        let sizes = [pixels == 1, pixels % 2 == 1, pixels > 65_535];
+        self.pixels.iter_mut().zip(sizes).for_each(|(count, met)| *count += u64::from(met));
+    }
+
+    fn counts(&self) -> Vec<u64> {
+        let files = [self.split, self.order, self.gaps, self.pixels, self.spoilt].concat();
+        let calls = [self.exact, self.short, self.overlapping, self.resplit, self.distance_and_overlap].concat();
+        let refused = [self.damaged_overlapping.as_slice(), &self.damaged, &self.touching].concat();
+        let more = vec![self.dead, self.runs, self.any_bytes, self.wide, self.both_overlap, self.others_overlap];
+        [files, calls, refused, self.beside.concat(), more].concat()
+    }
+}
+
 #[derive(Default)]
 pub struct Tally {
     /// Accepted frames of each kind; those made at random are among them.
@@ -223,9 +301,10 @@ pub struct Tally {
     pub balances: u64,
     pub explained: Explained,
     pub tolerance: Tolerance,
+    pub byte_planes: BytePlanes,
     pub written: u64,
-    /// Calls refused by each number from 1 to 13; place 0 is not used, nor 12, which is the program's.
-    pub refusals: [u64; 14],
+    /// Calls refused by each number from 1 to 14; place 0 is not used, nor 12, which is the program's.
+    pub refusals: [u64; 15],
     /// Files of the list of damaged ones.
     pub damaged: u64,
     /// Calls with chosen numbers wider than a frame's, among the refused.
@@ -253,7 +332,7 @@ impl Tally {
         let Coarse { walks, one_block, short_block, negative } = self.coarse;
         let coarse = [walks - one_block, walks - short_block, one_block, short_block, negative];
         let tables = [self.heavy_tables, self.damaged_tables, u64::from(self.heaviest == HEAVIEST)];
-        let all = [refusals, hollow, dead, explained, tolerance];
+        let all = [refusals, hollow, dead, explained, tolerance, self.byte_planes.counts()];
         let more = [windows.as_slice(), &programs, &coarse, &frames, &tables];
         if all.iter().map(Vec::as_slice).chain(more).any(|counts| counts.contains(&0)) {
             return Some(format!("the run left something untried:\n{self}"));
@@ -347,6 +426,44 @@ impl Tally {
             damaged(2)
         )
     }
+
+    fn write_byte_planes(&self, f: &mut fmt::Formatter<'_>) -> fmt::Result {
+        let planes = &self.byte_planes;
+        let ([built_in, own, guided], [first, between, last]) = (planes.split, planes.order);
+        let ([before, within, behind], touching) = (planes.gaps, planes.touching.iter().sum::<u64>());
+        writeln!(
+            f,
+            "files split: {built_in} with the built-in weights, {own} with an own table, {guided} of kind 2; the value \
+             plane {first} times first, {between} between, {last} last; gaps before the parts: {before}, between: \
+             {within}, behind: {behind}; parts that touch it: {touching}; others that overlap each other: {}",
+            planes.others_overlap
+        )?;
+        let ([single, odd, many], [split, joined]) = (planes.pixels, planes.exact);
+        writeln!(
+            f,
+            "of them {} with dead pixels, {single} of one pixel, {odd} of an odd number, {many} of over 65,535; exact \
+             outputs: {split} split, {joined} joined; wide ones: {}",
+            planes.dead, planes.wide
+        )?;
+        let ([no_levels, levels], [value, guide, both]) = (planes.resplit, planes.spoilt);
+        writeln!(
+            f,
+            "files joined that are not split: {levels} that split gives back, {no_levels} that it refuses; joined with \
+             a value too large: {value}, a guide: {guide}, both: {both}, of any bytes: {}",
+            planes.any_bytes
+        )?;
+        let [guides, tables] = planes.beside.map(|places| places.iter().sum::<u64>());
+        writeln!(
+            f,
+            "files refused with 14: {} ({} for both parts); chosen places beside the value plane: {guides} of guide \
+             planes, {tables} of tables; calls that 6 and 14 refuse: {}, 1 to 5 and 14: {}, 1 to 6 and 11: {}",
+            planes.overlapping[0],
+            planes.both_overlap,
+            planes.distance_and_overlap.iter().sum::<u64>(),
+            planes.damaged_overlapping.iter().sum::<u64>(),
+            planes.damaged.iter().sum::<u64>()
+        )
+    }
 }
 
 impl fmt::Display for Tally {
@@ -411,6 +528,7 @@ impl fmt::Display for Tally {
             "of them {lowest} of level 0, {negative} with less than 0 below, {above} that reach more than the whole"
         )?;
         self.write_tolerance(f)?;
+        self.write_byte_planes(f)?;
         write!(f, "refused calls by number:")?;
         for (number, count) in self.refusals.iter().enumerate().filter(|&(number, _)| number != 0 && number != 12) {
             write!(f, " {number}: {count}")?;

@@ -29,6 +29,11 @@ fn put16(file: &mut [u8], place: usize, number: u16) {
     put(file, place, &number.to_be_bytes());
 }
 
+/// Writes the distance of the value plane, of the guide plane or of the table: part 0, 1 or 2.
+pub fn put_distance(file: &mut [u8], part: usize, distance: usize) {
+    put(file, 12 + 4 * part, &(distance as u32).to_be_bytes());
+}
+
 fn located(file: &[u8]) -> (Settings, Places) {
     locate(file).expect("checks 1 to 6 accept the file")
 }
@@ -76,15 +81,15 @@ fn damage_kind(random: &mut Random, file: &mut [u8]) {
 
 fn damage_distances(random: &mut Random, file: &mut [u8]) {
     let (settings, _) = located(file);
-    let before_file = (file.len() - TRAILER + 1) as u32;
+    let before_file = file.len() - TRAILER + 1;
     let part = random.below(3);
     let short = match part {
         2 if settings.kind == KIND_GUIDED => random.pick(&[1, 8, 131_072]),
-        2 => 2 * settings.table_weights() as u32 - 1,
-        _ => random.pick(&[0, 2 * settings.pixels() as u32 - 1]),
+        2 => 2 * settings.table_weights() - 1,
+        _ => random.pick(&[0, 2 * settings.pixels() - 1]),
     };
-    let distance = random.pick(&[short, before_file, u32::MAX]);
-    put(file, 12 + 4 * part, &distance.to_be_bytes());
+    let distance = random.pick(&[short, before_file, u32::MAX as usize]);
+    put_distance(file, part, distance);
 }
 
 fn damage_contents(random: &mut Random, file: &mut [u8]) {
@@ -111,8 +116,7 @@ pub fn damage_table(random: &mut Random, file: &mut [u8]) -> bool {
         }
     } else {
         let before = file.len() - TRAILER;
-        let distance = (length + random.below(before - length + 1)) as u32;
-        put(file, 20, &distance.to_be_bytes());
+        put_distance(file, 2, length + random.below(before - length + 1));
     }
     true
 }

@@ -142,6 +142,28 @@ pub fn overlapping_file(random: &mut Random, settings: &Settings, shift: isize, 
     closed(body, settings, [Some(value_start), Some(guide_start), table_start])
 }
 
+/// The file of a random frame whose guide plane and table, if it has one, begin so many bytes after its value plane, or
+/// before it, with junk around all. A byte of several parts is the value plane's, or else the guide plane's, so that a
+/// guide may be too large where the planes overlap.
+pub fn laid_out_file(random: &mut Random, settings: &Settings, guides: isize, table: Option<isize>) -> Vec<u8> {
+    let parts = [
+        (table.unwrap_or(0), table.map_or_else(Vec::new, |_| bytes_of(&random_table(random, settings)))),
+        (guides, bytes_of(&random_guides(random, settings))),
+        (0, bytes_of(&random_values(random, settings))),
+    ];
+    let first = parts.iter().map(|part| part.0).min().unwrap_or(0);
+    let mut body = junk(random);
+    let before = body.len();
+    let place = |start: isize| before + (start - first) as usize;
+    for (start, bytes) in &parts {
+        let end = place(*start) + bytes.len();
+        body.extend(random.bytes(end.saturating_sub(body.len())));
+        body[place(*start)..end].copy_from_slice(bytes);
+    }
+    body.extend(junk(random));
+    closed(body, settings, [Some(place(0)), Some(place(guides)), table.map(place)])
+}
+
 /// Makes bytes 0 until every number is `right`. No number grows by that, so that guides below their count stay below it
 /// when the values are lowered after them.
 fn lower(plane: &mut [u8], right: impl Fn(u16) -> bool) {

@@ -4,8 +4,8 @@ mod damage;
 mod files;
 mod planes;
 
-pub use damage::{damage, damage_table};
-pub use files::{accepted_file, accepted_file_of, overlapping_file, settings};
+pub use damage::{damage, damage_table, put_distance};
+pub use files::{accepted_file, accepted_file_of, laid_out_file, overlapping_file, settings};
 pub use planes::{kill, random_classes, random_guides, random_table, random_values};
 
 use crate::frame::Settings;
