@@ -19,7 +19,16 @@ inline Kind kind_of(int contest) {
 inline bool is_coarse(int contest) { return contest == COARSE_TABLE || contest == COARSE_GUIDED; }
 // A tolerance is by way 1 and of kind 1.
 inline bool has_tolerance(Contest contest) { return contest == JOINT_TABLE || contest == JOINT_OWN; }
+// Ice of the contest's kind and with its table, of which so many pixels of a hundred are dead.
+inline Frame ice_for(Contest contest, Settings k, uint32_t dead_percent) {
+    k.kind = kind_of(contest);
+    Frame frame = ice(k);
+    if (contest == JOINT_OWN) frame.own_table();
+    kill(frame, dead_percent);
+    return frame;
+}
 inline constexpr double NOT_TIMED = 0;
+inline double quotient(double a, double b) { return a == NOT_TIMED || b == NOT_TIMED ? NOT_TIMED : a / b; }
 // Every contestant has so many turns, and its best counts.
 inline constexpr int ROUNDS = 6;
 
