@@ -172,6 +172,21 @@ class Library {
 #endif
     }
     const std::vector<uint8_t> &last_written() const { return written; }
+    // A file split into byte planes, and such a file joined, in buffers of the caller.
+    static void split([[maybe_unused]] const std::vector<uint8_t> &from, [[maybe_unused]] std::vector<uint8_t> &to) {
+#ifdef WITH_LIBRARY
+        uint64_t offset;
+        accept(icemedian_split(from.data(), from.size(), to.data(), to.size(), &offset));
+#endif
+    }
+    static void join([[maybe_unused]] const std::vector<uint8_t> &from, [[maybe_unused]] std::vector<uint8_t> &to) {
+#ifdef WITH_LIBRARY
+        accept(icemedian_join(from.data(), from.size(), to.data(), to.size()));
+#endif
+    }
+    // The same of the frame's own file: one that is not split is rearranged by a join all the same.
+    void split() { split(file, written); }
+    void join() { join(file, written); }
     // The contestants must have done the same work.
     void compare(const Walk &yardstick, const char *name) const {
         if (shifts != yardstick.shifts) std::printf("shift counts differ: %s\n", name), std::exit(1);
