@@ -32,6 +32,9 @@
 //!
 //! Where levels are known within a tolerance, [`tolerance`] gives the least and the greatest answer of each pixel.
 //!
+//! For an archive, [`split`] moves the high bytes of a frame's values before their low bytes, and [`join`] gives the very
+//! file back.
+//!
 //! A refusal says its number and its reason:
 //!
 //! ```
@@ -42,6 +45,7 @@
 //! assert!(refusal.to_string().starts_with("refused 1: "));
 //! ```
 
+mod byte_planes;
 mod explanation;
 pub mod raw;
 mod reading;
@@ -50,6 +54,7 @@ mod settings;
 mod stores;
 mod tolerance;
 
+pub use byte_planes::{join, join_into, split, split_into};
 pub use explanation::{Cause, Explanation};
 pub use reading::{reading, Answer, NO_READING, OFF_PICTURE, UNKNOWN_MOVE};
 pub use refusal::{Part, Refusal};

@@ -110,6 +110,16 @@ mod c {
             length: *mut usize,
             offset: *mut u64,
         ) -> u32;
+
+        pub fn icemedian_split(
+            file: *const u8,
+            file_length: usize,
+            output: *mut u8,
+            output_length: usize,
+            offset: *mut u64,
+        ) -> u32;
+
+        pub fn icemedian_join(file: *const u8, file_length: usize, output: *mut u8, output_length: usize) -> u32;
     }
 }
 
@@ -312,4 +322,16 @@ pub fn write(
             offset,
         )
     }
+}
+
+/// `icemedian_split`.
+pub fn split(file: &[u8], output: &mut [u8], offset: &mut u64) -> u32 {
+    // SAFETY: each pointer and length belong to one slice; the output overlaps no other.
+    unsafe { c::icemedian_split(file.as_ptr(), file.len(), output.as_mut_ptr(), output.len(), offset) }
+}
+
+/// `icemedian_join`.
+pub fn join(file: &[u8], output: &mut [u8]) -> u32 {
+    // SAFETY: each pointer and length belong to one slice; the output overlaps no other.
+    unsafe { c::icemedian_join(file.as_ptr(), file.len(), output.as_mut_ptr(), output.len()) }
 }

@@ -1,4 +1,4 @@
-//! Refusals, by document 01's numbers and document 02's 13.
+//! Refusals, by document 01's numbers and document 02's 13 and 14.
 
 use crate::{reading, Settings, Weights, NO_READING};
 use std::error::Error;
@@ -57,6 +57,9 @@ pub enum Refusal {
     /// 13: the first pixel, counted row by row from the top left, whose upper level does not go with its reading: it is
     /// below the reading or no level of the frame, or only one of the two is [`NO_READING`].
     UpperLevel { pixel: usize, reading: u16, upper: u16 },
+    /// 14: this part, the guide plane or else the table, has a byte in common with the value plane, which can then not be
+    /// split or joined alone.
+    Overlap { part: Part },
     /// A status that the documents do not have: the archive is not the one that this crate is written for.
     Unknown { status: u32 },
     /// An explanation whose cause document 02 does not have, though no check fired: likewise.
@@ -94,6 +97,30 @@ impl Refusal {
             13 => Err(Refusal::upper(file, upper)),
             _ => Refusal::of_reading(status, offset, file),
         }
+    }
+
+    /// What a status says of a call that splits or joins a value plane.
+    pub(crate) fn of_byte_planes(status: u32, offset: u64, file: &[u8]) -> Result<(), Refusal> {
+        match status {
+            14 => Err(Refusal::overlap(file)),
+            _ => Refusal::of_reading(status, offset, file),
+        }
+    }
+
+    /// The first part that overlaps the value plane in a file that number 14 refuses, and no check from 1 to 6.
+    fn overlap(file: &[u8]) -> Refusal {
+        let settings = Settings::of_trailer(file);
+        let start = |place: usize| file.len() - 28 - distance_at(file, place) as usize;
+        let (plane, table) = (2 * settings.pixels(), 2 * settings.table_weights());
+        let values = start(12);
+        let overlaps = |start: usize, length: usize| start < values + plane && values < start + length;
+        if overlaps(start(16), plane) {
+            return Refusal::Overlap { part: Part::Guide };
+        }
+        if distance_at(file, 20) != 0 && overlaps(start(20), table) {
+            return Refusal::Overlap { part: Part::Table };
+        }
+        Refusal::Unknown { status: 14 }
     }
 
     /// What is at fault in a plane of upper levels that number 13 refuses, the file being one that no check refuses.
@@ -164,6 +191,7 @@ impl Refusal {
             Refusal::Moves => 10,
             Refusal::Room => 11,
             Refusal::UpperLength { .. } | Refusal::UpperLevel { .. } => 13,
+            Refusal::Overlap { .. } => 14,
             Refusal::Unknown { status } => status,
             Refusal::UnknownCause { .. } => 0,
         }
@@ -218,6 +246,7 @@ impl fmt::Display for Refusal {
                 }
                 _ => write!(f, "the upper level of pixel {pixel} is {upper}, which is none of the frame's levels"),
             },
+            Refusal::Overlap { part } => write!(f, "the {part} has a byte in common with the value plane"),
             Refusal::Unknown { .. } => write!(f, "a status that the documents do not have"),
             Refusal::UnknownCause { cause } => write!(f, "a cause, {cause}, that document 02 does not have"),
         }

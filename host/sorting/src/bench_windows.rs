@@ -1,6 +1,8 @@
 //! Document 01's bench windows A to H, D as document 02's request 3 has it, its edges and its 40-byte frame, rows of
-//! hollow windows, of dead pixels, of the coarse way and of tolerances, what explains them, and a few rows more.
+//! hollow windows, of dead pixels, of the coarse way, of tolerances and of byte planes, what explains them, and a few rows
+//! more.
 
+use crate::byte_planes::{join, join_plane, split, split_plane};
 use crate::calls;
 use crate::cases::bytes_of_hex;
 use crate::explain::{Cause, Explanation};
@@ -661,6 +663,73 @@ fn a_tolerance_refuses_in_order() {
     assert_eq!(refused(&file, &UPPER, &tolerance::Lengths { words: 7, ..room }), Err(11));
     assert_eq!(refused(&file, &UPPER, &tolerance::Lengths { least: 4, ..room }), Err(11));
     assert_eq!(refused(&file, &UPPER, &tolerance::Lengths { greatest: 4, ..room }), Err(11));
+}
+
+/// A row of three values whose six bytes lie at 0, its guide plane at 6, its table at 12 and its trailer at 20.
+fn moved_file() -> Vec<u8> {
+    let frame = row(KIND_TABLE, 1024, 2, 1, &[0x0102, 0x0304, 0x0203], &[0, 1, 0], &[1, 2, 3, 4]);
+    write(&frame.settings.asked(), &frame.values, &frame.guides, &frame.table, usize::MAX).unwrap()
+}
+
+#[test]
+fn high_bytes_come_first_and_low_bytes_after() {
+    let file = moved_file();
+    let moved = split(&file, file.len()).unwrap();
+    assert_eq!((&file[..6], &moved[..6]), ([1, 2, 3, 4, 2, 3].as_slice(), [1, 3, 2, 2, 4, 3].as_slice()));
+    assert_eq!(file[6..], moved[6..]);
+    assert_eq!(join(&moved, moved.len()), Ok(file));
+    // A file that is not split is joined all the same, and one number is its own byte planes.
+    assert_eq!(join_plane(&[1, 2, 3, 4, 2, 3]), [1, 4, 2, 2, 3, 3]);
+    assert_eq!((split_plane(&[1, 2]), join_plane(&[1, 2])), (vec![1, 2], vec![1, 2]));
+}
+
+#[test]
+fn byte_planes_refuse_in_order() {
+    let given = |changes: &[(usize, u8)], lent: usize| {
+        let mut file = moved_file();
+        changes.iter().for_each(|&(place, byte)| file[place] = byte);
+        let refused = |result: Result<Vec<u8>, Refusal>| result.err().map(|refusal| refusal.to_string());
+        [split(&file, lent), join(&file, lent)].map(refused)
+    };
+    let both = |number: u8| [number, number].map(|number| Some(format!("refused {number}")));
+    // The last bytes of the three distances, which are 20, 14 and 8.
+    let (values, guide, table) = (35, 39, 43);
+    assert_eq!(given(&[], 48), [None, None]);
+    assert_eq!(given(&[], 47), both(11));
+    // One byte in common, at either end, with the guide plane and with the table.
+    for changes in [[(guide, 15)], [(values, 13)], [(table, 15)], [(values, 8)]] {
+        assert_eq!(given(&changes, 48), both(14));
+        assert_eq!(given(&changes, 0), both(14));
+    }
+    assert_eq!(given(&[(values, 13), (table, 0)], 48), both(14));
+    // The guide plane and the table may have bytes in common, and distance 0 is no table.
+    assert_eq!(given(&[(table, 14)], 48), [None, None]);
+    assert_eq!(given(&[(values, 6), (guide, 12), (table, 0)], 48), [None, None]);
+    // A value of 1,026 is no level, nor need it be one to be joined.
+    assert_eq!(given(&[(0, 4)], 48), [Some("refused 7 0".to_string()), None]);
+    assert_eq!(given(&[(0, 4)], 47), [Some("refused 7 0".to_string()), Some("refused 11".to_string())]);
+    assert_eq!(given(&[(0, 4), (guide, 15)], 0), both(14));
+    assert_eq!(given(&[(guide, 15), (table, 21)], 48), both(6));
+}
+
+#[test]
+fn a_split_file_is_joined_to_the_very_file() {
+    let mut random = Random::new(10);
+    let (mut moved, mut refused) = (0, 0);
+    for _ in 0..600 {
+        let file = accepted_file(&mut random, 6);
+        match split(&file, file.len()) {
+            Ok(split) => {
+                assert_eq!(join(&split, file.len()), Ok(file));
+                moved += 1;
+            }
+            Err(refusal) => {
+                assert_eq!((refusal, join(&file, file.len())), (Refusal::of(14), Err(refusal)));
+                refused += 1;
+            }
+        }
+    }
+    assert!(moved > 300 && refused > 50, "{moved} {refused}");
 }
 
 #[test]

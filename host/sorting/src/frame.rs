@@ -1,6 +1,7 @@
 //! The frame: planes first, a trailer of 28 bytes last that points back to them.
 
 use crate::refusal::{check, Refusal};
+use std::ops::Range;
 
 /// Length of the trailer in bytes.
 pub const TRAILER: usize = 28;
@@ -116,6 +117,13 @@ impl Places {
     pub fn overlap(&self, settings: &Settings) -> Option<usize> {
         let apart = self.values.abs_diff(self.guides);
         (apart < 2 * settings.pixels()).then_some(apart)
+    }
+
+    /// The bytes of the value plane, of the guide plane and of the table, which has none for distance 0.
+    pub fn bytes(&self, settings: &Settings) -> [Range<usize>; 3] {
+        let part = |place: usize, numbers: usize| place..place + 2 * numbers;
+        let table = self.table.map_or(0..0, |place| part(place, settings.table_weights()));
+        [part(self.values, settings.pixels()), part(self.guides, settings.pixels()), table]
     }
 }
 

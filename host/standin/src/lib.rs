@@ -15,7 +15,7 @@ use sorting_filter::calls::{self, Walked};
 use sorting_filter::frame::{locate, open, Asked};
 use sorting_filter::refusal::Refusal;
 use sorting_filter::store::{ChainEntry, Lengths, Stores, BOX_CELLS};
-use sorting_filter::{walk, writer};
+use sorting_filter::{byte_planes, walk, writer};
 use std::{ptr, slice};
 
 /// The stores and the answer buffer that a call lends.
@@ -413,4 +413,31 @@ pub unsafe extern "C" fn icemedian_write(
             status
         }
     }
+}
+
+/// # Safety
+/// As the header says.
+#[no_mangle]
+pub unsafe extern "C" fn icemedian_split(
+    file: *const u8,
+    file_length: usize,
+    output: *mut u8,
+    output_length: usize,
+    offset: &mut u64,
+) -> u32 {
+    let (file, output) = (read(file, file_length), lend(output, output_length));
+    report(byte_planes::split(file, output.len()), offset).map(|split| front(output, &split)).err().unwrap_or(0)
+}
+
+/// # Safety
+/// As the header says.
+#[no_mangle]
+pub unsafe extern "C" fn icemedian_join(
+    file: *const u8,
+    file_length: usize,
+    output: *mut u8,
+    output_length: usize,
+) -> u32 {
+    let (file, output) = (read(file, file_length), lend(output, output_length));
+    byte_planes::join(file, output.len()).map(|joined| front(output, &joined)).err().map_or(0, |r| r.number.into())
 }
