@@ -19,7 +19,16 @@ inline Kind kind_of(int contest) {
 inline bool is_coarse(int contest) { return contest == COARSE_TABLE || contest == COARSE_GUIDED; }
 // A tolerance is by way 1 and of kind 1.
 inline bool has_tolerance(Contest contest) { return contest == JOINT_TABLE || contest == JOINT_OWN; }
+// Ice of the contest's kind and with its table, of which so many pixels of a hundred are dead.
+inline Frame ice_for(Contest contest, Settings k, uint32_t dead_percent) {
+    k.kind = kind_of(contest);
+    Frame frame = ice(k);
+    if (contest == JOINT_OWN) frame.own_table();
+    kill(frame, dead_percent);
+    return frame;
+}
 inline constexpr double NOT_TIMED = 0;
+inline double quotient(double a, double b) { return a == NOT_TIMED || b == NOT_TIMED ? NOT_TIMED : a / b; }
 // Every contestant has so many turns, and its best counts.
 inline constexpr int ROUNDS = 6;
 
@@ -163,6 +172,21 @@ class Library {
 #endif
     }
     const std::vector<uint8_t> &last_written() const { return written; }
+    // A file split into byte planes, and such a file joined, in buffers of the caller.
+    static void split([[maybe_unused]] const std::vector<uint8_t> &from, [[maybe_unused]] std::vector<uint8_t> &to) {
+#ifdef WITH_LIBRARY
+        uint64_t offset;
+        accept(icemedian_split(from.data(), from.size(), to.data(), to.size(), &offset));
+#endif
+    }
+    static void join([[maybe_unused]] const std::vector<uint8_t> &from, [[maybe_unused]] std::vector<uint8_t> &to) {
+#ifdef WITH_LIBRARY
+        accept(icemedian_join(from.data(), from.size(), to.data(), to.size()));
+#endif
+    }
+    // The same of the frame's own file: one that is not split is rearranged by a join all the same.
+    void split() { split(file, written); }
+    void join() { join(file, written); }
     // The contestants must have done the same work.
     void compare(const Walk &yardstick, const char *name) const {
         if (shifts != yardstick.shifts) std::printf("shift counts differ: %s\n", name), std::exit(1);

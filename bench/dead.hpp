@@ -19,8 +19,6 @@ struct Dead {
     // The library's time with that part dead, over that of the ordinary frame and over the C++'s.
     double over_ordinary(size_t part) const { return quotient(library[part], library[0]); }
     double over_yardstick(size_t part) const { return quotient(library[part], yardstick[part]); }
-
-    static double quotient(double a, double b) { return a == NOT_TIMED || b == NOT_TIMED ? NOT_TIMED : a / b; }
 };
 using AllDead = std::vector<Dead>;
 
@@ -31,11 +29,8 @@ inline Dead measure_dead(Contest contest, Settings k) {
     std::vector<Frame> frames;
     std::vector<Library> libraries;
     for (uint32_t percent : DEAD_PARTS) {
-        Frame frame = ice(k);
-        if (contest == JOINT_OWN) frame.own_table();
-        kill(frame, percent);
-        frames.push_back(frame);
-        libraries.emplace_back(contest, frame);
+        frames.push_back(ice_for(contest, k, percent));
+        libraries.emplace_back(contest, frames.back());
     }
     for (int round = 0; round < ROUNDS; round++)
         for (size_t part = 0; part < PARTS; part++) {

@@ -31,6 +31,8 @@ struct Settings {
     int width, height, levels, guides;
     Kind kind;
     int radius, smoothing;
+
+    size_t pixels() const { return size_t(width) * height; }
 };
 
 struct Frame : Settings {
@@ -55,7 +57,6 @@ struct Frame : Settings {
         weigh(65535);
     }
 
-    size_t pixels() const { return size_t(width) * height; }
     bool live(size_t pixel) const { return values[pixel] != NO_READING; }
     size_t dead_pixels() const {
         size_t dead = 0;

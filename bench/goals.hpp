@@ -1,5 +1,6 @@
 // The goals, each held against the times of the run.
 #pragma once
+#include "byte_planes.hpp"
 #include "dead.hpp"
 #include "explaining.hpp"
 #include "rows.hpp"
@@ -79,8 +80,16 @@ inline void add_tolerance_goals(const Tolerances &all, std::vector<Goal> &goals)
                              Goal::AT_MOST, 2.1, mean_tolerance(all, picture, contest)});
 }
 
+// Both calls beside loops that only move bytes.
+inline void add_byte_planes_goals(const AllBytePlanes &all, std::vector<Goal> &goals) {
+    for (const BytePlanes &one : all) {
+        goals.push_back({std::string("split's time / plain loop's, ") + one.frame, Goal::AT_MOST, 1.5, one.split_times()});
+        goals.push_back({std::string("join's time / plain loop's, ") + one.frame, Goal::AT_MOST, 1.5, one.join_times()});
+    }
+}
+
 inline std::vector<Goal> goals_of(const Rows &rows, const AllDead &dead, const Tolerances &tolerances,
-                                  const Explained &explained, const Written &written) {
+                                  const Explained &explained, const Written &written, const AllBytePlanes &byte_planes) {
     std::vector<Goal> goals;
     for (Picture picture : {ICE, NOISE})
         goals.push_back({"OpenCV's time / library's, joint, kind 1," + place(picture), Goal::AT_LEAST,
@@ -107,13 +116,14 @@ inline std::vector<Goal> goals_of(const Rows &rows, const AllDead &dead, const T
     goals.push_back(longest(explained));
     for (const Writing &one : written)
         goals.push_back({std::string("writing's time / plain loops', ") + one.weights, Goal::AT_MOST, 1.5, one.times()});
+    add_byte_planes_goals(byte_planes, goals);
     return goals;
 }
 
 inline void print_goals(const Rows &rows, const AllDead &dead, const Tolerances &tolerances, const Explained &explained,
-                        const Written &written) {
+                        const Written &written, const AllBytePlanes &byte_planes) {
     std::printf("\n## Goals\n\nGeometric means over the frames of this run.\n\n| goal | seen | |\n|---|---|---|\n");
-    for (const Goal &goal : goals_of(rows, dead, tolerances, explained, written)) goal.print();
+    for (const Goal &goal : goals_of(rows, dead, tolerances, explained, written, byte_planes)) goal.print();
 }
 
 }  // namespace bench

@@ -189,9 +189,11 @@ int main(int count, char **words) {
     print_explaining(explained);
     Written written = measure_all_writing();
     print_writing(written);
+    AllBytePlanes byte_planes = measure_all_byte_planes();
+    print_byte_planes(byte_planes);
     print_full_frames(rows);
     print_memory();
-    print_goals(rows, dead, tolerances, explained, written);
+    print_goals(rows, dead, tolerances, explained, written, byte_planes);
     print_headline(rows);
     std::chrono::duration<double> passed = std::chrono::steady_clock::now() - start;
     std::printf("\nThe measurements took %.0f seconds.\n", passed.count());

@@ -40,6 +40,8 @@ inline constexpr Call CALLS[] = {
     {"a balance", [](Library &library) { library.balance(0, 0, 1); }, ICEMEDIAN_BALANCE_STACK},
     {"an explanation", [](Library &library) { library.explain(0, 0); }, ICEMEDIAN_EXPLAIN_STACK},
     {"a check", [](Library &library) { library.check(); }, ICEMEDIAN_CHECK_STACK},
+    {"a split", [](Library &library) { library.split(); }, ICEMEDIAN_SPLIT_STACK},
+    {"a join", [](Library &library) { library.join(); }, ICEMEDIAN_JOIN_STACK},
     {"a writing", [](Library &library) { library.write(); }, ICEMEDIAN_WRITE_STACK},
 };
 

@@ -10,6 +10,6 @@ inline std::string number(const char *format, double value) {
     std::snprintf(text, sizeof text, format, value);
     return value == NOT_TIMED || !std::isfinite(value) ? "-" : text;
 }
-inline std::string ratio(double a, double b) { return a == NOT_TIMED || b == NOT_TIMED ? "-" : number("%.2f", a / b); }
+inline std::string ratio(double a, double b) { return number("%.2f", quotient(a, b)); }
 
 }  // namespace bench

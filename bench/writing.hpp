@@ -1,24 +1,10 @@
 // Writing a frame beside plain loops that make the same checks of the planes and store the same bytes.
 #pragma once
+#include "below.hpp"
 #include "contest.hpp"
 #include "text.hpp"
 
 namespace bench {
-
-// Whether all numbers of a plane are below a limit, but for 65,535, no reading, among the values: one by one with a way
-// out, as check 7 needs the first that is not; and by their largest, which the compiler makes faster. One more than no
-// reading is 0 in 16 bits.
-template <bool VALUES> bool one_by_one(const std::vector<uint16_t> &plane, int limit) {
-    for (uint16_t number : plane)
-        if (number >= limit && !(VALUES && number == NO_READING)) return false;
-    return true;
-}
-template <bool VALUES> bool by_the_largest(const std::vector<uint16_t> &plane, int limit) {
-    constexpr int MORE = VALUES ? 1 : 0;
-    uint16_t largest = 0;
-    for (uint16_t number : plane) largest = std::max(largest, uint16_t(number + MORE));
-    return largest < limit + MORE;
-}
 
 inline uint8_t *stored(const std::vector<uint16_t> &from, uint8_t *__restrict__ output) {
     const uint16_t *__restrict__ numbers = from.data();
@@ -31,9 +17,9 @@ inline uint8_t *stored(const std::vector<uint16_t> &from, uint8_t *__restrict__ 
 
 // A call of its own, as the library's is. Both planes are checked before a byte is stored, because a refusal leaves the
 // output as it was.
-template <auto VALUES, auto GUIDES>
+template <Search SEARCH>
 [[gnu::noinline]] bool write_plainly(const Settings &k, const Planes &planes, uint8_t *output) {
-    if (!VALUES(planes.values, k.levels) || !GUIDES(planes.guide, k.guides)) return false;
+    if (!below_limits<SEARCH>(k, planes.values, planes.guide)) return false;
     stored(planes.table, stored(planes.guide, stored(planes.values, output)));
     return true;
 }
@@ -48,11 +34,8 @@ struct Writing {
 using Written = std::vector<Writing>;
 
 // Times all on one frame, in turns of many calls each.
-inline Writing measure_writing(const char *weights, Contest contest, Settings k, uint32_t dead_percent = 0) {
-    k.kind = kind_of(contest);
-    Frame frame = ice(k);
-    kill(frame, dead_percent);
-    if (contest == JOINT_OWN) frame.own_table();
+inline Writing measure_writing(const char *weights, Contest contest, const Settings &k, uint32_t dead_percent = 0) {
+    Frame frame = ice_for(contest, k, dead_percent);
     Writing times{weights};
     Library library(contest, frame);
     Planes planes(frame);
@@ -65,8 +48,8 @@ inline Writing measure_writing(const char *weights, Contest contest, Settings k,
         same &= std::equal(plain.begin(), plain.end(), file.begin());
     };
     for (int round = 0; round < ROUNDS; round++) {
-        plain_turn(times.one_by_one, write_plainly<one_by_one<true>, one_by_one<false>>);
-        plain_turn(times.by_the_largest, write_plainly<by_the_largest<true>, by_the_largest<false>>);
+        plain_turn(times.one_by_one, write_plainly<ONE_BY_ONE>);
+        plain_turn(times.by_the_largest, write_plainly<BY_THE_LARGEST>);
         if (Library::LINKED) turn(times.library, [&] { library.write(); });
     }
     if (!same || (Library::LINKED && library.last_written() != file))
