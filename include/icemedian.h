@@ -233,8 +233,8 @@ uint32_t icemedian_write(uint32_t width, uint32_t height, uint32_t levels, uint3
 
 /* Splits the value plane of a file into byte planes, which pack better: checks 1 to 6, 14, 7 and 11, in this order.
  * `output` gets the file's bytes, as many as it has, each in its place but for the value plane: there the high bytes of
- * all values come first, pixel by pixel, and then the low bytes. A split file has the frame's trailer, but its value
- * plane holds no levels: join it before any other call. */
+ * all values come first, pixel by pixel, and then the low bytes. A split file has the frame's trailer and nothing marks
+ * it, but its value plane holds no levels: join it before any other call. `output` must not be `file` itself. */
 uint32_t icemedian_split(const uint8_t *file, size_t file_length,
                          uint8_t *output, size_t output_length, uint64_t *offset);
 

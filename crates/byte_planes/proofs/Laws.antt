@@ -23,10 +23,10 @@ use Rattle.spec.proofs.Outcomes.{stopped, past}
 use Rattle.spec.proofs.BytePlanes.{file-split-long, file-joined-long}
 use Rattle.byte_planes.specs.Contract.{Splits, Joins}
 
--- ---- where the parts lie: behind the value plane comes the trailer at least
+-- ---- where the parts lie: behind them comes the trailer at least
 pub record PartsFit (b : List ℕ) (plan : Plan) : Type 0 where
   pub values : plan .value + 2 * (plan .width * plan .height) < length b
-  pub guides : plan .guide + 2 * (plan .width * plan .height) ≤ length b
+  pub guides : plan .guide + 2 * (plan .width * plan .height) < length b
   pub table : plan .table + 2 * plan .weights ≤ length b
 
 fit-plan : (b : List ℕ) → trailerOutcome b ≡ accepted → PartsFit b (planOf b)
@@ -36,7 +36,7 @@ fit-plan b e =
     let n = h .near in
     record {
       values = omega (arith, h .long, n .value-long, n .value-in);
-      guides = omega (arith, n .guide-long, n .guide-in);
+      guides = omega (arith, h .long, n .guide-long, n .guide-in);
       table = omega (arith, n .table-long, n .table-in);
     }
 

@@ -90,7 +90,10 @@ fn may_reach(file: &[u8], values: bool, offset: usize, limit: usize) -> bool
     if (bits_of_file(file, offset) as usize) < limit {
         return false;
     }
-    limit <= most_of_file(file, values, offset) as usize
+    if (most_of_file(file, values, offset) as usize) < limit {
+        return false;
+    }
+    true
 }
 
 // So many of the n numbers from an offset on.

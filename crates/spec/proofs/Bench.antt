@@ -282,8 +282,8 @@ placedA = placed (take 12 fileA) (settings 3 1 8 4 2 1 1)
 abbrev placedTable : ℕ → ℕ → ℕ → List ℕ
 placedTable = placed (take 12 fileA) (settings 1 1 8 2 1 0 0)
 
--- document 02, ask 8: the ask's value plane, 0102 0304 0203; and a table of two by two, a guide plane and a value plane of two pixels, 0203 0102,
--- with a byte before, between and behind them, of which the planes and the table may be any part
+-- document 02, ask 8: a value plane of 0102 0304 0203; and a table of two by two, a guide plane and a value plane of two pixels, 0203 0102, with a
+-- byte before, between and behind them, of which the planes and the table may be any part
 abbrev fileWords : List ℕ
 fileWords = made 3 1 1024 4 2 1 1 (0x102 ∷ 0x304 ∷ 0x203 ∷ []) (0 ∷ 0 ∷ 2 ∷ []) []
 

@@ -60,7 +60,7 @@ mul-join-file : tie.Need-mul-join-file
 mul-join-file c = omega (arith, fit (c .before) .values)
 
 join-file-requires : tie.Need-join-file-requires
-join-file-requires c κs = (fit (c .before .before) .values, c .before .before .before .if2 .left)
+join-file-requires c κs = let f = fit (c .before .before) in (omega (arith, f .values, f .guides), c .before .before .before .if2 .left)
 
 same-length : tie.Need-same-length
 same-length c = search needs

@@ -9,19 +9,22 @@ add-if1 : tie.Need-add-if1
 add-if1 c = search needs
 
 returns : tie.Need-returns
-returns c = ends-before _ _ _ _ (c .if1 .taken)
+returns c = let s = c .before .args in ends-before (s .a) (s .m) (s .c) (s .n) (omega (arith, c .if1 .taken))
 
 add-if2 : tie.Need-add-if2
 add-if2 c = search needs
 
 returns-2 : tie.Need-returns-2
-returns-2 c = begins-behind _ _ _ _ (c .if2 .taken)
+returns-2 c = let s = c .before .before .args in begins-behind (s .a) (s .m) (s .c) (s .n) (omega (arith, c .if2 .taken))
 
 returns-3 : tie.Need-returns-3
 returns-3 c = first-empty _ _ _ _ (c .if3 .taken)
 
 returns-4 : tie.Need-returns-4
-returns-4 c = second-decides _ _ _ _ (c .before .before .if1 .left) (c .before .if2 .left) (omega (arith, c .if3 .left))
+returns-4 c =
+    let s = c .before .before .before .args in
+    second-decides (s .a) (s .m) (s .c) (s .n) (omega (arith, c .before .before .if1 .left)) (omega (arith, c .before .if2 .left))
+    (omega (arith, c .if3 .left))
 
 pub overlap-spec : {M : Type 1} → statement M
 overlap-spec = tie.close (tie.spec add-if1 returns add-if2 returns-2 returns-3 returns-4)

@@ -1,8 +1,8 @@
--- `frame_below::may_reach` meets its contract. Assumes nothing.
+-- `frame_below::may_reach` meets its contract: where the bits or the largest are below the limit, all are. Assumes nothing.
+use mathlib.Core.Bool.{true≢false}
 use Rattle.frame_below.proofs.BelowLaws.{judged-below}
 use native.Mathlib.Omega.{arith}
 use borrow.Author.Needs.{needs}
-use borrow.Author.Tests.{leb-false}
 use Rattle.frame_below.proofs.may_reach.Statement.{statement}
 use Rattle.frame_below.proofs.may_reach.Tie as tie
 
@@ -19,12 +19,14 @@ returns c = λ no j less.
 most-of-file-requires : tie.Need-most-of-file-requires
 most-of-file-requires c κs = search needs
 
-cast-result : tie.Need-cast-result
-cast-result c = search needs
+cast-if2 : tie.Need-cast-if2
+cast-if2 c = search needs
 
 returns-2 : tie.Need-returns-2
-returns-2 c = λ no j less.
-    omega (arith, leb-false (c .before .before .before .before .args .limit) (c .most-of-file .result) no, c .most-of-file .ensures j less)
+returns-2 c = λ no j less. omega (arith, c .if2 .taken, c .before .most-of-file .ensures j less)
+
+returns-3 : tie.Need-returns-3
+returns-3 c = λ no. absurd (true≢false no)
 
 pub may-reach-spec : {M : Type 1} → statement M
-may-reach-spec = tie.close (tie.spec bits-of-file-requires cast-if1 returns most-of-file-requires cast-result returns-2)
+may-reach-spec = tie.close (tie.spec bits-of-file-requires cast-if1 returns most-of-file-requires cast-if2 returns-2 returns-3)
