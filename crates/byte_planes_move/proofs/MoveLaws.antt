@@ -46,10 +46,6 @@ pub none-put : (l file : List ℕ) (from at : ℕ) → l ≡ sets l at (everyOth
 unfolding everyOther tabulate tabulateFrom
 none-put l file from at = refl
 
-pub length-everyOther : (file : List ℕ) (from n : ℕ) → length (everyOther file from n) ≡ n
-unfolding everyOther
-length-everyOther file from n = length-tabulate n _
-
 -- so many more of them behind so many
 pub more-put : (l file : List ℕ) (from at q m : ℕ) {place start : ℕ} {old new : List ℕ} → old ≡ sets l at (everyOther file from q)
     → new ≡ sets old place (everyOther file start m) → place ≡ at + q → start ≡ from + 2 * q → new ≡ sets l at (everyOther file from (q + m))

@@ -4,11 +4,10 @@ use mathlib.Core.Path.{_≡_, refl, sym, ap, _∙_, subst}
 use mathlib.Core.Bool.{Bool, true, false, true≢false, _||_}
 use mathlib.Core.Logic.{_⊎_, inl, inr}
 use mathlib.Core.List.{List, _++_}
-use Prim.Native.Nat.{ℕ, _+_, _-_, _*_, _≤_, _<_}
+use Prim.Native.Nat.{ℕ, _+_, _-_, _*_, _<_}
 use native.Mathlib.Omega.{arith}
 use lib.ListN.{length, getD, take, drop, length-append, length-drop, List·getD-append}
 use lib.Seq.{take-at, getD-append-add, getD-drop}
-use Rattle.spec.specs.declared.Plan.{Plan}
 use Rattle.spec.specs.declared.Verdict.{Verdict}
 use Rattle.spec.specs.declared.Verdict.the-variants.{Accepted, Refused}
 use Rattle.spec.specs.Refusal.{Outcome, accepted, refused, numbered}
@@ -30,8 +29,8 @@ use Rattle.spec.proofs.BytePlanes.{
   split-passed,
   split-joins,
 }
-use Rattle.byte_planes.specs.Contract.{Splits, Joins}
-use Rattle.demands.specs.Demands.{SplitOrRefused, JoinedOrRefused, BytesSplit, EveryByte, Restored, In, SharedByte, Request8}
+use Rattle.byte_planes.specs.Contract.{Joins}
+use Rattle.demands.specs.Demands.{SplitOrRefused, JoinedOrRefused, EveryByte, Restored, In, SharedByte, Request8}
 
 -- ---- a verdict and its outcome, and the output that it leads to
 pub accepted-verdict : (v : Verdict) → numbered v ≡ accepted → v ≡ Accepted

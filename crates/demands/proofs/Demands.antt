@@ -18,9 +18,8 @@ use Rattle.spec.specs.declared.Move.the-variants.{To}
 use Rattle.spec.specs.declared.Cause.{Cause}
 use Rattle.spec.specs.declared.Cause.the-variants.{Hollow, Empty}
 use Rattle.spec.specs.declared.Grounds.{Grounds}
-use Rattle.spec.specs.declared.Verdict.{Verdict}
 use Rattle.spec.specs.declared.Way.the-variants.{Joint}
-use Rattle.spec.specs.declared.Verdict.the-variants.{Accepted, Refused}
+use Rattle.spec.specs.declared.Verdict.the-variants.{Accepted}
 use Rattle.spec.specs.Refusal.{Outcome, accepted, refused, numbered}
 use Rattle.spec.specs.Frame.{Frame, pixels, frameOf, withValues}
 use Rattle.spec.specs.Window.{InWindow, pixelCount, empty}

@@ -15,7 +15,7 @@ use borrow.Author.Tests.{ltb-true, ltb-false, lt-ltb, le-ltb, eqb-true, eqb-fals
 use Rattle.spec.specs.declared.Plan.{Plan}
 use Rattle.spec.specs.declared.Settings.{Settings}
 use Rattle.spec.specs.Bytes.{be16, be32}
-use Rattle.spec.specs.Refusal.{Outcome, accepted, _▷_, refuse}
+use Rattle.spec.specs.Refusal.{accepted, _▷_, refuse}
 use Rattle.spec.specs.Frame.{trailerAt, settingsOf, trailerOf, ownWeights, planOf, pixels, valuePart}
 use Rattle.spec.specs.Checks.{badMark, settingsOutcome, badDistance, contents, trailerOutcome}
 use Rattle.spec.specs.BytePlanes.{
@@ -86,24 +86,6 @@ turn-next [] lows q h k = absurd (omega arith)
 turn-next (x ∷ highs) [] q h k = absurd (omega arith)
 turn-next (x ∷ highs) (y ∷ lows) zero h k = refl
 turn-next (x ∷ highs) (y ∷ lows) (suc q) h k = ap (λ (l : List ℕ). x ∷ y ∷ l) (turn-next highs lows q (omega arith) (omega arith))
-
-pub turn-high : (highs lows : List ℕ) (q : ℕ) → q < length highs → q < length lows → getD (inTurn highs lows) (2 * q) 0 ≡ getD highs q 0
-unfolding inTurn
-turn-high [] lows q h k = absurd (omega arith)
-turn-high (x ∷ highs) [] q h k = absurd (omega arith)
-turn-high (x ∷ highs) (y ∷ lows) zero h k = refl
-turn-high (x ∷ highs) (y ∷ lows) (suc q) h k =
-    let e : 2 * suc q ≡ suc (suc (2 * q)) = omega arith in
-    ap (λ (i : ℕ). getD (x ∷ y ∷ inTurn highs lows) i 0) e ∙ turn-high highs lows q (omega arith) (omega arith)
-
-pub turn-low : (highs lows : List ℕ) (q : ℕ) → q < length highs → q < length lows → getD (inTurn highs lows) (2 * q + 1) 0 ≡ getD lows q 0
-unfolding inTurn
-turn-low [] lows q h k = absurd (omega arith)
-turn-low (x ∷ highs) [] q h k = absurd (omega arith)
-turn-low (x ∷ highs) (y ∷ lows) zero h k = refl
-turn-low (x ∷ highs) (y ∷ lows) (suc q) h k =
-    let e : 2 * suc q + 1 ≡ suc (suc (2 * q + 1)) = omega arith in
-    ap (λ (i : ℕ). getD (x ∷ y ∷ inTurn highs lows) i 0) e ∙ turn-low highs lows q (omega arith) (omega arith)
 
 -- a plane's high bytes and low bytes in turn are the plane
 turned-back : (plane : List ℕ) (n : ℕ) → length plane ≡ 2 * n → inTurn (highBytes plane) (lowBytes plane) ≡ plane
