@@ -322,8 +322,8 @@ EveryByte =
     (b old : List ℕ) (r : Verdict) (new : List ℕ) → Splits b old r new → r ≡ Accepted
     → BytesSplit b old new (planOf b .value) (pixels (settingsOf b))
 
--- of a file that was split, the first bytes of the output, as many as the file has, are joined without refusal into any output with room for them, and
--- that output's first bytes are the file
+-- of a file that was split, the first bytes of the output, as many as the file has, are joined without refusal into any output with room for them,
+-- and that output's first bytes are the file
 abbrev pub Restored : Type 0
 Restored =
     (b old old′ : List ℕ) (r r′ : Verdict) (new new′ : List ℕ) → Splits b old r new → r ≡ Accepted → length b ≤ length old′

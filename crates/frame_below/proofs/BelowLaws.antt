@@ -1,18 +1,19 @@
 -- Laws of numbers below a limit, of any numbers: one more of which the largest is known, and so many more; and numbers with bits of others.
 -- Assumes nothing.
-use mathlib.Core.Path.{_≡_, subst}
+use mathlib.Core.Path.{_≡_, refl, sym, ap, _∙_, subst}
 use mathlib.Core.Logic.{⊎-elim}
-use Prim.Native.Nat.{ℕ, _+_, _-_, _/_, _%_, _≤_, _<_}
+use mathlib.Core.List.{List}
+use Prim.Native.Nat.{ℕ, _+_, _-_, _*_, _/_, _%_, _≤_, _<_}
 use native.Mathlib.Omega.{arith}
 use lib.Bits.{bitOr, or-add-and, and-le-l, and-le-r, or-mod, or-shr}
-use lib.Dec.{eqb}
 use borrow.Author.Count.{below-more}
 use mathlib.Core.Bool.{Bool, true, false}
-use Rattle.spec.specs.Base.{if_then_else_}
+use Rattle.spec.specs.Bytes.{AllBytes}
 use Rattle.spec.specs.Checks.{judged}
 use Rattle.spec.specs.Frame.{noReading}
-use Rattle.big_endian_part.specs.Part.{exchanged}
-use Rattle.ints.specs.Order.{lt-or-le}
+use Rattle.spec.proofs.Checks.{judged-same}
+use Rattle.big_endian_part.specs.Part.{lowFirst, exchanged}
+use Rattle.ints.specs.Order.{eq-or-ne, lt-or-le}
 use Rattle.frame_below.specs.Below.{Below}
 
 pub most-next : (number : ℕ → ℕ) {j most next : ℕ} → Below number j (most + 1) → most ≤ next → number j ≤ next → Below number (j + 1) (next + 1)
@@ -43,11 +44,22 @@ unfolding exchanged
 bits-right a b =
     omega (arith, or-mod a b 8, or-shr a b 8, or-right (a % 256) (b % 256), or-right (a / 256) (b / 256))
 
--- what is judged is not larger than the number
-pub judged-below : (values : Bool) {n limit : ℕ} → n < limit → judged values n < limit
-judged-below true {n} {limit} h = go (eqb n noReading)
+pub low-first-small : (b : List ℕ) → AllBytes b → (start q : ℕ) → lowFirst b start q < 65536
+unfolding lowFirst
+low-first-small b bytes start q = omega (arith, bytes (start + 2 * q), bytes (start + 2 * q + 1))
+
+-- no reading has the same two bytes, so a number may be judged before its bytes are exchanged
+exchanged-none : (n : ℕ) → n < 65536 → exchanged n ≡ noReading → n ≡ noReading
+unfolding exchanged
+exchanged-none n h e = omega arith
+
+pub judged-exchanged : (values : Bool) (n : ℕ) → n < 65536 → judged values (exchanged n) ≡ exchanged (judged values n)
+unfolding exchanged
+judged-exchanged false n h = refl
+judged-exchanged true n h = ⊎-elim dead live (eq-or-ne n noReading)
   where
-    go : (b : Bool) → (if b then 0 else n) < limit
-    go true = omega arith
-    go false = h
-judged-below false h = h
+    dead : n ≡ noReading → judged true (exchanged n) ≡ exchanged (judged true n)
+    dead e = rw e refl
+
+    live : (n ≡ noReading → ⊥) → judged true (exchanged n) ≡ exchanged (judged true n)
+    live other = judged-same true (exchanged n) (λ e. other (exchanged-none n h e)) ∙ ap exchanged (sym (judged-same true n other))

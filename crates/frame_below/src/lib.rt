@@ -65,18 +65,18 @@ fn most_of_file(file: &[u8], values: bool, offset: usize) -> u16
     most
 }
 
-// No number of the 64, judged or not, is larger: neither of its bytes has a bit that the answer's byte lacks. Fewer steps than the largest takes, and
-// as good where the limit is a power of two.
-fn bits_of_file(file: &[u8], offset: usize) -> u16
+// No number of the 64 is judged larger: neither of its bytes has a bit that the answer's byte lacks. Only the answer's bytes are exchanged, so this
+// takes fewer steps than the largest, and it is as good where the limit is a power of two. No reading is the same number either way.
+fn bits_of_file(file: &[u8], values: bool, offset: usize) -> u16
     requires { ⌜ offset + 2 * 64 ≤ length (now file) ⌝ }
-    ensures { λ r. ⌜ Below (plane (now (file .entry)) offset) 64 (r + 1) ⌝ }
+    ensures { λ r. ⌜ Below (λ j. judged values (plane (now (file .entry)) offset j)) 64 (r + 1) ⌝ }
 {
     let mut numbers = [0u16; 64];
     copy_low_first(file, offset, RUN, &mut numbers);
     let mut bits = 0u16;
     let mut j = 0;
     while j < RUN {
-        bits = bits | numbers[j];
+        bits = bits | judged(values, numbers[j]);
         j += 1;
     }
     exchanged(bits)
@@ -87,7 +87,7 @@ fn may_reach(file: &[u8], values: bool, offset: usize, limit: usize) -> bool
     requires { ⌜ offset + 2 * 64 ≤ length (now file) ⌝ }
     ensures { λ r. ⌜ (r ≡ false → Below (λ j. judged values (plane (now (file .entry)) offset j)) 64 limit) ⌝ }
 {
-    if (bits_of_file(file, offset) as usize) < limit {
+    if (bits_of_file(file, values, offset) as usize) < limit {
         return false;
     }
     if (most_of_file(file, values, offset) as usize) < limit {

@@ -83,7 +83,9 @@ mul-split-file : tie.Need-mul-split-file
 mul-split-file c = omega (arith, fit (c .before .before .before .before .before) .values)
 
 split-file-requires : tie.Need-split-file-requires
-split-file-requires c κs = let f = fit (c .before .before .before .before .before .before) in (omega (arith, f .values, f .guides), c .before .before .if3 .left)
+split-file-requires c κs =
+    let f = fit (c .before .before .before .before .before .before) in
+    (omega (arith, f .values, f .guides), c .before .before .if3 .left)
 
 same-length : tie.Need-same-length
 same-length c = search needs

@@ -1,6 +1,5 @@
 -- `frame_below::may_reach` meets its contract: where the bits or the largest are below the limit, all are. Assumes nothing.
 use mathlib.Core.Bool.{true≢false}
-use Rattle.frame_below.proofs.BelowLaws.{judged-below}
 use native.Mathlib.Omega.{arith}
 use borrow.Author.Needs.{needs}
 use Rattle.frame_below.proofs.may_reach.Statement.{statement}
@@ -13,8 +12,7 @@ cast-if1 : tie.Need-cast-if1
 cast-if1 c = search needs
 
 returns : tie.Need-returns
-returns c = λ no j less.
-    judged-below (c .before .before .before .args .values) (omega (arith, c .if1 .taken, c .before .bits-of-file .ensures j less))
+returns c = λ no j less. omega (arith, c .if1 .taken, c .before .bits-of-file .ensures j less)
 
 most-of-file-requires : tie.Need-most-of-file-requires
 most-of-file-requires c κs = search needs
