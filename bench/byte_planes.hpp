@@ -49,6 +49,7 @@ template <Search SEARCH> [[gnu::noinline]] void check_and_split(const Settings &
 // Nanoseconds a pixel.
 struct BytePlanes {
     const char *frame;
+    size_t pixels;
     double split = NOT_TIMED, join = NOT_TIMED;                 // the library
     double plain_split = NOT_TIMED, plain_join = NOT_TIMED;     // bytes moved, and nothing else
     double one_by_one = NOT_TIMED, by_the_largest = NOT_TIMED;  // numbers checked so, then bytes moved
@@ -72,7 +73,7 @@ inline BytePlanes measure_byte_planes(const char *name, Contest contest, const S
         keep_best_of(best, calls, frame.pixels(), [&] { call(frame, from, output); });
         if (output != wanted) std::printf("byte planes differ: %s\n", name), std::exit(1);
     };
-    BytePlanes times{name};
+    BytePlanes times{name, frame.pixels()};
     for (int round = 0; round < ROUNDS; round++) {
         turn(times.plain_split, file, apart, split_plainly);
         turn(times.one_by_one, file, apart, check_and_split<ONE_BY_ONE>);
@@ -97,9 +98,9 @@ inline void print_byte_planes(const AllBytePlanes &all) {
     std::printf("\n## Byte planes beside plain loops\n\n"
                 "Nanoseconds a pixel, ice, 1,024 levels, 256 guides; 1024x256 but for the last line. The plain loops, in C++, "
                 "move the value plane's bytes and copy the rest. A split also checks the numbers of both planes: one plain "
-                "loop only moves bytes, and the goal is held against it; two check first, one by one or by the largest, and "
+                "loop only moves bytes, and the goals are held against it; two check first, one by one or by the largest, and "
                 "the last ratio of a split, which shows what the check costs, is to the faster of them. A join checks no "
-                "number.\n\n"
+                "number. On the small frame no goal is held: there what a call costs whatever the frame's size is shows.\n\n"
                 "| frame | split | plain, moved only | checked one by one | checked by the largest | split / moved only "
                 "| split / checked | join | plain | join / plain |\n|---|---|---|---|---|---|---|---|---|---|\n");
     for (const BytePlanes &one : all) {
