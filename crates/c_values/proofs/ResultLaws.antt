@@ -36,6 +36,7 @@ positive refusal.Room = omega arith
 positive refusal.Program = omega arith
 positive refusal.Upper = omega arith
 positive refusal.Overlap = omega arith
+positive refusal.Batch = omega arith
 
 pub passes : (v : Verdict) → statusOf (numbered v) ≡ 0 → numbered v ≡ accepted
 passes Accepted e = refl

@@ -4,7 +4,7 @@ use Prim.Native.Nat.{ℕ, _+_}
 use mathlib.Core.List.{List, [], _∷_, _++_, map}
 use mathlib.Core.Path.{_≡_, refl}
 use lib.Dec.{lit<, lit≤}
-use lib.ListN.{replicate, take, drop}
+use lib.ListN.{length, replicate, take, drop}
 use lib.IntN.{ℤ, pos, negsuc}
 use Rattle.spec.specs.declared.Settings.{Settings}
 use Rattle.spec.specs.declared.Room.{Room}
@@ -60,6 +60,8 @@ use Rattle.spec.specs.Calls.{
   wayOf,
   badWay,
   roomOf,
+  countsOf,
+  wordsOf,
   badPixel,
   lacks,
   short,
@@ -87,6 +89,25 @@ use Rattle.spec.specs.BytePlanes.{
   splitOutcome,
   joinOutcome,
 }
+use Rattle.spec.specs.Schedule.{Round, opening, unfinished, passedOver, grant, grants, periods, served, servedIn}
+use Rattle.spec.specs.Cameras.{
+  filesIn,
+  total,
+  countsRoom,
+  wordsRoom,
+  pixelsIn,
+  sizesOf,
+  roundOf,
+  countsPart,
+  wordsPart,
+  answersPart,
+  endToEnd,
+  anyAbove,
+  badBatch,
+  verdicts,
+  shortOf,
+  camerasOutcome,
+}
 use Rattle.spec.specs.Writer.{fieldBytes, distanceBytes, written, writtenSize, badLength, scanList, writerOutcome}
 use Rattle.spec.specs.Program.{digits, spaced, rows, ways, tooLarge, programOutcome, beside, outputText, printed}
 
@@ -112,6 +133,8 @@ pub data Question : Type 0 where
   explain : List ℕ → ℕ → ℕ → Question
   chain : List ℕ → ℕ → ℕ → Question
   tolerate : List ℕ → List ℕ → Question
+  share : List (List ℕ) → List ℕ → Question
+  shareCounts : List (List ℕ) → List ℕ → ℕ → Question
 
 pub data Reply : Type 0 where
   says : Outcome → Reply
@@ -123,6 +146,7 @@ pub data Reply : Type 0 where
   grounds : ℕ → ℤ → ℕ → ℤ → ℤ → Cause → Reply
   chained : List Entry → Reply
   between : List ℕ → ℕ → List ℕ → ℕ → Reply
+  shares : List ℕ → ℕ → List ℕ → List ℕ → Reply
 
 abbrev closed : State → List ℕ → Reply
 closed x l = gives l (x .shifts)
@@ -140,7 +164,9 @@ unfolding fold foldRect first tabulateFrom tabulate be16 be32 to16 to32 all16 tr
     columnStore entryOf entries blockWeight summary wayOf badWay roomOf badPixel lacks short walkChecks walkOutcome filterChecks filterOutcome
     balanceChecks balanceOutcome explainChecks explainOutcome badSpan badUpper toleranceChecks toleranceOutcome cumulativeBelow causeOf fieldBytes
     distanceBytes written writtenSize badLength scanList writerOutcome digits spaced rows ways tooLarge programOutcome beside outputText printed
-    highBytes lowBytes inTurn splitPlane joinedPlane withPlane splitFile joinedFile overlap badOverlap splitOutcome joinOutcome
+    highBytes lowBytes inTurn splitPlane joinedPlane withPlane splitFile joinedFile overlap badOverlap splitOutcome joinOutcome unfinished passedOver
+    grant grants periods served servedIn countsOf wordsOf filesIn total sizesOf roundOf countsPart wordsPart answersPart endToEnd anyAbove badBatch
+    verdicts shortOf camerasOutcome
 reply (accept b) = says (verdict b)
 reply (walk b s t l) = let p = frameOf b in closed (walkEnd Joint p s t l) (walkAnswers p s t l)
 reply (filter b) = let p = frameOf b in closed (filterEnd Joint p) (filtered p)
@@ -178,6 +204,16 @@ reply (tolerate b u) =
     let p = frameOf b in
     let q = withValues p u in
     between (filtered p) (filterEnd Joint p .shifts) (filtered q) (filterEnd Joint q .shifts)
+
+-- which files are served, how many grants are made, and what 12 answers and 26 words hold that were all 9
+reply (share fs limits) =
+    let x = roundOf fs limits in
+    shares (servedIn (sizesOf fs) limits opening) (x .granted) (endToEnd pixelsIn answersPart fs (x .tallies) (replicate 12 9))
+    (endToEnd wordsRoom wordsPart fs (x .tallies) (replicate 26 9))
+-- and what so many counts hold
+reply (shareCounts fs limits n) =
+    let x = roundOf fs limits in
+    gives (endToEnd countsRoom countsPart fs (x .tallies) (replicate n 9)) (x .granted)
 
 -- ---- the files
 
@@ -290,6 +326,18 @@ fileWords = made 3 1 1024 4 2 1 1 (0x102 ∷ 0x304 ∷ 0x203 ∷ []) (0 ∷ 0 �
 abbrev placedWords : ℕ → ℕ → ℕ → List ℕ
 placedWords =
     placed (9 ∷ 0 ∷ 1 ∷ 0 ∷ 2 ∷ 0 ∷ 3 ∷ 0 ∷ 4 ∷ 0 ∷ 1 ∷ 0 ∷ 0 ∷ 8 ∷ 2 ∷ 3 ∷ 1 ∷ 2 ∷ 7 ∷ []) (settings 2 1 1024 2 1 0 0)
+
+-- document 02, ask 9: A, B and D end to end
+abbrev hall : List (List ℕ)
+hall = fileA ∷ fileB ∷ fileD ∷ []
+
+abbrev joined : List (List ℕ) → List ℕ
+joined [] = []
+joined (f ∷ fs) = f ++ joined fs
+
+-- the outcome for files and limits, and counts, words and answers of so many numbers
+abbrev sharing : List (List ℕ) → List ℕ → ℕ → ℕ → ℕ → Outcome
+sharing fs = camerasOutcome (joined fs) (map length fs)
 
 -- counts, words, 32-bit numbers; counts, words, weight sums
 abbrev room : ℕ → ℕ → ℕ → Room
@@ -544,6 +592,32 @@ cases =
     ∷ call (joinOutcome (placedWords 19 10 16) 47) ⇒ says (refused 14 [])
     ∷ call (joinOutcome (placedWords 3 3 0) 46) ⇒ says (refused 6 [])
     ∷ call (joinOutcome (placedWords 5 10 18) 46) ⇒ says (refused 11 [])
+    ∷ share hall (4 ∷ 0 ∷ 3 ∷ []) ⇒ shares (0 ∷ 1 ∷ 2 ∷ 0 ∷ 1 ∷ 2 ∷ 0 ∷ []) 7
+    (1 ∷ 3 ∷ 3 ∷ 2 ∷ 2 ∷ 9 ∷ 9 ∷ 9 ∷ 2 ∷ 2 ∷ 9 ∷ 9 ∷ [])
+    (0 ∷ 1 ∷ 0 ∷ 4 ∷ 0 ∷ 0 ∷ 0 ∷ 0 ∷ 0 ∷ 128 ∷ 128 ∷ 128 ∷ 0 ∷ 32768 ∷ 0 ∷ 0 ∷ 0 ∷ 0 ∷ 1 ∷ 0 ∷ 0 ∷ 0 ∷ 1 ∷ 0 ∷ 9 ∷ 9 ∷ [])
+    ∷ share hall (4096 ∷ []) ⇒ shares (0 ∷ 1 ∷ 2 ∷ 0 ∷ 1 ∷ 2 ∷ 0 ∷ 1 ∷ 1 ∷ 1 ∷ []) 10
+    (1 ∷ 3 ∷ 3 ∷ 2 ∷ 2 ∷ 3 ∷ 3 ∷ 4 ∷ 2 ∷ 2 ∷ 9 ∷ 9 ∷ [])
+    (0 ∷ 1 ∷ 0 ∷ 4 ∷ 0 ∷ 0 ∷ 0 ∷ 0 ∷ 0 ∷ 0 ∷ 0 ∷ 128 ∷ 1 ∷ 32768 ∷ 0 ∷ 0 ∷ 0 ∷ 0 ∷ 1 ∷ 0 ∷ 0 ∷ 0 ∷ 1 ∷ 0 ∷ 9 ∷ 9 ∷ [])
+    ∷ share hall (2 ∷ []) ⇒ shares (0 ∷ 1 ∷ []) 2
+    (1 ∷ 9 ∷ 9 ∷ 2 ∷ 9 ∷ 9 ∷ 9 ∷ 9 ∷ 9 ∷ 9 ∷ 9 ∷ 9 ∷ [])
+    (0 ∷ 1 ∷ 0 ∷ 0 ∷ 0 ∷ 1 ∷ 0 ∷ 0 ∷ 0 ∷ 128 ∷ 128 ∷ 0 ∷ 0 ∷ 32768 ∷ 0 ∷ 0 ∷ 9 ∷ 9 ∷ 9 ∷ 9 ∷ 9 ∷ 9 ∷ 9 ∷ 9 ∷ 9 ∷ 9 ∷ [])
+    ∷ share [] (3 ∷ 4096 ∷ []) ⇒ shares [] 0 (replicate 12 9) (replicate 26 9)
+    ∷ shareCounts (fileD ∷ fileA ∷ []) (1 ∷ []) 49 ⇒ gives ((0 ∷ 0 ∷ 0 ∷ 0 ∷ 1 ∷ 0 ∷ 0 ∷ 0 ∷ 0 ∷ 0 ∷ 0 ∷ 0 ∷ 1 ∷ 0 ∷ 0 ∷ 0 ∷ []) ++ replicate 33 9) 1
+    ∷ call (sharing hall (4 ∷ 0 ∷ 4096 ∷ []) 176 24 10) ⇒ says accepted
+    ∷ call (sharing hall (4 ∷ 4097 ∷ 0 ∷ []) 176 24 10) ⇒ says (refused 15 [])
+    ∷ call (sharing hall (4 ∷ []) 175 24 10) ⇒ says (refused 11 [])
+    ∷ call (sharing hall (4 ∷ []) 176 23 10) ⇒ says (refused 11 [])
+    ∷ call (sharing hall (4 ∷ []) 176 24 9) ⇒ says (refused 11 [])
+    ∷ call (sharing [] (3 ∷ []) 0 0 0) ⇒ says accepted
+    ∷ call (sharing (replicate 8 fileG) [] 128 64 8) ⇒ says accepted
+    ∷ call (sharing (replicate 9 fileG) [] 144 72 9) ⇒ says (refused 15 [])
+    ∷ call (camerasOutcome (joined hall) (40 ∷ 48 ∷ 43 ∷ []) [] 0 0 0) ⇒ says (refused 15 [])
+    ∷ call (camerasOutcome (joined hall) (40 ∷ 48 ∷ 45 ∷ []) [] 0 0 0) ⇒ says (refused 15 [])
+    ∷ call (camerasOutcome (joined hall) (40 ∷ 47 ∷ 45 ∷ []) [] 0 0 0) ⇒ says (refused 1 [])
+    ∷ call (camerasOutcome fileA [] [] 0 0 0) ⇒ says (refused 15 [])
+    ∷ call (sharing (fileA ∷ splitFile fileWords ∷ fileWords ∷ []) [] 0 0 0) ⇒ says (refused 7 (4 ∷ []))
+    ∷ call (sharing (splitFile fileWords ∷ [] ∷ []) [] 0 0 0) ⇒ says (refused 7 (4 ∷ []))
+    ∷ call (sharing (fileA ∷ [] ∷ splitFile fileWords ∷ []) [] 0 0 0) ⇒ says (refused 1 [])
     ∷ []
 
 benches : map given cases ≡ map due cases

@@ -16,5 +16,7 @@ pub mod Explain
 pub mod Calls
 pub mod Tolerance
 pub mod BytePlanes
+pub mod Schedule
+pub mod Cameras
 pub mod Writer
 pub mod Program

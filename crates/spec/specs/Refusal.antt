@@ -21,6 +21,7 @@ use Rattle.spec.specs.declared.Refusal.the-variants.{
   Program,
   Upper,
   Overlap,
+  Batch,
 }
 use Rattle.spec.specs.declared.Verdict.{Verdict}
 use Rattle.spec.specs.declared.Verdict.the-variants.{Accepted, Refused}
@@ -62,6 +63,7 @@ number Room = 11
 number Program = 12
 number Upper = 13
 number Overlap = 14
+number Batch = 15
 
 -- the offset beside number 7
 abbrev pub offsetOf : Refusal → ℕ
@@ -79,6 +81,7 @@ offsetOf Room = 0
 offsetOf Program = 0
 offsetOf Upper = 0
 offsetOf Overlap = 0
+offsetOf Batch = 0
 
 -- the values beside the number
 abbrev pub valuesOf : Refusal → List ℕ

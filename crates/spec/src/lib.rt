@@ -90,6 +90,8 @@ pub enum Refusal {
     Upper,
     // document 02: a part of the file that overlaps the value plane
     Overlap,
+    // document 02: the number of files, their lengths, or a period's limit
+    Batch,
 }
 
 // What the checks say.
@@ -228,6 +230,7 @@ pub fn number_of(refusal: Refusal) -> u8
         Refusal::Program => 12,
         Refusal::Upper => 13,
         Refusal::Overlap => 14,
+        Refusal::Batch => 15,
     }
 }
 
@@ -249,6 +252,7 @@ pub fn offset_of(refusal: Refusal) -> usize
         Refusal::Program => 0,
         Refusal::Upper => 0,
         Refusal::Overlap => 0,
+        Refusal::Batch => 0,
     }
 }
 
