@@ -89,7 +89,7 @@ use Rattle.spec.specs.BytePlanes.{
   splitOutcome,
   joinOutcome,
 }
-use Rattle.spec.specs.Schedule.{Round, opening, unfinished, passedOver, grant, grants, periods, served, servedIn}
+use Rattle.spec.specs.Schedule.{opening, unfinished, passedOver, grant, grants, periods, served, servedIn}
 use Rattle.spec.specs.Cameras.{
   filesIn,
   total,
@@ -204,7 +204,6 @@ reply (tolerate b u) =
     let p = frameOf b in
     let q = withValues p u in
     between (filtered p) (filterEnd Joint p .shifts) (filtered q) (filterEnd Joint q .shifts)
-
 -- which files are served, how many grants are made, and what 12 answers and 26 words hold that were all 9
 reply (share fs limits) =
     let x = roundOf fs limits in

@@ -5,6 +5,7 @@ use mathlib.Core.Bool.{Bool, false, _||_, not}
 use mathlib.Core.List.{List, [], _∷_, _++_, map}
 use lib.Dec.{ltb, eqb}
 use lib.ListN.{length, take, drop, replicate}
+use Rattle.spec.specs.declared.Round.{Round}
 use Rattle.spec.specs.declared.Way.the-variants.{Joint}
 use Rattle.spec.specs.Refusal.{Outcome, accepted, _▷_, refuse}
 use Rattle.spec.specs.Frame.{settingsOf, frameOf, pixels}
@@ -12,7 +13,7 @@ use Rattle.spec.specs.Checks.{verdict}
 use Rattle.spec.specs.Walk.{State, walkEnd, walkAnswers}
 use Rattle.spec.specs.Filter.{serpentine}
 use Rattle.spec.specs.Calls.{roomOf, countsOf, wordsOf}
-use Rattle.spec.specs.Schedule.{Round, opening, periods}
+use Rattle.spec.specs.Schedule.{opening, periods}
 
 -- ---- the files
 

@@ -5,14 +5,10 @@ use mathlib.Core.Bool.{Bool}
 use mathlib.Core.List.{List, [], _∷_, _++_}
 use lib.Dec.{ltb}
 use lib.ListN.{getD, set, replicate}
+use Rattle.spec.specs.declared.Round.{Round}
 use Rattle.spec.specs.Base.{if_then_else_, first}
 
--- the grants so far: the file that is looked at first, which is the one after the last served; how many grants were made; and the pixels answered of
--- each of eight files. Where there are fewer, the others have no pixels, and so are finished from the start
-pub record Round : Type 0 where
-  pub next : ℕ
-  pub granted : ℕ
-  pub tallies : List ℕ
+-- There are eight files; where a call has fewer, the others have no pixels, and so are finished from the start.
 
 -- before the first grant, which looks at the lowest file first
 abbrev pub opening : Round

@@ -151,6 +151,14 @@ pub enum Move {
     Nowhere(u16),
 }
 
+// The grants so far of a call over up to eight files (document 02): the file that is looked at first, which is the one after the last served; how many
+// grants were made; and the pixels answered of each file.
+pub struct Round {
+    pub next: usize,
+    pub granted: u64,
+    pub tallies: [usize; 8],
+}
+
 // The value of a pixel that has no reading, and the answer of a window that has none (document 02).
 pub const NO_READING: u16 = 65535;
 
