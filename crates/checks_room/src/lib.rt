@@ -55,7 +55,7 @@ fn numbers_room(n: usize) -> Room
 }
 
 // How much of each store a way uses.
-fn needed(way: Way, plan: Plan) -> Room
+pub fn needed(way: Way, plan: Plan) -> Room
     requires { ⌜ SettingsLimits (settingsIn plan) ⌝ }
     ensures { λ r. ⌜ r ≡ roomOf way (settingsIn plan) ⌝ }
 {
