@@ -1,6 +1,6 @@
 // The calls for C and Rust: numbers and slices as pointer and length, a status out (0, or the documents' number), every other result through a lent
 // number. A refused call writes nothing but the offset of number 7. include/icemedian.h documents them. Each takes any arguments; the work and the
-// promises are those of frame, frame_write, byte_planes, ice and tolerance.
+// promises are those of frame, frame_write, byte_planes, ice, tolerance and cameras.
 use c_values::give_grounds;
 use c_values::give_walk;
 use c_values::report;
@@ -11,9 +11,10 @@ use spec::Verdict;
 ghost use Rattle.spec.specs.Checks.{verdict};
 ghost use Rattle.ice_step.specs.Finished.{lent};
 ghost use Rattle.tolerance.specs.Contract.{buffers};
+ghost use Rattle.ice_prefix.specs.Prefix.{parts};
 ghost use Rattle.c_values.specs.Results.{Reported, lentGrounds};
 ghost use Rattle.c_values.specs.Settings.{settingsFrom};
-ghost use Rattle.icemedian_c.specs.Exports.{WalkCall, FilterCall, ToleranceCall, BalanceCall, ExplainCall, WriteCall, SplitCall, JoinCall};
+ghost use Rattle.icemedian_c.specs.Exports.{WalkCall, FilterCall, ToleranceCall, BalanceCall, ExplainCall, WriteCall, SplitCall, JoinCall, CamerasCall};
 
 // Checks 1 to 7.
 #[no_mangle]
@@ -233,4 +234,30 @@ pub extern "C" fn icemedian_join(file: &[u8], output: &mut [u8]) -> u32
     let v = byte_planes::join(file, output);
     let mut unused = 0u64;
     report(v, &mut unused)
+}
+
+// Up to eight files, end to end in one buffer, filtered as far as the grants of the periods reach.
+#[no_mangle]
+pub extern "C" fn icemedian_cameras(
+    files: &[u8],
+    lengths: &[usize],
+    limits: &[u32],
+    counts: &mut [u16],
+    words: &mut [u64],
+    answers: &mut [u16],
+    grants: &mut u64,
+    offset: &mut u64,
+) -> u32
+    ensures { λ r. ⌜ CamerasCall (now (files .entry)) (now (lengths .entry)) (now (limits .entry))
+        (parts (now (counts .entry)) (now (words .entry)) (now (answers .entry)))
+        (parts (now (counts .exit)) (now (words .exit)) (now (answers .exit)))
+        r (now (grants .entry)) (now (grants .exit)) (now (offset .entry)) (now (offset .exit)) ⌝ }
+{
+    let granted = cameras::cameras(files, lengths, limits, counts, words, answers);
+    let v = granted.verdict;
+    let status = report(v, offset);
+    if status == 0 {
+        *grants = granted.grants;
+    }
+    status
 }
