@@ -23,6 +23,9 @@ use Rattle.ice.specs.declared.Explained.{Explained}
 use Rattle.ice.specs.Contract.{Untouched, Ended, Walks, Filters, Balances, Explains}
 use Rattle.tolerance.specs.declared.Tolerated.{Tolerated}
 use Rattle.tolerance.specs.Contract.{Buffers, outcomeOf, BothFiltered, Tolerates}
+use Rattle.ice_prefix.specs.Prefix.{Parts}
+use Rattle.cameras.specs.declared.Granted.{Granted}
+use Rattle.cameras.specs.Contract as cameras
 use Rattle.frame_write.specs.declared.Written.{Written}
 use Rattle.frame_write.specs.declared.Written.the-variants as written
 use Rattle.frame_write.specs.Write.{declined, reportOf, Writes}
@@ -40,6 +43,7 @@ use Rattle.icemedian_c.specs.Exports.{
   BalanceCall,
   ExplainCall,
   WriteCall,
+  CamerasCall,
 }
 
 module _ (v : Verdict) {o : Outcome} {r old new : ℕ} (is : numbered v ≡ o) (h : Reported (numbered v) r old new) where
@@ -237,3 +241,28 @@ module _ {k : Settings} {v g a old : List ℕ} {w : Written} {new : List ℕ} (h
   write-stopped e q =
       let d = declined-refused (writerOutcome k v g a (length old)) _ _ _ (rw e at (h .answer)) in
       record { reported = rw d q; length-is = rw d refl; output = h .output }
+
+-- ---- cameras
+module _ {b lengths limits : List ℕ} {a z : Parts} {w : Granted} (h : cameras.Schedules b lengths limits a z w) where
+  parts-kept : (cameras.outcomeOf b lengths limits a ≡ accepted → ⊥) → z ≡ a
+  parts-kept n = let k = h .refused n in λ i. record { counts = k .counts i; words = k .words i; answers = k .answers i }
+
+  module _ {r offset₀ offset : ℕ} (q : Reported (numbered (w .verdict)) r offset₀ offset) {grants₀ : ℕ} where
+    pub cameras-stopped : 0 < r → CamerasCall b lengths limits a z r grants₀ grants₀ offset₀ offset
+    cameras-stopped l =
+        record {
+          reported = reported (w .verdict) (h .verdict) q;
+          grants-is = kept _ _ _ (stopped (w .verdict) (h .verdict) q l);
+          refused-keeps = parts-kept;
+          accepted-ends = λ e. h .shared e .made;
+        }
+
+    pub cameras-passed : {grants : ℕ} → r ≡ 0 → grants ≡ w .grants → CamerasCall b lengths limits a z r grants₀ grants offset₀ offset
+    cameras-passed l eg =
+        let e = passed (w .verdict) (h .verdict) q l in
+        record {
+          reported = reported (w .verdict) (h .verdict) q;
+          grants-is = eg ∙ h .shared e .grants ∙ gained _ _ _ e;
+          refused-keeps = parts-kept;
+          accepted-ends = λ e. h .shared e .made;
+        }

@@ -19,12 +19,16 @@ use Rattle.spec.specs.Filter.{filtered, filterEnd}
 use Rattle.spec.specs.Calls.{wayOf, boxOf, walkOutcome, filterOutcome, balanceOutcome, explainOutcome}
 use Rattle.spec.specs.Writer.{written, writtenSize, writerOutcome, stored}
 use Rattle.spec.specs.BytePlanes.{splitFile, joinedFile, splitOutcome, joinOutcome}
+use Rattle.spec.specs.Cameras.{filesIn, roundOf}
 use Rattle.c_values.specs.Results.{statusOf, given, Reported, causeNumber, LentGrounds}
 use Rattle.ice_step.specs.declared.Walked.{Walked}
 use Rattle.ice_step.specs.Finished.{Lent, roomIn}
 use Rattle.ice.specs.Contract.{Ended}
 use Rattle.tolerance.specs.declared.Tolerated.{Tolerated}
 use Rattle.tolerance.specs.Contract.{Buffers, outcomeOf, BothFiltered}
+use Rattle.ice_prefix.specs.Prefix.{Parts}
+use Rattle.cameras.specs.Parts.{AllMade}
+use Rattle.cameras.specs.Contract as cameras
 
 -- ---- walk and filter
 
@@ -110,3 +114,13 @@ pub record SplitCall (b old new : List ℕ) (r offset₀ offset : ℕ) : Type 0 
 pub record JoinCall (b old new : List ℕ) (r : ℕ) : Type 0 where
   pub status-is : r ≡ statusOf (joinOutcome b (length old))
   pub output : new ≡ stored (joinOutcome b (length old)) (joinedFile b) old
+
+-- ---- cameras
+
+-- the count of grants before and after
+pub record CamerasCall (b lengths limits : List ℕ) (before after : Parts) (r grants₀ grants offset₀ offset : ℕ) : Type 0 where
+  pub reported : Reported (cameras.outcomeOf b lengths limits before) r offset₀ offset
+  pub grants-is : grants ≡ given (cameras.outcomeOf b lengths limits before) (roundOf (filesIn lengths b) limits .granted) grants₀
+  pub refused-keeps : (cameras.outcomeOf b lengths limits before ≡ accepted → ⊥) → after ≡ before
+  pub accepted-ends : cameras.outcomeOf b lengths limits before ≡ accepted
+      → AllMade (filesIn lengths b) (roundOf (filesIn lengths b) limits .tallies) before after
