@@ -21,7 +21,7 @@ use Rattle.spec.specs.Cameras.{filesIn, total, countsRoom, wordsRoom, pixelsIn,
 use Rattle.spec.proofs.Checks.{both-accepted, not-fired, neither}
 use Rattle.spec.proofs.Limits.{limits-of}
 use Rattle.schedule.specs.Sound.{SizesFit, Sound}
-use Rattle.schedule.proofs.Grants.{sound-opening, sound-periods}
+use Rattle.schedule.proofs.Grants.{total-zeros, sound-opening, sound-periods}
 use Rattle.ice_prefix.specs.Prefix.{Parts, parts}
 use Rattle.cameras_checks.proofs.Batch.{BatchGood, batch-good}
 use Rattle.cameras_checks.proofs.Reading.{length-files}
@@ -113,6 +113,15 @@ sizes-fit fs few ok =
     by : (k : ℕ) → Dec (k < length fs) → getD (sizesOf fs) k 0 ≤ 262144
     by k (yes l) = omega (arith, sizes-at fs k l, pixels-high fs ok k)
     by k (no l) = omega (arith, sizes-beyond fs k (omega arith))
+
+-- the files that are not there have no pixels
+pub sizes-total : (fs : List (List ℕ)) → total (sizesOf fs) ≡ total (map pixelsIn fs)
+unfolding sizesOf total
+sizes-total fs = both (map pixelsIn fs) (8 - length fs)
+  where
+    both : (xs : List ℕ) (n : ℕ) → total (xs ++ replicate n 0) ≡ total xs
+    both [] n = total-zeros n
+    both (x ∷ xs) n = ap (λ (m : ℕ). x + m) (both xs n)
 
 -- what the code's sizes and its run of the schedule are
 pub sizes-run : (b lengths limits sizes : List ℕ) (held : Parts) → BatchAccepted b lengths limits held → sizes ≡ sizesOf (filesIn lengths b)

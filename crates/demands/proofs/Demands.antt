@@ -87,9 +87,10 @@ use Rattle.demands.proofs.Table.{
   tolerance-table,
   writer-table,
   split-table,
-  join-table,
+  join-table, cameras-table,
 }
 use Rattle.demands.proofs.BytePlanes.{accepted-verdict, split-or-refused, joined-or-refused}
+use Rattle.demands.proofs.Cameras.{shared-or-refused}
 use Rattle.demands.specs.Demands.{
   WalkedOrRefused,
   FilteredOrRefused,
@@ -213,6 +214,7 @@ demand-1 =
       writer = written-or-refused;
       split = split-or-refused;
       join = joined-or-refused;
+      cameras = shared-or-refused;
       table =
           record {
             walk = walk-table;
@@ -223,6 +225,7 @@ demand-1 =
             writer = writer-table;
             split = split-table;
             join = join-table;
+            cameras = cameras-table;
           };
     }
 

@@ -46,6 +46,7 @@ use Rattle.spec.specs.Calls.{
 }
 use Rattle.spec.specs.Tolerance.{badUpper, toleranceChecks, toleranceOutcome}
 use Rattle.spec.specs.BytePlanes.{badOverlap, splitOutcome, joinOutcome}
+use Rattle.spec.specs.Cameras.{filesIn, badBatch, verdicts, shortOf, camerasOutcome}
 use Rattle.spec.specs.Writer.{writtenSize, badLength, scanList, writerOutcome}
 use Rattle.spec.proofs.Checks.{not-refused, both-accepted}
 use Rattle.demands.specs.Table.{
@@ -60,6 +61,8 @@ use Rattle.demands.specs.Table.{
   toleranceRows,
   splitRows,
   joinRows,
+  filesRows,
+  camerasRows,
   InOrder,
 }
 
@@ -338,3 +341,17 @@ join-table b room =
     let r = ltb room (length b) in
     in-order (joinRows b room) (joinOutcome b room)
     (trailer-first b (x ▷ refuse 11 r) (x ∷ refuse 11 r ∷ []) (ap (λ (u : Outcome). x ▷ u) (last (refuse 11 r))))
+
+files-first : (fs : List (List ℕ)) (w : Outcome) (own : List Outcome) → w ≡ firstOf own → (verdicts fs ▷ w) ≡ firstOf (filesRows fs own)
+unfolding verdicts
+files-first [] w own e = e
+files-first (f ∷ fs) w own e = assoc (verdict f) (verdicts fs) w ∙ file-first f (verdicts fs ▷ w) (filesRows fs own) (files-first fs w own e)
+
+pub cameras-table : (b lengths limits : List ℕ) (counts words answers : ℕ)
+    → InOrder (camerasRows b lengths limits counts words answers) (camerasOutcome b lengths limits counts words answers)
+unfolding camerasOutcome
+cameras-table b lengths limits counts words answers =
+    let fs = filesIn lengths b in
+    let r = refuse 11 (shortOf fs counts words answers) in
+    in-order (camerasRows b lengths limits counts words answers) (camerasOutcome b lengths limits counts words answers)
+    (ap (λ (u : Outcome). refuse 15 (badBatch b lengths limits) ▷ u) (files-first fs r (r ∷ []) (last r)))

@@ -1,6 +1,6 @@
 -- The three demands, and document 02's requests 4, 7 and 8, over windows without their dead pixels (request 6), as statements about the promises of
 -- the calls.
--- A reader starts here; proofs/Demands.antt proves each, proofs/BytePlanes.antt those of request 8.
+-- A reader starts here; proofs/Demands.antt proves each, proofs/BytePlanes.antt those of request 8. Cameras.antt beside this has request 9.
 -- b are a file's bytes, upper a plane of upper levels, before and after the stores around a call, old and new its answers or output, r its result.
 -- Assumes nothing.
 use Prim.Native.Nat.{ℕ, suc, _+_, _-_, _*_, _≤_, _<_}
@@ -34,6 +34,7 @@ use Rattle.spec.specs.Explain.{Applies, Grounded}
 use Rattle.spec.specs.Calls.{wayOf, walkOutcome, filterOutcome, balanceOutcome, explainOutcome}
 use Rattle.spec.specs.Tolerance.{ownValues, LeastAndGreatest, toleranceOutcome}
 use Rattle.spec.specs.BytePlanes.{splitFile, joinedFile, badOverlap, splitOutcome, joinOutcome}
+use Rattle.spec.specs.Cameras.{camerasOutcome}
 use Rattle.spec.specs.Writer.{written, writtenSize, writerOutcome}
 use Rattle.ice_step.specs.declared.Walked.{Walked}
 use Rattle.ice_step.specs.Finished.{Lent, roomIn}
@@ -57,8 +58,10 @@ use Rattle.demands.specs.Table.{
   toleranceRows,
   splitRows,
   joinRows,
+  camerasRows,
   InOrder,
 }
+use Rattle.demands.specs.Cameras.{SharedOrRefused}
 
 -- ---- demand 1
 
@@ -135,6 +138,8 @@ pub record EachNumber : Type 0 where
   pub writer : (settings : Settings) (v g a : List ℕ) (room : ℕ) → ByTable (writerRows settings v g a room) (writerOutcome settings v g a room)
   pub split : (b : List ℕ) (room : ℕ) → InOrder (splitRows b room) (splitOutcome b room)
   pub join : (b : List ℕ) (room : ℕ) → InOrder (joinRows b room) (joinOutcome b room)
+  pub cameras : (b lengths limits : List ℕ) (counts words answers : ℕ)
+      → InOrder (camerasRows b lengths limits counts words answers) (camerasOutcome b lengths limits counts words answers)
 
 pub record Demand1 : Type 0 where
   pub walk : WalkedOrRefused
@@ -145,6 +150,7 @@ pub record Demand1 : Type 0 where
   pub writer : WrittenOrRefused
   pub split : SplitOrRefused
   pub join : JoinedOrRefused
+  pub cameras : SharedOrRefused
   pub table : EachNumber
 
 -- ---- demand 2

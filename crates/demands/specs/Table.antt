@@ -16,6 +16,7 @@ use Rattle.spec.specs.Checks.{badMark, badSize, badCounts, badKind, badRadius, 
 use Rattle.spec.specs.Calls.{badWay, badPixel, short}
 use Rattle.spec.specs.Tolerance.{badUpper}
 use Rattle.spec.specs.BytePlanes.{badOverlap}
+use Rattle.spec.specs.Cameras.{filesIn, badBatch, shortOf}
 use Rattle.spec.specs.Writer.{writtenSize, badLength, scanList}
 
 -- rows 1 to 6, of the trailer and the distances, which every call on a file makes first, and then others
@@ -76,6 +77,15 @@ splitRows b room = trailerRows b (refuse 14 (badOverlap (planOf b)) ∷ contents
 
 abbrev pub joinRows : List ℕ → ℕ → List Outcome
 joinRows b room = trailerRows b (refuse 14 (badOverlap (planOf b)) ∷ refuse 11 (ltb room (length b)) ∷ [])
+
+-- document 02: 15 stands before all else, then rows 1 to 7 of each file in turn, then 11
+abbrev pub filesRows : List (List ℕ) → List Outcome → List Outcome
+filesRows [] own = own
+filesRows (f ∷ fs) own = fileRows f (filesRows fs own)
+
+abbrev pub camerasRows : List ℕ → List ℕ → List ℕ → ℕ → ℕ → ℕ → List Outcome
+camerasRows b lengths limits counts words answers =
+    refuse 15 (badBatch b lengths limits) ∷ filesRows (filesIn lengths b) (refuse 11 (shortOf (filesIn lengths b) counts words answers) ∷ [])
 
 -- a number is given, with its values, exactly if a row fires with it and no row before that one does; and the outcome is accepted exactly if no row
 -- fires

@@ -1,4 +1,5 @@
 -- `check_batch` meets its contract: check 15, then those of each file, then 11. Assumes nothing.
+use native.Mathlib.Omega.{arith}
 use mathlib.Core.Path.{_≡_, refl, sym, _∙_}
 use mathlib.Core.Bool.{false}
 use Rattle.spec.specs.Refusal.{accepted, numbered}
@@ -44,27 +45,27 @@ returns-3 : tie.Need-returns-3
 returns-3 c =
     let e = c .before .before .before in
     let r = e .before .before in
-    short-counts _ _ _ _ _ _ (good r) (passed e) _ (r .read-files .ensures .totals (passed e)) (c .if3 .taken)
+    short-counts _ _ _ _ _ _ (good r) (passed e) _ (r .read-files .ensures .totals (passed e)) (omega (arith, c .if3 .taken))
 
 returns-4 : tie.Need-returns-4
 returns-4 c =
     let e = c .before .before .before .before .before in
     let r = e .before .before in
-    short-words _ _ _ _ _ _ (good r) (passed e) _ (r .read-files .ensures .totals (passed e)) (c .before .before .if3 .left) (c .if4 .taken)
+    short-words _ _ _ _ _ _ (good r) (passed e) _ (r .read-files .ensures .totals (passed e)) (omega (arith, c .before .before .if3 .left)) (omega (arith, c .if4 .taken))
 
 returns-5 : tie.Need-returns-5
 returns-5 c =
     let e = c .before .before .before .before .before .before .before in
     let r = e .before .before in
-    short-answers _ _ _ _ _ _ (good r) (passed e) _ (r .read-files .ensures .totals (passed e)) (c .before .before .before .before .if3 .left)
-    (c .before .before .if4 .left) (c .if5 .taken)
+    short-answers _ _ _ _ _ _ (good r) (passed e) _ (r .read-files .ensures .totals (passed e)) (omega (arith, c .before .before .before .before .if3 .left))
+    (omega (arith, c .before .before .if4 .left)) (omega (arith, c .if5 .taken))
 
 returns-6 : tie.Need-returns-6
 returns-6 c =
     let e = c .before .before .before .before .before .before .before in
     let r = e .before .before in
     all-long _ _ _ _ _ _ (good r) (passed e) _ (r .read-files .ensures .totals (passed e)) _ (silent _ (same (e .before .stops .ensures) (e .if2 .left))) refl
-    (c .before .before .before .before .if3 .left) (c .before .before .if4 .left) (c .if5 .left)
+    (omega (arith, c .before .before .before .before .if3 .left)) (omega (arith, c .before .before .if4 .left)) (omega (arith, c .if5 .left))
 
 pub check-batch-spec : {M : Type 1} → statement M
 check-batch-spec =
