@@ -587,7 +587,7 @@ static void test_wide(void) {
 
 static void test_macros(void) {
     expect("version, major", ICEMEDIAN_VERSION_MAJOR, 0);
-    expect("version, minor", ICEMEDIAN_VERSION_MINOR, 10);
+    expect("version, minor", ICEMEDIAN_VERSION_MINOR, 11);
     expect("no reading", ICEMEDIAN_NO_READING, 65535);
     expect("width", ICEMEDIAN_WIDTH(file, FILE_BYTES), W);
     expect("height", ICEMEDIAN_HEIGHT(file, FILE_BYTES), H);

@@ -102,6 +102,11 @@ impl Cameras {
 }
 
 impl Camera {
+    /// Whether every pixel is answered.
+    pub fn finished(&self) -> bool {
+        self.answers.len() == self.room.answers
+    }
+
     /// What so many grants leave of a frame: the filter's walk up to this pixel.
     pub fn after(frame: Frame, grants: usize) -> Camera {
         let room = room_of(&frame);

@@ -1,7 +1,8 @@
-//! Accepted frames: walks and filters in every serving way, balances, explanations, tolerances and byte planes.
+//! Accepted frames: walks and filters in every serving way, balances, explanations, tolerances, byte planes and cameras.
 
 use crate::buffers::{compare, Buffers};
 use crate::byte_planes;
+use crate::cameras;
 use crate::explain;
 use crate::library::{self, Status};
 use crate::overlap;
@@ -146,6 +147,7 @@ pub fn test_accepted(random: &mut Random, file: &[u8], tally: &mut Tally) -> Che
     explain::test(random, file, &frame, &plane, tally)?;
     tolerance::test(random, file, &frame, tally)?;
     byte_planes::test(random, file, tally)?;
+    cameras::test(random, file, &frame, tally)?;
     same("the file after the calls", &file, &untouched.as_slice())
 }
 
@@ -160,7 +162,7 @@ fn count_overlap(file: &[u8], tally: &mut Tally) {
 }
 
 /// The list of small walks, each in every serving way, every pixel of their frames explained, the frames with upper
-/// levels and split: the bench windows A to H, chosen shapes, and every start of small frames with moves into the
+/// levels, split, and among other frames: the bench windows A to H, chosen shapes, and every start of small frames with moves into the
 /// border and unknown bytes.
 pub fn test_listed(random: &mut Random, tally: &mut Tally) -> Check {
     for case in cases::read(include_str!("../../cases.txt"))? {
@@ -172,6 +174,7 @@ pub fn test_listed(random: &mut Random, tally: &mut Tally) -> Check {
         }
         tolerance::test(random, &case.file, &frame, tally)
             .and_then(|()| byte_planes::test(random, &case.file, tally))
+            .and_then(|()| cameras::test(random, &case.file, &frame, tally))
             .map_err(|error| format!("{}: {error}", case.name))?;
         for pixel in 0..frame.settings.pixels() {
             explain::test_at(&case.file, &frame, place(&frame.settings, pixel), tally)
