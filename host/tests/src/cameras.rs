@@ -271,6 +271,11 @@ fn small_file(random: &mut Random, (width, height, levels, guides): (u16, u16, u
     writer::write(&settings.asked(), &values, &guide, &table, usize::MAX).map_err(|refusal| refusal.to_string())
 }
 
+fn small_files(random: &mut Random, count: usize) -> Result<Vec<Vec<u8>>, String> {
+    let shapes: Vec<_> = (0..count).map(|_| random.pick(&SHAPES)).collect();
+    shapes.into_iter().map(|shape| small_file(random, shape)).collect()
+}
+
 /// Every pair of shapes and halls of every number of files, halted at each grant: in one period, and in several.
 pub fn test_shapes(random: &mut Random, tally: &mut Tally) -> Check {
     let mut halls: Vec<Vec<usize>> = (0..49).map(|pair| vec![pair / 7, pair % 7]).collect();
@@ -519,7 +524,7 @@ impl Batch {
     }
 }
 
-/// Every pair of what can be wrong, on halls of three files.
+/// Every pair of what can be wrong, on halls of three files; and every check of each of eight.
 pub fn test_pairs(random: &mut Random, tally: &mut Tally) -> Check {
     let of_file = |file: usize| (1..8).map(move |number| Wrong::File(file, number));
     let batch = [Wrong::Files, Wrong::Lengths, Wrong::Limit];
@@ -527,12 +532,15 @@ pub fn test_pairs(random: &mut Random, tally: &mut Tally) -> Check {
     let all: Vec<Wrong> = batch.into_iter().chain((0..3).flat_map(of_file)).chain(room).collect();
     for one in &all {
         for other in &all {
-            let shapes = [0, 1, 2].map(|_| random.pick(&SHAPES));
-            let files = shapes.into_iter().map(|shape| small_file(random, shape)).collect::<Result<Vec<_>, _>>()?;
+            let files = small_files(random, 3)?;
             try_wrong(random, files, &[*one, *other], tally)
                 .map_err(|error| format!("{one:?} and {other:?}: {error}"))?;
             tally.cameras.pairs += 1;
         }
+    }
+    for wrong in (0..FILES_MOST).flat_map(of_file) {
+        let files = small_files(random, FILES_MOST)?;
+        try_wrong(random, files, &[wrong], tally).map_err(|error| format!("{wrong:?}: {error}"))?;
     }
     Ok(())
 }
