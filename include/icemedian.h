@@ -33,8 +33,8 @@
  *           checked after 8 and before 11
  *   14      icemedian_split and icemedian_join alone: the guide plane or a table of the file's own has a byte in common
  *           with the value plane; checked after 6 and before 7
- *   15      icemedian_cameras alone: over 8 files, the lengths do not add up to `files_length` (the sum is the true one,
- *           never cut to a size_t), or a limit is above 4,096; checked before all else
+ *   15      icemedian_cameras alone: over 8 files, the lengths do not add up to `files_length` (by their true sum, never
+ *           cut to a size_t), or a limit is above 4,096; checked before all else
  *
  * 12 is of the program icemedian alone.
  *
@@ -51,8 +51,8 @@
  * Pointers must be aligned for their type. A pointer may be NULL where its length is 0; pointers to
  * results (`shifts`, `least_shifts`, `greatest_shifts`, `grants`, `cut`, `balance_box`, `balance`, `pixels`, `total`,
  * `level`, `below`, `reached`, `cause`, `length`, `offset`) never. What is only read (`file`, `files`, `lengths`,
- * `limits`, `upper`, `moves`, `values`, `guide`, `table`) may overlap. Whatever is written (stores, `answers`, `output`,
- * `least`, `greatest`, every result) must overlap nothing else of the same call, nor one result another.
+ * `limits`, `upper`, `moves`, `values`, `guide`, `table`) may overlap. Whatever is written (stores, `answers`,
+ * `output`, `least`, `greatest`, every result) must overlap nothing else of the same call, nor one result another.
  */
 #ifndef ICEMEDIAN_H
 #define ICEMEDIAN_H
@@ -198,18 +198,19 @@ uint32_t icemedian_tolerance(const uint8_t *file, size_t file_length,
                              uint16_t *greatest, size_t greatest_length,
                              uint64_t *least_shifts, uint64_t *greatest_shifts, uint64_t *offset);
 
-/* Filters up to 8 frames by turns, a pixel at a time, within the limits of control periods: check 15, then checks 1 to 7
- * file by file in their order, then 11. The files lie end to end in `files`; `lengths` has the length of each in bytes,
- * and `limits` the most grants of each period, 0 to 4,096. There may be no file, and no period.
- * A grant answers one pixel, the next one of its frame's serpentine: row 0 rightward, row 1 leftward, and so on. It goes
- * to the next frame by rising number, after the last one to the first again, that has a pixel left, beginning after the
- * frame that was served last; the very first goes to file 0. A period makes as many grants as its limit says, or until
- * every frame is finished; the next period goes on where it stopped. `grants` is how many were made in all.
- * Each file has its own part of `counts`, `words` and `answers`; the parts lie end to end in the files' order. Where d of
- * a file's pixels were answered, its first d answers are those of the serpentine, in this order and not row by row, and
- * the others stay as lent; its counts and words are those of way 1 for the window of the last pixel answered, as after
- * icemedian_walk of d - 1 moves. With d = 0 all its parts stay as lent, and so does whatever lies beyond the last part.
- * What the other files are never changes a file's answers, only how many of them there are. */
+/* Filters up to 8 frames by turns, a pixel at a time, within the limits of control periods: check 15, then checks 1 to
+ * 7 file by file in their order, then 11. The files lie end to end in `files`; `lengths` has the length of each in
+ * bytes, and `limits` the most grants of each period, 0 to 4,096. There may be no file, and no period.
+ * A grant answers one pixel, the next one of its frame's serpentine: row 0 rightward, row 1 leftward, and so on. It
+ * goes to the next frame that has a pixel left, by rising number and from the last one round to the first, beginning
+ * after the frame that was served last; the very first grant begins with file 0. A period makes as many grants as its
+ * limit says, or fewer where every frame is finished; the next period goes on where it stopped. `grants` is how many
+ * were made in all periods.
+ * Each file has its own part of `counts`, `words` and `answers`; the parts lie end to end in the files' order. Where d
+ * of a file's pixels were answered, the first d numbers of its answers are those of the serpentine, in its order and
+ * not row by row, and the others stay as lent; its counts and words are way 1's for the window of the last pixel
+ * answered, as icemedian_walk leaves them after d - 1 moves. With d = 0 all its parts stay as lent. Which files lie
+ * beside it changes how many of its pixels are answered, never an answer. */
 uint32_t icemedian_cameras(const uint8_t *files, size_t files_length,
                            const size_t *lengths, size_t file_count,
                            const uint32_t *limits, size_t period_count,

@@ -36,7 +36,7 @@
 //! very file back.
 //!
 //! Where a hall has several sheets, [`cameras`] filters up to eight files by turns, within the limits of control periods.
-//! Here the first period answers two pixels of the first sheet and one of the second, the other two the rest:
+//! Here a period of three grants answers two pixels of the first sheet and one of the second, and two more the rest:
 //!
 //! ```
 //! use icemedian::{cameras, end_to_end, write, Settings, Weights};
@@ -47,13 +47,13 @@
 //! let (files, lengths) = end_to_end(&[north, south]);
 //!
 //! let halted = cameras(&files, &lengths, &[3])?;
-//! // The third answer of a sheet's walk will be of the second row's last pixel.
 //! assert_eq!(halted.camera(0).answered(), [1, 2]);
 //! assert_eq!(halted.camera(0).plane(), [Some(1), Some(2), None, None]);
 //! assert_eq!(halted.camera(1).plane(), [Some(5), None]);
 //!
 //! let finished = cameras(&files, &lengths, &[3, 0, 4096])?;
 //! assert_eq!(finished.grants, 6);
+//! // Answers come in the order of the walk: row 0 rightward, row 1 leftward.
 //! assert_eq!(finished.camera(0).answers, [1, 2, 4, 3]);
 //! assert_eq!(finished.camera(0).plane(), [1, 2, 3, 4].map(Some));
 //! # Ok::<(), icemedian::Refusal>(())

@@ -748,6 +748,25 @@ fn grants_go_round_the_unfinished_frames() {
     assert!(schedule(&[], &[4_096]).is_empty() && schedule(&[3], &[0, 0]).is_empty() && schedule(&[3], &[]).is_empty());
 }
 
+#[test]
+fn an_unfinished_frame_is_served_within_eight_grants() {
+    let mut random = Random::new(11);
+    for _ in 0..300 {
+        let pixels: Vec<usize> = (0..random.below(9)).map(|_| 1 + random.below(30)).collect();
+        let limits: Vec<u32> = (0..random.below(20)).map(|_| random.below(40) as u32).collect();
+        let served = schedule(&pixels, &limits);
+        let sum = |numbers: &[usize]| numbers.iter().sum::<usize>();
+        assert_eq!(served.len(), sum(&pixels).min(limits.iter().sum::<u32>() as usize));
+        for (file, &pixels) in pixels.iter().enumerate() {
+            let turns: Vec<usize> = (0..served.len()).filter(|&turn| served[turn] == file).collect();
+            let waits = turns.windows(2).map(|two| two[1] - two[0]);
+            assert!(waits.chain(turns.first().map(|first| first + 1)).all(|wait| wait <= 8));
+            let last = turns.last().map_or(0, |last| last + 1);
+            assert!(turns.len() == pixels || served.len() - last < 8);
+        }
+    }
+}
+
 /// A, B and D end to end, and the length of each.
 fn hall() -> (Vec<u8>, Vec<usize>) {
     let files = [bytes_of_hex(A).unwrap(), file_of(&frame_b()), file_of(&frame_c(0))];

@@ -5,7 +5,7 @@ use crate::fault::{makes, spoil, CHOSEN};
 use sorting_filter::cameras::{room_for, room_of, Camera, Cameras, FILES_MOST, LIMIT_MOST};
 use sorting_filter::frame::{locate, open, Frame, NO_READING};
 use sorting_filter::refusal::{check, Refusal};
-use sorting_filter::store::{Lengths, Stores};
+use sorting_filter::store::{stores, Lengths, Stores, Way};
 use sorting_filter::walk;
 use sorting_filter::window::Window;
 
@@ -50,45 +50,25 @@ impl Batch<'_> {
 
     /// All checks, in the order that the mistake has.
     fn checked(&self, lent: &Lent) -> Result<Vec<Frame>, Refusal> {
-        let batch = || self.check_15(self.too_many() || self.wrong_lengths() || self.wrong_limits());
-        let counts = || self.check_15(self.too_many() || self.wrong_lengths());
-        let limits = || self.check_15(self.wrong_limits());
-        let room = |frames: &[Frame]| check(11, short(frames, self, lent));
-        match CHOSEN.as_str() {
-            "cameras_batch_after_files" => {
-                let frames = self.opened()?;
-                batch()?;
-                room(&frames)?;
-                Ok(frames)
-            }
-            "cameras_limits_after_files" => {
-                counts()?;
-                let frames = self.opened()?;
-                limits()?;
-                room(&frames)?;
-                Ok(frames)
-            }
-            "cameras_batch_last" => {
-                let frames = self.opened()?;
-                room(&frames)?;
-                batch()?;
-                Ok(frames)
-            }
-            "cameras_limits_last" => {
-                counts()?;
-                let frames = self.opened()?;
-                room(&frames)?;
-                limits()?;
-                Ok(frames)
-            }
-            _ => {
-                batch()?;
-                self.room_before_files(lent)?;
-                let frames = self.opened()?;
-                room(&frames)?;
-                Ok(frames)
-            }
-        }
+        // Where check 15 looks at the files and lengths, and at the limits: before the files' checks, after them or last.
+        let (files_at, limits_at) = match CHOSEN.as_str() {
+            "cameras_batch_after_files" => (1, 1),
+            "cameras_limits_after_files" => (0, 1),
+            "cameras_batch_last" => (2, 2),
+            "cameras_limits_last" => (0, 2),
+            _ => (0, 0),
+        };
+        let check_15 = |place: u8| {
+            let files = files_at == place && (self.too_many() || self.wrong_lengths());
+            self.check_15(files || limits_at == place && self.wrong_limits())
+        };
+        check_15(0)?;
+        self.room_before_files(lent)?;
+        let frames = self.opened()?;
+        check_15(1)?;
+        check(11, short(&frames, self, lent))?;
+        check_15(2)?;
+        Ok(frames)
     }
 
     fn check_15(&self, fires: bool) -> Result<(), Refusal> {
@@ -165,9 +145,9 @@ impl Batch<'_> {
             // The first check that fires for any file.
             "cameras_check_by_check" => (0..files.len()).min_by_key(number).filter(|file| results[*file].is_err()),
             "cameras_last_file_first" => results.iter().rposition(Result::is_err),
-            "cameras_contents_after_all" => first.and_then(|first| {
+            "cameras_contents_after_all" => first.map(|first| {
                 let early = (0..files.len()).find(|file| number(file) < 7);
-                Some(early.unwrap_or(first))
+                early.unwrap_or(first)
             }),
             "cameras_others_unchecked" => first.filter(|&file| file == 0),
             "cameras_last_unchecked" => first.filter(|&file| file + 1 < files.len()),
@@ -316,7 +296,6 @@ fn served(pixels: &[usize], limits: &[u32]) -> Vec<Turn> {
             "cameras_one_round" => limit.min(unfinished),
             "cameras_limit_taken_low" => limit & 0xFFF,
             "cameras_first_limit_kept" => limits[0],
-            "cameras_unused_kept" => limit + limits[..period].iter().map(|limit| limit % 2).sum::<u32>(),
             _ => limit,
         };
         for _ in 0..limit {
@@ -338,7 +317,7 @@ fn served(pixels: &[usize], limits: &[u32]) -> Vec<Turn> {
                 "cameras_two_apart" => next = (file + 2) % count,
                 "cameras_period_ends_with_frame" if left[file] == 0 => break,
                 "cameras_all_end_with_frame" if left[file] == 0 => return turns,
-                "cameras_one_grant_of_last" if turns.len() > 1 && left.iter().all(|&pixels| pixels == 0) => {
+                "cameras_last_grant_lost" if turns.len() > 1 && left.iter().all(|&pixels| pixels == 0) => {
                     turns.pop();
                 }
                 _ => {}
@@ -462,7 +441,7 @@ fn spoil_camera(camera: &mut Camera) {
 /// Way 1's stores of the window at a pixel, of a file of which d pixels are answered.
 fn stores_at(frame: &Frame, d: usize, column: usize, row: usize) -> Option<Stores> {
     let walk = walk::walk(frame, column, row, &[]);
-    (d > 0).then(|| sorting_filter::store::stores(frame, sorting_filter::store::Way::Joint, &walk))
+    (d > 0).then(|| stores(frame, Way::Joint, &walk))
 }
 
 fn spoil_stores(camera: &mut Camera, d: usize) {
@@ -509,11 +488,11 @@ fn starts(rooms: &[usize], off: &str) -> Vec<usize> {
     let (first, largest) = (rooms.first().copied().unwrap_or(0), rooms.iter().copied().max().unwrap_or(0));
     let right: Vec<usize> = (0..rooms.len()).map(|file| rooms[..file].iter().sum()).collect();
     let end: usize = rooms.iter().sum();
-    match CHOSEN.as_str() {
+    if makes(off) {
         // By one file, the last one's part first.
-        off_by_one if off_by_one == off => {
-            (0..rooms.len()).map(|file| right.get(file + 1).copied().unwrap_or(0)).collect()
-        }
+        return (0..rooms.len()).map(|file| right.get(file + 1).copied().unwrap_or(0)).collect();
+    }
+    match CHOSEN.as_str() {
         "cameras_parts_shared" => vec![0; rooms.len()],
         "cameras_parts_of_first" => (0..rooms.len()).map(|file| file * first).collect(),
         "cameras_parts_of_largest" => (0..rooms.len()).map(|file| file * largest).collect(),

@@ -11,7 +11,7 @@ use sorting_filter::frame::{open, Frame, Settings, KIND_GUIDED, KIND_TABLE};
 use sorting_filter::random::{accepted_file, accepted_file_of, damage, kill, random_classes, random_values, Random};
 use sorting_filter::refusal::Refusal;
 use sorting_filter::store::{Lengths, Stores, Way};
-use sorting_filter::walk::{plane, serpentine, walk};
+use sorting_filter::walk::{serpentine, turned};
 use sorting_filter::writer;
 
 /// What the call is handed.
@@ -44,7 +44,10 @@ impl Batch {
         let expected = cameras(&self.files, &self.lengths, &self.limits, lent);
         library::compare_cameras("cameras", result, &expected)?;
         same("whether what is only read is as it was", &(handed == *self), &true)?;
-        let right = expected.as_ref().map_or(before.clone(), |cameras| parts_after(before, cameras));
+        let right = match &expected {
+            Ok(left) => parts_after(before, left),
+            Err(_) => before,
+        };
         compare_all(&after, &right).map_err(|error| format!("cameras: {error}"))?;
         Ok(expected)
     }
@@ -80,10 +83,14 @@ impl Batch {
         same("the wrapper's first refused file", &refusal, &files.iter().find_map(|file| icemedian::check(file).err()))
     }
 
+    /// What the lengths add up to.
+    fn sum(&self) -> u128 {
+        self.lengths.iter().fold(0, |sum, &length| sum + length as u128)
+    }
+
     /// What the wrapper must say of a call that number 15 refuses.
     fn fault(&self) -> icemedian::BatchFault {
-        let (count, bytes) = (self.lengths.len(), self.files.len());
-        let sum = self.lengths.iter().fold(0, |sum, &length| sum + length as u128);
+        let (count, sum, bytes) = (self.lengths.len(), self.sum(), self.files.len());
         if count > FILES_MOST {
             return icemedian::BatchFault::Files { count };
         }
@@ -208,9 +215,7 @@ fn test_alone(random: &mut Random, file: &[u8], camera: &Camera, tally: &mut Tal
     first_difference("counts of the walk alone", &lent.counts, counts)?;
     first_difference("words of the walk alone", &lent.words, words)?;
     library::filter(file, Way::Joint.number(), &mut lent);
-    let filtered = sorting_filter::walk::Walk { answers: lent.answers, ..walk(&camera.frame, 0, 0, &[]) };
-    // A plane's rows turned round are the walk's answers.
-    first_difference("answers of the filter alone", &plane(&camera.frame, &filtered), &camera.answers)?;
+    first_difference("answers of the filter alone", &turned(&lent.answers, settings.width), &camera.answers)?;
     tally.cameras.alone += 1;
     Ok(())
 }
@@ -360,6 +365,33 @@ pub fn test_largest(random: &mut Random, tally: &mut Tally) -> Check {
     Ok(())
 }
 
+/// The lengths and the limits lie in the file's own first bytes, which no part of it uses.
+pub fn test_within_files(random: &mut Random, tally: &mut Tally) -> Check {
+    let file = bench()?.swap_remove(0);
+    for (first, second) in [(0, 2), (2, 4_096), (1, 1), (0, 4_097)] {
+        let bytes =
+            [[16 + file.len()].map(usize::to_ne_bytes).concat(), [first, second].map(u32::to_ne_bytes).concat()];
+        let bytes = [bytes.concat(), file.clone()].concat();
+        let words: Vec<u64> =
+            bytes.chunks_exact(8).map(|word| u64::from_ne_bytes(word.try_into().expect("8 bytes"))).collect();
+        // SAFETY: the numbers of these words, which are only read.
+        let (files, lengths, limits) = unsafe {
+            (
+                std::slice::from_raw_parts(words.as_ptr().cast::<u8>(), bytes.len()),
+                std::slice::from_raw_parts(words.as_ptr().cast::<usize>(), 1),
+                std::slice::from_raw_parts(words[1..].as_ptr().cast::<u32>(), 2),
+            )
+        };
+        let given = icemedian::cameras(files, lengths, limits).map(|cameras| cameras.camera(0).answered().to_vec());
+        let apart = Batch::of(&[bytes], &[first, second]);
+        let expected = apart.make(random, &room_for(&apart.frames()?))?;
+        let answers = expected.as_ref().map(|left| left.cameras[0].answers.clone()).map_err(|_| apart.fault());
+        same("a hall within its own file", &given, &answers.map_err(|fault| icemedian::Refusal::Batch { fault }))?;
+        tally.cameras.within_files += 1;
+    }
+    Ok(())
+}
+
 /// The counts, the words or the answers.
 fn room_at(lent: &mut Lengths, room: usize) -> &mut usize {
     match room {
@@ -504,7 +536,7 @@ impl Attempt {
             _ => *lengths = vec![usize::MAX, bytes + 1],
         }
         // What was wrong before may have become right.
-        if self.batch.fits() {
+        if self.batch.sum() == self.batch.files.len() as u128 {
             self.batch.files.push(0);
         }
     }
@@ -514,13 +546,6 @@ impl Attempt {
         let limit = random.pick(&[4_097, 4_097, 4_098, 8_192, 65_535, 65_536, 65_540, 1 << 31, u32::MAX]);
         let place = random.below(limits.len() + 1);
         limits.insert(random.pick(&[0, place, limits.len()]), limit);
-    }
-}
-
-impl Batch {
-    /// Whether the lengths add up.
-    fn fits(&self) -> bool {
-        self.lengths.iter().map(|&length| length as u128).sum::<u128>() == self.files.len() as u128
     }
 }
 

@@ -131,6 +131,8 @@ fn run(options: &Options) -> Result<Tally, String> {
     failures.extend(none.err().map(|message| format!("no cameras: {message}")));
     let shapes = cameras::test_shapes(&mut Random::new(options.seed), &mut tally);
     failures.extend(shapes.err().map(|message| format!("halls halted at each grant: {message}")));
+    let within = cameras::test_within_files(&mut Random::new(options.seed), &mut tally);
+    failures.extend(within.err().map(|message| format!("lengths and limits within the file: {message}")));
     let pairs = cameras::test_pairs(&mut Random::new(options.seed), &mut tally);
     failures.extend(pairs.err().map(|message| format!("two things wrong with a hall: {message}")));
     let periods = cameras::test_periods(&mut Random::new(options.seed), &mut tally);

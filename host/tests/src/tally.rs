@@ -299,6 +299,8 @@ pub struct Cameras {
     pub no_period: u64,
     pub many_periods: u64,
     pub long_periods: u64,
+    /// With lengths and limits within the file.
+    pub within_files: u64,
     /// Calls in exact buffers, files held against the library's walk and filter of them alone, and beside two sets of
     /// others.
     pub exact: u64,
@@ -360,8 +362,14 @@ impl Cameras {
             [&self.calls, self.files.as_slice(), &self.answered, &self.limits, &self.wrong_batch, &self.wrong_file];
         let turns = [self.mixed, self.empty, self.leftward, self.ended_within, self.rest_of_period, self.round_kept];
         let periods = [self.no_period, self.many_periods, self.long_periods, self.exact, self.alone, self.beside];
-        [lists.concat(), turns.to_vec(), periods.to_vec(), self.wrong_room.to_vec(), vec![self.largest, self.pairs]]
-            .concat()
+        [
+            lists.concat(),
+            turns.to_vec(),
+            periods.to_vec(),
+            self.wrong_room.to_vec(),
+            vec![self.largest, self.pairs, self.within_files],
+        ]
+        .concat()
     }
 }
 
@@ -576,9 +584,9 @@ impl Tally {
         let ([built_in, own, guided], [none, some, all]) = (cameras.files, cameras.answered);
         writeln!(
             f,
-            "calls over 0 to 8 files: {:?}, {} with both kinds, {} in exact buffers; files with the built-in weights: \
+            "calls over 0 to 8 files: {:?}, {} with both kinds, {} in exact buffers, {} within the file; files with the built-in weights: \
              {built_in}, with an own table: {own}, of kind 2: {guided}; with no answer: {none}, some: {some}, all: {all}",
-            cameras.calls, cameras.mixed, cameras.exact
+            cameras.calls, cameras.mixed, cameras.exact, cameras.within_files
         )?;
         writeln!(
             f,
