@@ -1,5 +1,6 @@
 //! Several cameras: status, grants and every place of the lent buffers held against the sorting filter, whose schedule is
-//! a queue. Small halls are halted at every grant, and every pair of checks is made to fire at once.
+//! a queue. Small halls are halted at every grant, and every pair of checks is made to fire at once. Where a file of
+//! other tests is looked at too, it is with a copy of their generator, so that their numbers stay the same.
 
 use crate::buffers::{compare_all, first_difference, front, roomy, Buffers};
 use crate::library;
@@ -182,7 +183,8 @@ fn random_hall(random: &mut Random, file: &[u8]) -> (Vec<Vec<u8>>, usize) {
 }
 
 /// An accepted file among others, halted and finished, its part held against the library's own calls on it alone.
-pub fn test(random: &mut Random, file: &[u8], frame: &Frame, tally: &mut Tally) -> Check {
+pub fn test(random: &Random, file: &[u8], frame: &Frame, tally: &mut Tally) -> Check {
+    let random = &mut random.clone();
     // The whole of a long frame takes long to sort.
     if frame.settings.pixels() > 5_000 {
         return Ok(());
@@ -508,10 +510,10 @@ impl Attempt {
 
     /// Lengths that do not add up, among them some whose sum would if it were cut to 64, 32 or 16 bits.
     fn spoil_lengths(&mut self, random: &mut Random) {
-        let (bytes, lengths) = (self.batch.files.len(), &mut self.batch.lengths);
-        if lengths.is_empty() {
+        if self.batch.sum() != self.batch.files.len() as u128 {
             return;
         }
+        let (bytes, lengths) = (self.batch.files.len(), &mut self.batch.lengths);
         let (any, last) = (random.below(lengths.len()), lengths.len() - 1);
         match random.below(12) {
             0 => lengths[last] += 1,
@@ -535,7 +537,7 @@ impl Attempt {
             }
             _ => *lengths = vec![usize::MAX, bytes + 1],
         }
-        // What was wrong before may have become right.
+        // A length of 0 that is taken off changes no sum.
         if self.batch.sum() == self.batch.files.len() as u128 {
             self.batch.files.push(0);
         }
@@ -579,7 +581,8 @@ fn try_wrong(random: &mut Random, files: Vec<Vec<u8>>, wrong: &[Wrong], tally: &
 }
 
 /// A file among others, and one or two things wrong: with any of them, or with the call.
-pub fn test_refused(random: &mut Random, file: &[u8], tally: &mut Tally) -> Check {
+pub fn test_refused(random: &Random, file: &[u8], tally: &mut Tally) -> Check {
+    let random = &mut random.clone();
     for _ in 0..3 {
         let (files, place) = random_hall(random, file);
         let other = random.below(files.len());
@@ -598,7 +601,8 @@ pub fn test_refused(random: &mut Random, file: &[u8], tally: &mut Tally) -> Chec
 }
 
 /// A file of the list of damaged ones behind its whole file and before it; it may be accepted.
-pub fn test_listed(random: &mut Random, whole: &[u8], damaged: &[u8], tally: &mut Tally) -> Check {
+pub fn test_listed(random: &Random, whole: &[u8], damaged: &[u8], tally: &mut Tally) -> Check {
+    let random = &mut random.clone();
     let twice = Batch::of(&[whole.to_vec(), whole.to_vec()], &[]);
     let room = roomy(random, &room_for(&twice.frames()?));
     for files in [[whole, damaged], [damaged, whole]] {
