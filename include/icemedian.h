@@ -208,9 +208,9 @@ uint32_t icemedian_tolerance(const uint8_t *file, size_t file_length,
  * were made in all periods.
  * Each file has its own part of `counts`, `words` and `answers`; the parts lie end to end in the files' order. Where d
  * of a file's pixels were answered, the first d numbers of its answers are those of the serpentine, in its order and
- * not row by row, and the others stay as lent; its counts and words are way 1's for the window of the last pixel
- * answered, as icemedian_walk leaves them after d - 1 moves. With d = 0 all its parts stay as lent. Which files lie
- * beside it changes how many of its pixels are answered, never an answer. */
+ * not row by row, each a level or ICEMEDIAN_NO_READING, and the others stay as lent; its counts and words are way 1's
+ * for the window of the last pixel answered, as icemedian_walk leaves them after d - 1 moves. With d = 0 all its parts
+ * stay as lent. Which files lie beside it changes how many of its pixels are answered, never an answer. */
 uint32_t icemedian_cameras(const uint8_t *files, size_t files_length,
                            const size_t *lengths, size_t file_count,
                            const uint32_t *limits, size_t period_count,

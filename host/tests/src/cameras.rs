@@ -3,17 +3,19 @@
 //! other tests is looked at too, it is with a copy of their generator, so that their numbers stay the same.
 
 use crate::buffers::{compare_all, first_difference, front, roomy, Buffers};
+use crate::dead;
+use crate::hollow;
 use crate::library;
 use crate::refusals::count;
 use crate::tally::Tally;
+use crate::writing::written;
 use crate::{same, Check};
 use sorting_filter::cameras::{cameras, files_of, room_for, Camera, Cameras, FILES_MOST, LIMIT_MOST};
 use sorting_filter::frame::{open, Frame, Settings, KIND_GUIDED, KIND_TABLE};
-use sorting_filter::random::{accepted_file, accepted_file_of, damage, kill, random_classes, random_values, Random};
+use sorting_filter::random::{accepted_file, accepted_file_of, damage, Random};
 use sorting_filter::refusal::Refusal;
 use sorting_filter::store::{Lengths, Stores, Way};
 use sorting_filter::walk::{serpentine, turned};
-use sorting_filter::writer;
 
 /// What the call is handed.
 #[derive(Clone, Debug, PartialEq, Eq)]
@@ -57,7 +59,7 @@ impl Batch {
     fn accepted(&self, random: &mut Random, tally: &mut Tally) -> Result<Cameras, String> {
         let needed = room_for(&self.frames()?);
         let exact = random.once_in(3);
-        let lent = if exact { needed } else { Lengths { numbers: 0, summary: 0, ..roomy(random, &needed) } };
+        let lent = if exact { needed } else { roomy_parts(random, &needed) };
         let left = self.make(random, &lent)?.map_err(|refusal| refusal.to_string())?;
         tally.cameras.exact += u64::from(exact);
         tally.cameras.count(&left, &self.limits);
@@ -118,6 +120,11 @@ impl Batch {
         }
         Ok(())
     }
+}
+
+/// Lengths a little above the needed ones, of the buffers that the call has.
+fn roomy_parts(random: &mut Random, needed: &Lengths) -> Lengths {
+    Lengths { numbers: 0, summary: 0, ..roomy(random, needed) }
 }
 
 /// What the buffers must hold after a call: the files' parts, end to end.
@@ -227,7 +234,7 @@ fn bench() -> Result<Vec<Vec<u8>>, String> {
     let row = |kind: u8, guides: u16, radius: u8, values: &[u16], guide: &[u16], table: &[u16]| {
         let (width, smoothing) = (values.len() as u16, u16::from(kind == KIND_GUIDED));
         let settings = Settings { width, height: 1, levels: 8, guides, kind, radius, smoothing };
-        writer::write(&settings.asked(), values, guide, table, usize::MAX).map_err(|refusal| refusal.to_string())
+        written(&settings, values, guide, table)
     };
     Ok(vec![
         row(KIND_GUIDED, 4, 1, &[5, 1, 3], &[0, 0, 2], &[])?,
@@ -262,20 +269,16 @@ pub fn test_bench(random: &mut Random, tally: &mut Tally) -> Check {
 const SHAPES: [(u16, u16, u16, u16); 7] =
     [(1, 1, 2, 2), (2, 1, 8, 3), (1, 2, 3, 65), (3, 1, 17, 2), (2, 2, 4, 64), (3, 2, 9, 5), (2, 4, 2, 129)];
 
-/// A small frame: of either kind, with dead pixels or guides and a table that leave hollow windows now and then.
+/// A small frame of either kind, now and then with dead pixels or hollow windows.
 fn small_file(random: &mut Random, (width, height, levels, guides): (u16, u16, u16, u16)) -> Result<Vec<u8>, String> {
     let (kind, smoothing) = random.pick(&[(KIND_TABLE, 0), (KIND_GUIDED, 9)]);
     let radius = random.within(0, 2) as u8;
     let settings = Settings { width, height, levels, guides, kind, radius, smoothing };
-    if kind == KIND_GUIDED || random.once_in(3) {
-        return Ok(accepted_file_of(random, &settings));
+    match random.below(3) {
+        0 if kind == KIND_TABLE => hollow::file(random, &settings).map(|(file, _)| file),
+        1 => dead::file(random, &settings).map(|(file, _)| file),
+        _ => Ok(accepted_file_of(random, &settings)),
     }
-    let mut values = random_values(random, &settings);
-    if random.once_in(3) {
-        kill(random, &settings, &mut values);
-    }
-    let (guide, table) = random_classes(random, &settings);
-    writer::write(&settings.asked(), &values, &guide, &table, usize::MAX).map_err(|refusal| refusal.to_string())
 }
 
 fn small_files(random: &mut Random, count: usize) -> Result<Vec<Vec<u8>>, String> {
@@ -345,8 +348,7 @@ pub fn test_largest(random: &mut Random, tally: &mut Tally) -> Check {
         Settings { width: 1024, height: 256, levels: 1024, guides: 256, kind: KIND_TABLE, radius: 0, smoothing: 0 };
     let mut plane = |most: u16| -> Vec<u16> { (0..settings.pixels()).map(|_| random.within(0, most)).collect() };
     let (values, guides) = (plane(1023), plane(255));
-    let large =
-        writer::write(&settings.asked(), &values, &guides, &[], usize::MAX).map_err(|error| error.to_string())?;
+    let large = written(&settings, &values, &guides, &[])?;
     let files = [vec![large], bench()?].concat();
     for periods in [17, 65] {
         let left = Batch::of(&files, &vec![4_096; periods]).accepted(random, tally)?;
@@ -455,7 +457,7 @@ impl Attempt {
         let mut batch = Batch::of(&files, &[]);
         let needed = room_for(&batch.frames()?);
         batch.limits = random_limits(random, needed.answers);
-        Ok(Attempt { files, batch, needed, lent: Lengths { numbers: 0, summary: 0, ..roomy(random, &needed) } })
+        Ok(Attempt { files, batch, needed, lent: roomy_parts(random, &needed) })
     }
 
     /// Makes the call wrong in all these ways; the number that must fire.
@@ -604,10 +606,10 @@ pub fn test_refused(random: &Random, file: &[u8], tally: &mut Tally) -> Check {
 pub fn test_listed(random: &Random, whole: &[u8], damaged: &[u8], tally: &mut Tally) -> Check {
     let random = &mut random.clone();
     let twice = Batch::of(&[whole.to_vec(), whole.to_vec()], &[]);
-    let room = roomy(random, &room_for(&twice.frames()?));
+    let room = roomy_parts(random, &room_for(&twice.frames()?));
     for files in [[whole, damaged], [damaged, whole]] {
         let batch = Batch::of(&files.map(<[u8]>::to_vec), &[3, 4_096]);
-        count(&batch.make(random, &Lengths { numbers: 0, summary: 0, ..room })?, tally);
+        count(&batch.make(random, &room)?, tally);
     }
     Ok(())
 }
