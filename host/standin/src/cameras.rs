@@ -346,7 +346,7 @@ fn grants_said(turns: &[Turn], pixels: &[usize], limits: &[u32]) -> u64 {
     let of_period = |period: usize| turns.iter().filter(|turn| turn.period == period).count() as u64;
     let sum = limits.iter().map(|&limit| u64::from(limit)).sum();
     match CHOSEN.as_str() {
-        // As if each period made all its grants, or as if all but the last did.
+        // As if each period made all its grants, or the one in which the last grant is made.
         "cameras_grants_of_limits" => sum,
         "cameras_grants_after_finish" if right > 0 => {
             let last = turns[turns.len() - 1].period;
@@ -459,26 +459,24 @@ fn spoil_stores(camera: &mut Camera, d: usize) {
         }
         _ => camera.stores.clone(),
     };
-    let previous = if d > 1 { after(d - 1) } else { None };
     camera.stores = other;
-    let finished = d == camera.room.answers;
+    let previous = || match after(d - 1) {
+        Some(Stores::Joint { counts, words }) => (counts, words),
+        _ => (Vec::new(), Vec::new()),
+    };
     let Some(Stores::Joint { counts, words }) = &mut camera.stores else { return };
     match CHOSEN.as_str() {
-        "cameras_finished_cleared" if finished => {
+        "cameras_finished_cleared" if d == camera.room.answers => {
             counts.fill(0);
             words.fill(0);
         }
         "cameras_words_cleared" => words.fill(0),
         "cameras_cell" => spoil(counts, camera.room.counts - 1),
         "cameras_bit" => spoil(words, camera.room.words - 1),
-        _ => {}
-    }
-    let Some(Stores::Joint { counts: old_counts, words: old_words }) = previous else { return };
-    match CHOSEN.as_str() {
-        "cameras_counts_previous" => *counts = old_counts,
-        "cameras_words_previous" => *words = old_words,
-        "cameras_words_kept" => words.iter_mut().zip(old_words).for_each(|(word, old)| *word |= old),
-        "cameras_counts_added" => counts.iter_mut().zip(old_counts).for_each(|(count, old)| *count += old),
+        "cameras_counts_previous" if d > 1 => *counts = previous().0,
+        "cameras_words_previous" if d > 1 => *words = previous().1,
+        "cameras_words_kept" if d > 1 => words.iter_mut().zip(previous().1).for_each(|(word, old)| *word |= old),
+        "cameras_counts_added" if d > 1 => counts.iter_mut().zip(previous().0).for_each(|(count, old)| *count += old),
         _ => {}
     }
 }
