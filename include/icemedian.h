@@ -1,7 +1,7 @@
 /* icemedian: weighted median filter for thermal frames of ice sheets, proved against document 01.
  *
- * Link with libicemedian_c.a. Every call works on the bytes of a whole frame, makes all checks itself
- * and keeps nothing between calls, so calls on different buffers may run at the same time.
+ * Link with libicemedian_c.a. Every call works on the bytes of a whole frame, or of several, makes all checks
+ * itself and keeps nothing between calls, so calls on different buffers may run at the same time.
  *
  * Every call returns a status: 0, or the number of the first check that fires.
  *
@@ -18,19 +18,23 @@
  *           neither 0 nor, in kind 1, guides * guides
  *   7       a value >= level count that is not 65,535 (no reading), or a guide >= guide count, searched in that
  *           order; `offset` is the byte offset of the first such number's high byte in the file, for
- *           icemedian_write the one that it would have. A weight may be any 16-bit number
+ *           icemedian_write the one that it would have, for icemedian_cameras within the one file that is refused.
+ *           A weight may be any 16-bit number
  *   8       the way is not 1 to 4, or does not serve the kind (ways 2 and 3 serve kind 2 only).
  *           In icemedian_tolerance: the kind is 2
  *   9       the pixel is outside the picture, or the level of a balance outside the levels
  *   10      over 1,048,576 moves
  *   11      a store that the way uses, the answers or the output is too short.
  *           In icemedian_tolerance: counts, words or either output.
- *           In icemedian_split and icemedian_join: the output is shorter than the file
+ *           In icemedian_split and icemedian_join: the output is shorter than the file.
+ *           In icemedian_cameras: counts, words or answers is shorter than the parts of all files together
  *   13      the length of the upper plane is not width * height, a reading is above its upper level, an upper level
  *           that is not 65,535 is >= level count, or only one of a pixel's reading and upper level is 65,535;
  *           checked after 8 and before 11
  *   14      icemedian_split and icemedian_join alone: the guide plane or a table of the file's own has a byte in common
  *           with the value plane; checked after 6 and before 7
+ *   15      icemedian_cameras alone: over 8 files, the lengths do not add up to `files_length` (by their true sum, never
+ *           cut to a size_t), or a limit is above 4,096; checked before all else
  *
  * 12 is of the program icemedian alone.
  *
@@ -45,10 +49,10 @@
  * that is cut down, by C and before the call.
  *
  * Pointers must be aligned for their type. A pointer may be NULL where its length is 0; pointers to
- * results (`shifts`, `least_shifts`, `greatest_shifts`, `cut`, `balance_box`, `balance`, `pixels`, `total`, `level`,
- * `below`, `reached`, `cause`, `length`, `offset`) never. What is only read (`file`, `upper`, `moves`, `values`,
- * `guide`, `table`) may overlap. Whatever is written (stores, `answers`, `output`, `least`, `greatest`, every result)
- * must overlap nothing else of the same call, nor one result another.
+ * results (`shifts`, `least_shifts`, `greatest_shifts`, `grants`, `cut`, `balance_box`, `balance`, `pixels`, `total`,
+ * `level`, `below`, `reached`, `cause`, `length`, `offset`) never. What is only read (`file`, `files`, `lengths`,
+ * `limits`, `upper`, `moves`, `values`, `guide`, `table`) may overlap. Whatever is written (stores, `answers`,
+ * `output`, `least`, `greatest`, every result) must overlap nothing else of the same call, nor one result another.
  */
 #ifndef ICEMEDIAN_H
 #define ICEMEDIAN_H
@@ -69,9 +73,10 @@
  * 0.8: no call takes other arguments, but a value of 65,535 means no reading, which 7 refused before, so that an
  * answer may be 65,535 too; ICEMEDIAN_NO_READING and the cause ICEMEDIAN_EMPTY are new.
  * 0.9: icemedian_tolerance and its number 13 are new; nothing else changes.
- * 0.10: icemedian_split, icemedian_join and their number 14 are new; nothing else changes. */
+ * 0.10: icemedian_split, icemedian_join and their number 14 are new; nothing else changes.
+ * 0.11: icemedian_cameras and its number 15 are new; nothing else changes. */
 #define ICEMEDIAN_VERSION_MAJOR 0
-#define ICEMEDIAN_VERSION_MINOR 10
+#define ICEMEDIAN_VERSION_MINOR 11
 
 #ifdef __cplusplus
 #define ICEMEDIAN_SIZE(number) static_cast<size_t>(number)
@@ -133,6 +138,11 @@ enum { ICEMEDIAN_DEFAULT_RADIUS = 7, ICEMEDIAN_DEFAULT_SMOOTHING = 64 };
     (4 * ICEMEDIAN_SIZE(width) * ICEMEDIAN_SIZE(height) + 2 * ICEMEDIAN_SIZE(table_weights) + 28)
 #define ICEMEDIAN_BOX_LENGTH 256
 
+/* The most files of icemedian_cameras, and the most grants of one period. Of its buffers a file's part takes
+ * ICEMEDIAN_COUNTS_LENGTH counts, ICEMEDIAN_WORDS_LENGTH words and ICEMEDIAN_OUTPUT_LENGTH answers. */
+#define ICEMEDIAN_CAMERAS_MOST_FILES 8
+#define ICEMEDIAN_CAMERAS_MOST_GRANTS 4096
+
 /* Settings of a file that icemedian_check accepts. */
 #define ICEMEDIAN_TRAILER16(file, length, place) \
     ((file)[(length) - 28 + (place)] * 256u + (file)[(length) - 27 + (place)])
@@ -149,6 +159,7 @@ enum { ICEMEDIAN_DEFAULT_RADIUS = 7, ICEMEDIAN_DEFAULT_SMOOTHING = 64 };
  * array: every byte goes straight to its place in `output`. */
 #define ICEMEDIAN_FILTER_STACK 16384
 #define ICEMEDIAN_TOLERANCE_STACK 16384
+#define ICEMEDIAN_CAMERAS_STACK 32768
 #define ICEMEDIAN_WALK_STACK 16384
 #define ICEMEDIAN_EXPLAIN_STACK 16384
 #define ICEMEDIAN_BALANCE_STACK 2048
@@ -186,6 +197,27 @@ uint32_t icemedian_tolerance(const uint8_t *file, size_t file_length,
                              uint16_t *least, size_t least_length,
                              uint16_t *greatest, size_t greatest_length,
                              uint64_t *least_shifts, uint64_t *greatest_shifts, uint64_t *offset);
+
+/* Filters up to 8 frames by turns, a pixel at a time, within the limits of control periods: check 15, then checks 1 to
+ * 7 file by file in their order, then 11. The files lie end to end in `files`; `lengths` has the length of each in
+ * bytes, and `limits` the most grants of each period, 0 to 4,096. There may be no file, and no period.
+ * A grant answers one pixel, the next one of its frame's serpentine: row 0 rightward, row 1 leftward, and so on. It
+ * goes to the next frame that has a pixel left, by rising number and from the last one round to the first, beginning
+ * after the frame that was served last; the very first grant begins with file 0. A period makes as many grants as its
+ * limit says, or fewer where every frame is finished; the next period goes on where it stopped. `grants` is how many
+ * were made in all periods.
+ * Each file has its own part of `counts`, `words` and `answers`; the parts lie end to end in the files' order. Where d
+ * of a file's pixels were answered, the first d numbers of its answers are those of the serpentine, in its order and
+ * not row by row, each a level or ICEMEDIAN_NO_READING, and the others stay as lent; its counts and words are way 1's
+ * for the window of the last pixel answered, as icemedian_walk leaves them after d - 1 moves. With d = 0 all its parts
+ * stay as lent. Which files lie beside it changes how many of its pixels are answered, never an answer. */
+uint32_t icemedian_cameras(const uint8_t *files, size_t files_length,
+                           const size_t *lengths, size_t file_count,
+                           const uint32_t *limits, size_t period_count,
+                           uint16_t *counts, size_t counts_length,
+                           uint64_t *words, size_t words_length,
+                           uint16_t *answers, size_t answers_length,
+                           uint64_t *grants, uint64_t *offset);
 
 /* Walks from a pixel along a list of moves: checks 1 to 11. `answers` gets the start's answer and then
  * one for each move byte: a level, ICEMEDIAN_NO_READING, or one of the two marks of a byte that moves nothing. The

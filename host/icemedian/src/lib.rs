@@ -35,6 +35,30 @@
 //! For an archive, [`split`] moves the high bytes of a frame's values before their low bytes, and [`join`] gives the
 //! very file back.
 //!
+//! Where a hall has several sheets, [`cameras`] filters up to eight files by turns, within the limits of control periods.
+//! Here a period of three grants answers two pixels of the first sheet and one of the second, and two more the rest:
+//!
+//! ```
+//! use icemedian::{cameras, end_to_end, write, Settings, Weights};
+//!
+//! let settings = Settings { width: 2, height: 2, levels: 8, guides: 2, weights: Weights::Table, radius: 0 };
+//! let north = write(&settings, &[1, 2, 3, 4], &[0; 4], &[])?;
+//! let south = write(&Settings { height: 1, ..settings }, &[5, 6], &[0; 2], &[])?;
+//! let (files, lengths) = end_to_end(&[north, south]);
+//!
+//! let halted = cameras(&files, &lengths, &[3])?;
+//! assert_eq!(halted.camera(0).answered(), [1, 2]);
+//! assert_eq!(halted.camera(0).plane(), [Some(1), Some(2), None, None]);
+//! assert_eq!(halted.camera(1).plane(), [Some(5), None]);
+//!
+//! let finished = cameras(&files, &lengths, &[3, 0, 4096])?;
+//! assert_eq!(finished.grants, 6);
+//! // Answers come in the order of the walk: row 0 rightward, row 1 leftward.
+//! assert_eq!(finished.camera(0).answers, [1, 2, 4, 3]);
+//! assert_eq!(finished.camera(0).plane(), [1, 2, 3, 4].map(Some));
+//! # Ok::<(), icemedian::Refusal>(())
+//! ```
+//!
 //! A refusal says its number and its reason:
 //!
 //! ```
@@ -46,6 +70,7 @@
 //! ```
 
 mod byte_planes;
+mod cameras;
 mod explanation;
 pub mod raw;
 mod reading;
@@ -55,9 +80,10 @@ mod stores;
 mod tolerance;
 
 pub use byte_planes::{join, join_into, split, split_into};
+pub use cameras::{cameras, cameras_into, end_to_end, Camera, Cameras};
 pub use explanation::{Cause, Explanation};
-pub use reading::{reading, Answer, NO_READING, OFF_PICTURE, UNKNOWN_MOVE};
-pub use refusal::{Part, Refusal};
+pub use reading::{reading, Answer, NOT_ANSWERED, NO_READING, OFF_PICTURE, UNKNOWN_MOVE};
+pub use refusal::{BatchFault, Part, Refusal};
 pub use settings::{Settings, Way, Weights};
 pub use stores::Stores;
 pub use tolerance::{tolerance, tolerance_into, Tolerance};

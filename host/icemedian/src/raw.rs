@@ -43,6 +43,23 @@ mod c {
             offset: *mut u64,
         ) -> u32;
 
+        pub fn icemedian_cameras(
+            files: *const u8,
+            files_length: usize,
+            lengths: *const usize,
+            file_count: usize,
+            limits: *const u32,
+            period_count: usize,
+            counts: *mut u16,
+            counts_length: usize,
+            words: *mut u64,
+            words_length: usize,
+            answers: *mut u16,
+            answers_length: usize,
+            grants: *mut u64,
+            offset: *mut u64,
+        ) -> u32;
+
         pub fn icemedian_walk(
             file: *const u8,
             file_length: usize,
@@ -142,6 +159,14 @@ pub struct LentTwo<'a> {
     pub greatest: &'a mut [u16],
 }
 
+/// Way 1's stores and the answers of `icemedian_cameras`, which the parts of its files share.
+#[derive(Debug)]
+pub struct LentParts<'a> {
+    pub counts: &'a mut [u16],
+    pub words: &'a mut [u64],
+    pub answers: &'a mut [u16],
+}
+
 /// The results of `icemedian_explain`, the cause by its number.
 #[derive(Clone, Copy, Debug, Default, PartialEq, Eq)]
 pub struct Explained {
@@ -221,6 +246,36 @@ pub fn tolerance(
             lent.greatest.len(),
             least_shifts,
             greatest_shifts,
+            offset,
+        )
+    }
+}
+
+/// `icemedian_cameras`.
+pub fn cameras(
+    files: &[u8],
+    lengths: &[usize],
+    limits: &[u32],
+    lent: LentParts,
+    grants: &mut u64,
+    offset: &mut u64,
+) -> u32 {
+    // SAFETY: each pointer and length belong to one slice; a mutable slice overlaps no other.
+    unsafe {
+        c::icemedian_cameras(
+            files.as_ptr(),
+            files.len(),
+            lengths.as_ptr(),
+            lengths.len(),
+            limits.as_ptr(),
+            limits.len(),
+            lent.counts.as_mut_ptr(),
+            lent.counts.len(),
+            lent.words.as_mut_ptr(),
+            lent.words.len(),
+            lent.answers.as_mut_ptr(),
+            lent.answers.len(),
+            grants,
             offset,
         )
     }

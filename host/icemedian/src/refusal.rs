@@ -1,6 +1,7 @@
-//! Refusals, by document 01's numbers and document 02's 13 and 14.
+//! Refusals, by document 01's numbers and document 02's 13 to 15.
 
-use crate::{reading, Settings, Weights, NO_READING};
+use crate::cameras::files_of;
+use crate::{raw, reading, Settings, Weights, NO_READING};
 use std::error::Error;
 use std::fmt;
 
@@ -19,6 +20,31 @@ impl fmt::Display for Part {
             Part::Guide => "guide plane",
             Part::Table => "table",
         })
+    }
+}
+
+/// What number 15 finds wrong with a call over several files.
+#[derive(Clone, Copy, Debug, PartialEq, Eq)]
+pub enum BatchFault {
+    /// There are over 8 files.
+    Files { count: usize },
+    /// The lengths do not add up to the buffer.
+    Lengths { sum: u128, bytes: usize },
+    /// The first period whose limit is above 4,096.
+    Limit { period: usize, limit: u32 },
+}
+
+impl fmt::Display for BatchFault {
+    fn fmt(&self, f: &mut fmt::Formatter<'_>) -> fmt::Result {
+        match *self {
+            BatchFault::Files { count } => write!(f, "there are {count} files, and may be at most 8"),
+            BatchFault::Lengths { sum, bytes } => {
+                write!(f, "the files' lengths add up to {sum} bytes, and the buffer has {bytes}")
+            }
+            BatchFault::Limit { period, limit } => {
+                write!(f, "the limit of period {period} is {limit}, and must be at most 4096")
+            }
+        }
     }
 }
 
@@ -60,6 +86,8 @@ pub enum Refusal {
     /// 14: this part, the guide plane or else the table, has a byte in common with the value plane, which can then not
     /// be split or joined alone.
     Overlap { part: Part },
+    /// 15: files, lengths or limits of a call over several files are wrong.
+    Batch { fault: BatchFault },
     /// A status that the documents do not have: the archive is not the one that this crate is written for.
     Unknown { status: u32 },
     /// An explanation whose cause document 02 does not have, though no check fired: likewise.
@@ -105,6 +133,37 @@ impl Refusal {
             14 => Err(Refusal::overlap(file)),
             _ => Refusal::of_reading(status, offset, file),
         }
+    }
+
+    /// What a status says of a call over several files; 1 to 7 are of the first file that [`check`](crate::check) refuses.
+    pub(crate) fn of_cameras(
+        status: u32,
+        offset: u64,
+        files: &[u8],
+        lengths: &[usize],
+        limits: &[u32],
+    ) -> Result<(), Refusal> {
+        match status {
+            15 => Err(Refusal::batch(files, lengths, limits)),
+            _ => Refusal::of_status(status, offset, || {
+                let mut refused = files_of(files, lengths).filter(|file| raw::check(file, &mut 0) == 6);
+                refused.next().map_or(Refusal::Unknown { status }, Refusal::distance)
+            }),
+        }
+    }
+
+    /// What is at fault in a call that number 15 refuses: the number of files, else their lengths, else a limit.
+    fn batch(files: &[u8], lengths: &[usize], limits: &[u32]) -> Refusal {
+        let (count, bytes) = (lengths.len(), files.len());
+        let sum = lengths.iter().map(|&length| length as u128).sum();
+        let limit = limits.iter().enumerate().find(|&(_, &limit)| limit > 4_096);
+        let fault = match limit {
+            _ if count > 8 => BatchFault::Files { count },
+            _ if sum != bytes as u128 => BatchFault::Lengths { sum, bytes },
+            Some((period, &limit)) => BatchFault::Limit { period, limit },
+            None => return Refusal::Unknown { status: 15 },
+        };
+        Refusal::Batch { fault }
     }
 
     /// The first part that overlaps the value plane in a file that number 14 refuses, and no check from 1 to 6.
@@ -192,6 +251,7 @@ impl Refusal {
             Refusal::Room => 11,
             Refusal::UpperLength { .. } | Refusal::UpperLevel { .. } => 13,
             Refusal::Overlap { .. } => 14,
+            Refusal::Batch { .. } => 15,
             Refusal::Unknown { status } => status,
             Refusal::UnknownCause { .. } => 0,
         }
@@ -247,6 +307,7 @@ impl fmt::Display for Refusal {
                 _ => write!(f, "the upper level of pixel {pixel} is {upper}, which is none of the frame's levels"),
             },
             Refusal::Overlap { part } => write!(f, "the {part} has a byte in common with the value plane"),
+            Refusal::Batch { fault } => write!(f, "{fault}"),
             Refusal::Unknown { .. } => write!(f, "a status that the documents do not have"),
             Refusal::UnknownCause { cause } => write!(f, "a cause, {cause}, that document 02 does not have"),
         }

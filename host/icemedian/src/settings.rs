@@ -91,6 +91,12 @@ impl Settings {
         }
     }
 
+    /// How many counts and words way 1 needs.
+    pub(crate) fn joint_room(&self) -> (usize, usize) {
+        let (levels, guides) = (usize::from(self.levels), usize::from(self.guides));
+        (levels * guides, levels * guides.div_ceil(64))
+    }
+
     /// The settings as the C interface takes them.
     pub(crate) fn header(&self) -> Header {
         Header {

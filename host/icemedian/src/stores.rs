@@ -48,12 +48,12 @@ impl Stores {
             return Err(Refusal::Way);
         }
         let levels = usize::from(settings.levels);
-        let guides = usize::from(settings.guides);
         let side = 2 * usize::from(settings.radius) + 1;
         match way {
             Way::Joint | Way::Coarse => {
-                lengthen(&mut self.counts, levels * guides);
-                lengthen(&mut self.words, levels * guides.div_ceil(64));
+                let (counts, words) = settings.joint_room();
+                lengthen(&mut self.counts, counts);
+                lengthen(&mut self.words, words);
                 if way == Way::Coarse {
                     lengthen(&mut self.summary, levels.div_ceil(16));
                 }
@@ -61,6 +61,16 @@ impl Stores {
             Way::Columns => lengthen(&mut self.numbers, 2 * (usize::from(settings.width) + 1) * levels),
             Way::Chain => lengthen(&mut self.numbers, 1 + 4 * side * side),
         }
+        Ok(())
+    }
+
+    /// Makes counts and words at least as long as the parts of all these frames together, for
+    /// [`cameras_into`](crate::cameras_into); refused as [`Stores::fitting`] is, with the stores as they were.
+    pub fn fit_cameras(&mut self, cameras: &[Settings]) -> Result<(), Refusal> {
+        cameras.iter().try_for_each(Settings::check)?;
+        let rooms = || cameras.iter().map(Settings::joint_room);
+        lengthen(&mut self.counts, rooms().map(|(counts, _)| counts).sum());
+        lengthen(&mut self.words, rooms().map(|(_, words)| words).sum());
         Ok(())
     }
 

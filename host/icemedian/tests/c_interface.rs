@@ -1,5 +1,5 @@
-//! The header as C and C++ programs use it: it compiles in every standard without a warning, the example
-//! prints what document 01 says, `interface.c` finds the header's promises kept, and the version is this crate's.
+//! The header as C and C++ programs use it: it compiles in every standard without a warning, the examples
+//! print what the documents say, `interface.c` finds the header's promises kept, and the version is this crate's.
 
 use std::path::{Path, PathBuf};
 use std::process::{Command, Output};
@@ -12,8 +12,9 @@ fn root() -> PathBuf {
     Path::new(env!("CARGO_MANIFEST_DIR")).join("../..")
 }
 
-fn example() -> PathBuf {
-    root().join("examples/example.c")
+/// The examples: one frame, and a hall with three sheets.
+fn examples() -> [PathBuf; 2] {
+    ["example.c", "cameras.c"].map(|name| root().join("examples").join(name))
 }
 
 fn interface() -> PathBuf {
@@ -46,11 +47,17 @@ fn run(name: &str, source: &Path) -> Output {
 }
 
 #[test]
-fn the_example_prints_bench_a() {
-    let output = run("example", &example());
-    assert!(output.status.success());
-    let text = "1 3 3, shifts 3\nlevel 3: of 51, the levels below it weigh 21, with it 30\n";
-    assert_eq!(String::from_utf8_lossy(&output.stdout), text);
+fn the_examples_print_the_bench() {
+    let texts = [
+        "1 3 3, shifts 3\nlevel 3: of 51, the levels below it weigh 21, with it 30\n",
+        "4 pixels: 1 3 -, 2 - - - -, 2 -\n4 pixels: 1 3 -, 2 - - - -, 2 -\n7 pixels: 1 3 3, 2 2 - - -, 2 2\n",
+    ];
+    for (source, text) in examples().iter().zip(texts) {
+        let name = source.file_stem().unwrap().to_str().unwrap();
+        let output = run(name, source);
+        assert!(output.status.success(), "{name}");
+        assert_eq!(String::from_utf8_lossy(&output.stdout), text);
+    }
 }
 
 #[test]
@@ -62,7 +69,7 @@ fn the_headers_promises_are_kept() {
 #[test]
 fn every_c_standard() {
     for standard in C_STANDARDS {
-        for source in [example(), interface()] {
+        for source in examples().into_iter().chain([interface()]) {
             compile("cc", standard, &["-fsyntax-only", "-Wconversion"], &source, &[]);
         }
     }
@@ -71,7 +78,9 @@ fn every_c_standard() {
 #[test]
 fn every_cpp_standard() {
     for standard in CPP_STANDARDS {
-        compile("c++", standard, &["-fsyntax-only", "-xc++"], &example(), &[]);
+        for source in examples() {
+            compile("c++", standard, &["-fsyntax-only", "-xc++"], &source, &[]);
+        }
         compile("c++", standard, &["-fsyntax-only", "-xc++", "-Wold-style-cast"], &interface(), &[]);
     }
 }

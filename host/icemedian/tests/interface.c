@@ -1,7 +1,7 @@
 /* What the header promises a C program: NULL where a length is 0, numbers that are too wide refused and not
  * cut down, results left alone by refusals, what is read may overlap, a weight may be any number, way 4's
  * count and summary, a window in which nothing weighs, an explanation of each cause, dead pixels, tolerances, byte
- * planes, and the macros. It prints each promise that is not kept. */
+ * planes, several cameras, and the macros. It prints each promise that is not kept. */
 #include "icemedian.h"
 #include <stdio.h>
 #include <string.h>
@@ -20,7 +20,7 @@ static int failures;
 
 /* All results of a call, full of one byte before it. */
 static struct {
-    uint64_t shifts, least_shifts, greatest_shifts, offset;
+    uint64_t shifts, least_shifts, greatest_shifts, grants, offset;
     int64_t balance, total, below, reached;
     size_t length, pixels;
     uint32_t cause;
@@ -569,6 +569,95 @@ static void test_byte_planes_refused(void) {
     expect_status("join, a table from the guide plane's first byte", join(moved_wrong, MOVED, MOVED), 0);
 }
 
+/* Document 01's frame twice, end to end. */
+enum { HALL = 2 * FILE_BYTES, HALL_COUNTS = 2 * COUNTS, HALL_WORDS = 2 * WORDS, HALL_PIXELS = 2 * PIXELS };
+static uint8_t hall[HALL];
+static uint16_t hall_counts[HALL_COUNTS + 1], hall_answers[HALL_PIXELS + 1];
+static uint64_t hall_words[HALL_WORDS + 1];
+static uint8_t hall_filled[sizeof hall_words];
+
+/* Buffers of these lengths, NULL where one is 0, full of one byte before the call. */
+static uint32_t hall_with(size_t files_length, const size_t *lengths, size_t file_count, const uint32_t *limits,
+                          size_t period_count, size_t c, size_t w, size_t a) {
+    memset(hall_counts, 0xA5, sizeof hall_counts);
+    memset(hall_words, 0xA5, sizeof hall_words);
+    memset(hall_answers, 0xA5, sizeof hall_answers);
+    return icemedian_cameras(files_length ? hall : NULL, files_length, lengths, file_count, limits, period_count,
+                             c ? hall_counts : NULL, c, w ? hall_words : NULL, w, a ? hall_answers : NULL, a,
+                             &result.grants, &result.offset);
+}
+
+/* One period, and room for both files. */
+static uint32_t hall_period(const size_t *lengths, size_t file_count, uint32_t limit) {
+    return hall_with(HALL, lengths, file_count, &limit, 1, HALL_COUNTS + 1, HALL_WORDS + 1, HALL_PIXELS + 1);
+}
+
+static void expect_grants(const char *what, uint32_t status, uint64_t grants) {
+    expect("its grants", result.grants == grants, 1);
+    expect_status(what, status, 0);
+}
+
+/* That a place of each buffer, and all behind it, is as lent. */
+static void expect_hall_left(size_t c, size_t w, size_t a) {
+    memset(hall_filled, 0xA5, sizeof hall_filled);
+    expect("counts left", memcmp(hall_counts + c, hall_filled, sizeof hall_counts - c * sizeof *hall_counts) == 0, 1);
+    expect("words left", memcmp(hall_words + w, hall_filled, sizeof hall_words - w * sizeof *hall_words) == 0, 1);
+    expect("answers left", memcmp(hall_answers + a, hall_filled, sizeof hall_answers - a * sizeof *hall_answers) == 0, 1);
+}
+
+static void expect_hall_refused(const char *what, uint32_t status, uint32_t number) {
+    expect_status(what, status, number);
+    expect_hall_left(0, 0, 0);
+}
+
+static const size_t hall_lengths[ICEMEDIAN_CAMERAS_MOST_FILES + 1] = {FILE_BYTES, FILE_BYTES};
+
+static void test_cameras(void) {
+    static const uint64_t middle[WORDS] = {0, 1, 0, 4, 0, 1, 0, 0};
+    memcpy(hall, file, FILE_BYTES);
+    memcpy(hall + FILE_BYTES, file, FILE_BYTES);
+    expect_grants("cameras, no file and no period", hall_with(0, NULL, 0, NULL, 0, 0, 0, 0), 0);
+    expect_grants("cameras, no period", hall_with(HALL, hall_lengths, 2, NULL, 0, HALL_COUNTS, HALL_WORDS, 6), 0);
+    expect_hall_left(0, 0, 0);
+    expect_grants("cameras, no grant", hall_period(hall_lengths, 2, 0), 0);
+    expect_hall_left(0, 0, 0);
+    expect_grants("cameras, one grant", hall_period(hall_lengths, 2, 1), 1);
+    expect_hall_left(COUNTS, WORDS, 1);
+    expect_grants("cameras, three grants", hall_period(hall_lengths, 2, 3), 3);
+    expect_hall_left(HALL_COUNTS, HALL_WORDS, PIXELS + 1);
+    expect("its answers", hall_answers[0] == 1 && hall_answers[1] == 3 && hall_answers[PIXELS] == 1, 1);
+    expect("one that waits", hall_answers[2], 0xA5A5);
+    expect("a count of the middle window", hall_counts[3 * GUIDES + 2], 1);
+    expect("its words", memcmp(hall_words, middle, sizeof middle) == 0, 1);
+    expect_grants("cameras, all", hall_period(hall_lengths, 2, ICEMEDIAN_CAMERAS_MOST_GRANTS), HALL_PIXELS);
+    expect("its last answer", hall_answers[HALL_PIXELS - 1], 3);
+    expect_hall_left(HALL_COUNTS, HALL_WORDS, HALL_PIXELS);
+}
+
+static void test_cameras_refused(void) {
+    const size_t wrapping[2] = {ICEMEDIAN_SIZE(-1), HALL + 1}, none[2] = {0, HALL};
+    const uint32_t one = 1, c = HALL_COUNTS, w = HALL_WORDS, a = HALL_PIXELS;
+    expect_hall_refused("cameras, a limit of 4097", hall_period(hall_lengths, 2, 4097), 15);
+    expect_hall_refused("cameras, a limit of 65536", hall_period(hall_lengths, 2, 65536), 15);
+    expect_hall_refused("cameras, nine files", hall_period(hall_lengths, 9, 1), 15);
+    expect_hall_refused("cameras, no lengths", hall_period(NULL, 0, 1), 15);
+    expect_hall_refused("cameras, a length too few", hall_period(hall_lengths, 1, 1), 15);
+    expect_hall_refused("cameras, lengths that wrap", hall_period(wrapping, 2, 1), 15);
+    expect_hall_refused("cameras, no files", hall_with(0, hall_lengths, 2, &one, 1, 0, 0, 0), 15);
+    expect_hall_refused("cameras, eight files, six of no byte", hall_period(hall_lengths, 8, 1), 1);
+    expect_hall_refused("cameras, a first file of no byte", hall_period(none, 2, 1), 1);
+    expect_hall_refused("cameras, no counts", hall_with(HALL, hall_lengths, 2, &one, 1, 0, w, a), 11);
+    expect_hall_refused("cameras, no words", hall_with(HALL, hall_lengths, 2, &one, 1, c, 0, a), 11);
+    expect_hall_refused("cameras, no answers", hall_with(HALL, hall_lengths, 2, &one, 1, c, w, 0), 11);
+    expect_hall_refused("cameras, a count too few", hall_with(HALL, hall_lengths, 2, &one, 1, c - 1, w, a), 11);
+    expect_hall_refused("cameras, a word too few", hall_with(HALL, hall_lengths, 2, &one, 1, c, w - 1, a), 11);
+    expect_hall_refused("cameras, an answer too few", hall_with(HALL, hall_lengths, 2, NULL, 0, c, w, a - 1), 11);
+    hall[FILE_BYTES + 3] = LEVELS;
+    expect_contents("cameras, a second file with value 8", hall_with(HALL, hall_lengths, 2, &one, 1, 0, 0, 0), 2);
+    expect_hall_left(0, 0, 0);
+    expect_hall_refused("cameras, value 8 and a limit of 4097", hall_period(hall_lengths, 2, 4097), 15);
+}
+
 static void test_wide(void) {
     expect_status("filter, way 257", filter(FILE_BYTES, 257, COUNTS, WORDS, NUMBERS, BLOCKS, PIXELS), 8);
     expect_status("walk, way 257", walk(FILE_BYTES, 257, 2, COUNTS, WORDS, NUMBERS, BLOCKS, 3), 8);
@@ -587,8 +676,10 @@ static void test_wide(void) {
 
 static void test_macros(void) {
     expect("version, major", ICEMEDIAN_VERSION_MAJOR, 0);
-    expect("version, minor", ICEMEDIAN_VERSION_MINOR, 10);
+    expect("version, minor", ICEMEDIAN_VERSION_MINOR, 11);
     expect("no reading", ICEMEDIAN_NO_READING, 65535);
+    expect("most files", ICEMEDIAN_CAMERAS_MOST_FILES, 8);
+    expect("most grants", ICEMEDIAN_CAMERAS_MOST_GRANTS, 4096);
     expect("width", ICEMEDIAN_WIDTH(file, FILE_BYTES), W);
     expect("height", ICEMEDIAN_HEIGHT(file, FILE_BYTES), H);
     expect("levels", ICEMEDIAN_LEVELS(file, FILE_BYTES), LEVELS);
@@ -630,6 +721,8 @@ int main(void) {
     test_tolerance_overlap();
     test_byte_planes();
     test_byte_planes_refused();
+    test_cameras();
+    test_cameras_refused();
     test_wide();
     test_macros();
     return failures != 0;

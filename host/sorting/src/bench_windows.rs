@@ -1,9 +1,10 @@
 //! Document 01's bench windows A to H, D as document 02's request 3 has it, its edges and its 40-byte frame, rows of
-//! hollow windows, of dead pixels, of the coarse way, of tolerances and of byte planes, what explains them, and a few
-//! rows more.
+//! hollow windows, of dead pixels, of the coarse way, of tolerances, of byte planes and of several cameras, what explains
+//! them, and a few rows more.
 
 use crate::byte_planes::{join, join_plane, split, split_plane};
 use crate::calls;
+use crate::cameras::{cameras, schedule, Cameras};
 use crate::cases::bytes_of_hex;
 use crate::explain::{Cause, Explanation};
 use crate::frame::{built_in_weight, open, Asked, Frame, Settings, KIND_GUIDED, KIND_TABLE, NO_READING};
@@ -36,6 +37,11 @@ fn row(kind: u8, levels: u16, guides: u16, radius: u8, values: &[u16], guide: &[
         smoothing: u16::from(kind == KIND_GUIDED),
     };
     open(&write(&settings.asked(), values, guide, table, usize::MAX).unwrap()).unwrap()
+}
+
+/// The frame written without gaps.
+fn file_of(frame: &Frame) -> Vec<u8> {
+    write(&frame.settings.asked(), &frame.values, &frame.guides, &frame.table, usize::MAX).unwrap()
 }
 
 fn frame_b() -> Frame {
@@ -667,8 +673,7 @@ fn a_tolerance_refuses_in_order() {
 
 /// A row of three values whose six bytes lie at 0, its guide plane at 6, its table at 12 and its trailer at 20.
 fn moved_file() -> Vec<u8> {
-    let frame = row(KIND_TABLE, 1024, 2, 1, &[0x0102, 0x0304, 0x0203], &[0, 1, 0], &[1, 2, 3, 4]);
-    write(&frame.settings.asked(), &frame.values, &frame.guides, &frame.table, usize::MAX).unwrap()
+    file_of(&row(KIND_TABLE, 1024, 2, 1, &[0x0102, 0x0304, 0x0203], &[0, 1, 0], &[1, 2, 3, 4]))
 }
 
 #[test]
@@ -734,6 +739,107 @@ fn a_split_file_is_joined_to_the_very_file() {
 }
 
 #[test]
+fn grants_go_round_the_unfinished_frames() {
+    assert_eq!(schedule(&[3, 5, 2], &[4, 0, 3]), [0, 1, 2, 0, 1, 2, 0]);
+    assert_eq!(schedule(&[3, 5, 2], &[4_096]), [0, 1, 2, 0, 1, 2, 0, 1, 1, 1]);
+    assert_eq!(schedule(&[3, 5, 2], &[1; 10]), schedule(&[3, 5, 2], &[10]));
+    assert_eq!(schedule(&[1, 3, 1], &[2, 2, 2]), [0, 1, 2, 1, 1]);
+    assert_eq!(schedule(&[1; 8], &[7]), [0, 1, 2, 3, 4, 5, 6]);
+    assert!(schedule(&[], &[4_096]).is_empty() && schedule(&[3], &[0, 0]).is_empty() && schedule(&[3], &[]).is_empty());
+}
+
+#[test]
+fn an_unfinished_frame_is_served_within_eight_grants() {
+    let mut random = Random::new(11);
+    for _ in 0..300 {
+        let pixels: Vec<usize> = (0..random.below(9)).map(|_| 1 + random.below(30)).collect();
+        let limits: Vec<u32> = (0..random.below(20)).map(|_| random.below(40) as u32).collect();
+        let served = schedule(&pixels, &limits);
+        let sum = |numbers: &[usize]| numbers.iter().sum::<usize>();
+        assert_eq!(served.len(), sum(&pixels).min(limits.iter().sum::<u32>() as usize));
+        for (file, &pixels) in pixels.iter().enumerate() {
+            let turns: Vec<usize> = (0..served.len()).filter(|&turn| served[turn] == file).collect();
+            let waits = turns.windows(2).map(|two| two[1] - two[0]);
+            assert!(waits.chain(turns.first().map(|first| first + 1)).all(|wait| wait <= 8));
+            let last = turns.last().map_or(0, |last| last + 1);
+            assert!(turns.len() == pixels || served.len() - last < 8);
+        }
+    }
+}
+
+/// A, B and D end to end, and the length of each.
+fn hall() -> (Vec<u8>, Vec<usize>) {
+    let files = [bytes_of_hex(A).unwrap(), file_of(&frame_b()), file_of(&frame_c(0))];
+    (files.concat(), files.iter().map(Vec::len).collect())
+}
+
+/// What the hall's three sheets need.
+const HALL_ROOM: Lengths = Lengths { counts: 32 + 128 + 16, words: 24, numbers: 0, summary: 0, answers: 10 };
+
+fn hall_with(limits: &[u32]) -> Cameras {
+    let (files, lengths) = hall();
+    cameras(&files, &lengths, limits, &HALL_ROOM).unwrap()
+}
+
+fn hall_answers(limits: &[u32]) -> Vec<Vec<u16>> {
+    hall_with(limits).cameras.into_iter().map(|camera| camera.answers).collect()
+}
+
+#[test]
+fn a_hall_with_three_sheets() {
+    assert_eq!(hall_with(&[4, 0, 3]).served, [0, 1, 2, 0, 1, 2, 0]);
+    assert_eq!(hall_answers(&[4, 0, 3]), [vec![1, 3, 3], vec![2, 2], vec![2, 2]]);
+    assert_eq!(hall_with(&[4_096]).served, [0, 1, 2, 0, 1, 2, 0, 1, 1, 1]);
+    assert_eq!(hall_answers(&[4_096]), [vec![1, 3, 3], vec![2, 2, 3, 3, 4], vec![2, 2]]);
+    assert_eq!(hall_answers(&[2]), [vec![1], vec![2], vec![]]);
+}
+
+#[test]
+fn a_camera_leaves_the_walk_so_far() {
+    let halted = hall_with(&[4]);
+    assert!(hall_with(&[2]).cameras[2].stores.is_none());
+    for (camera, moves) in halted.cameras.iter().zip([1, 0, 0]) {
+        let walk = walk(&camera.frame, 0, 0, &vec![0; moves]);
+        assert_eq!(camera.stores, Some(stores(&camera.frame, Way::Joint, &walk)));
+        assert_eq!(camera.answers, walk.answers);
+    }
+}
+
+#[test]
+fn cameras_refuse_in_order() {
+    let (files, lengths) = hall();
+    let refused = |files: &[u8], lengths: &[usize], limits: &[u32], lent: &Lengths| {
+        cameras(files, lengths, limits, lent).map(|cameras| cameras.served.len()).map_err(|refusal| refusal.to_string())
+    };
+    let number = |number: u8| Err(format!("refused {number}"));
+    let none = Lengths::default();
+    assert_eq!(refused(&[], &[], &[4_096], &none), Ok(0));
+    assert_eq!(refused(&[], &[0], &[], &none), number(1));
+    assert_eq!(refused(&files, &lengths, &[4_096; 2], &HALL_ROOM), Ok(10));
+    assert_eq!(refused(&files, &lengths, &[0, 4_097], &none), number(15));
+    assert_eq!(refused(&files, &[], &[], &none), number(15));
+    assert_eq!(refused(&files[1..], &lengths, &[], &none), number(15));
+    // Nine lengths, of which some are 0, and lengths whose sum 64 bits cannot say.
+    let nine = [lengths.as_slice(), &[0; 6]].concat();
+    assert_eq!(refused(&files, &nine, &[], &none), number(15));
+    assert_eq!(refused(&files, &nine[..8], &[], &none), number(1));
+    assert_eq!(refused(&files, &[usize::MAX, files.len() + 1], &[], &none), number(15));
+    // The second file's first guide, and then the first file's first value.
+    let mut wrong = files.clone();
+    wrong[40 + 10] = 1;
+    assert_eq!(refused(&wrong, &lengths, &[], &none), Err("refused 7 10".to_string()));
+    assert_eq!(refused(&wrong, &lengths, &[4_097], &none), number(15));
+    wrong[0] = 1;
+    assert_eq!(refused(&wrong, &lengths, &[], &none), Err("refused 7 0".to_string()));
+    wrong[39] = 0;
+    assert_eq!(refused(&wrong, &lengths, &[], &none), number(1));
+    let Lengths { counts, words, answers, .. } = HALL_ROOM;
+    assert_eq!(refused(&files, &lengths, &[], &Lengths { counts: counts - 1, ..HALL_ROOM }), number(11));
+    assert_eq!(refused(&files, &lengths, &[], &Lengths { words: words - 1, ..HALL_ROOM }), number(11));
+    assert_eq!(refused(&files, &lengths, &[], &Lengths { answers: answers - 1, ..HALL_ROOM }), number(11));
+}
+
+#[test]
 fn the_answer_is_the_lowest_level_of_least_weighted_absolute_difference() {
     let mut random = Random::new(4);
     let mut minimal = 0;
@@ -777,7 +883,6 @@ fn a_written_frame_opens_as_it_was() {
     let mut random = Random::new(6);
     for _ in 0..300 {
         let frame = open(&accepted_file(&mut random, 6)).unwrap();
-        let file = write(&frame.settings.asked(), &frame.values, &frame.guides, &frame.table, usize::MAX).unwrap();
-        assert_eq!(open(&file), Ok(frame));
+        assert_eq!(open(&file_of(&frame)), Ok(frame));
     }
 }

@@ -5,7 +5,7 @@ use std::fmt;
 /// Why a call refuses. Only the number, and for 7 an offset, is ever returned.
 #[derive(Clone, Copy, Debug, PartialEq, Eq)]
 pub struct Refusal {
-    /// 1 to 12, as in document 01's table, or document 02's 13 or 14.
+    /// 1 to 12, as in document 01's table, or document 02's 13 to 15.
     pub number: u8,
     /// For 7, the offset in the file of the first bad number's high byte; otherwise 0.
     pub offset: usize,

@@ -135,8 +135,13 @@ pub fn filter(frame: &Frame) -> (Vec<u16>, Walk) {
 
 /// The answers of the serpentine, row by row.
 pub fn plane(frame: &Frame, walk: &Walk) -> Vec<u16> {
-    let mut plane = walk.answers.clone();
-    for (row, line) in plane.chunks_mut(usize::from(frame.settings.width)).enumerate() {
+    turned(&walk.answers, frame.settings.width)
+}
+
+/// Every other row of a plane turned round: from the serpentine's order to row by row, and back.
+pub fn turned(plane: &[u16], width: u16) -> Vec<u16> {
+    let mut plane = plane.to_vec();
+    for (row, line) in plane.chunks_mut(usize::from(width)).enumerate() {
         if row % 2 == 1 {
             line.reverse();
         }

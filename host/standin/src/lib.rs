@@ -1,8 +1,9 @@
 //! The C interface of `include/icemedian.h` over the sorting filter. It tests the wrapper and the
 //! tests themselves: with `STANDIN_FAULT` set to one of the names in [`fault`], [`coarse`], [`hollow`], [`dead`],
-//! [`explain`], [`tolerance`] and [`byte_planes`], it makes that mistake, and the tests must notice.
+//! [`explain`], [`tolerance`], [`byte_planes`] and [`cameras`], it makes that mistake, and the tests must notice.
 
 mod byte_planes;
+mod cameras;
 mod coarse;
 mod dead;
 mod explain;
@@ -202,9 +203,7 @@ pub unsafe extern "C" fn icemedian_tolerance(
     if makes("tolerance_bytes_swapped") {
         plane.iter_mut().for_each(|level| *level = level.swap_bytes());
     }
-    if makes("tolerance_upper_written") && upper_length > 0 {
-        ptr::write_volatile(upper.cast_mut(), !*upper);
-    }
+    write_to_read(upper, upper_length, |level| !level, "tolerance_upper_written");
     match report(tolerance::tolerance(&file, &plane, &lent), offset) {
         Ok(bounds) => {
             lent.put(&bounds);
@@ -218,6 +217,55 @@ pub unsafe extern "C" fn icemedian_tolerance(
             set_on_refusal(greatest_shifts, 0, "refusal_greatest_shifts");
             status
         }
+    }
+}
+
+/// # Safety
+/// As the header says.
+#[no_mangle]
+pub unsafe extern "C" fn icemedian_cameras(
+    files: *const u8,
+    files_length: usize,
+    lengths: *const usize,
+    file_count: usize,
+    limits: *const u32,
+    period_count: usize,
+    counts: *mut u16,
+    counts_length: usize,
+    words: *mut u64,
+    words_length: usize,
+    answers: *mut u16,
+    answers_length: usize,
+    grants: &mut u64,
+    offset: &mut u64,
+) -> u32 {
+    let mut lent = cameras::Lent {
+        counts: lend(counts, counts_length),
+        words: lend(words, words_length),
+        answers: lend(answers, answers_length),
+    };
+    let (file_bytes, file_lengths) = (read(files, files_length).to_vec(), read(lengths, file_count).to_vec());
+    let period_limits = read(limits, period_count).to_vec();
+    let batch = cameras::Batch { files: &file_bytes, lengths: &file_lengths, limits: &period_limits };
+    write_to_read(files, files_length, |byte| !byte, "cameras_files_written");
+    write_to_read(lengths, file_count, |length| !length, "cameras_lengths_written");
+    write_to_read(limits, period_count, |limit| !limit, "cameras_limits_written");
+    match report(cameras::make(&batch, &mut lent), offset) {
+        Ok(number) => {
+            give(grants, number, "cameras_grants_left");
+            0
+        }
+        Err(status) => {
+            set_on_refusal(grants, 0, "refusal_grants");
+            status
+        }
+    }
+}
+
+/// Changes the first of what is only lent to be read, by the mistake of that name.
+unsafe fn write_to_read<T: Copy>(pointer: *const T, length: usize, change: impl Fn(T) -> T, name: &str) {
+    if makes(name) && length > 0 {
+        ptr::write_volatile(pointer.cast_mut(), change(*pointer));
     }
 }
 

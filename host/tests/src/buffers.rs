@@ -1,7 +1,7 @@
 //! Lent buffers: filled with arbitrary bits before a call, compared as a whole after it.
 
 use crate::{same, Check};
-use icemedian::raw::Lent;
+use icemedian::raw::{Lent, LentParts};
 use sorting_filter::calls::Walked;
 use sorting_filter::random::Random;
 use sorting_filter::store::{ChainEntry, Lengths, Stores};
@@ -54,6 +54,11 @@ impl Buffers {
         }
     }
 
+    /// Those of a call over several files.
+    pub fn lend_parts(&mut self) -> LentParts<'_> {
+        LentParts { counts: &mut self.counts, words: &mut self.words, answers: &mut self.answers }
+    }
+
     /// What the buffers must hold after a call that leaves `walked`, but for the chain's free places.
     pub fn after(&self, walked: &Walked) -> Buffers {
         let mut after = self.clone();
@@ -75,7 +80,8 @@ impl Buffers {
     }
 }
 
-fn front<T: Copy>(buffer: &mut [T], content: &[T]) {
+/// Writes to a buffer's first places.
+pub fn front<T: Copy>(buffer: &mut [T], content: &[T]) {
     buffer[..content.len()].copy_from_slice(content);
 }
 

@@ -6,12 +6,12 @@ use crate::buffers::first_difference;
 use crate::library::{self, Status};
 use crate::refusals::count;
 use crate::tally::Tally;
+use crate::writing::written;
 use crate::{same, Check};
 use sorting_filter::byte_planes::{join, split};
 use sorting_filter::frame::{locate, open, Settings, KIND_GUIDED, KIND_TABLE, NO_READING, TRAILER};
 use sorting_filter::random::{damage, laid_out_file, put_distance, Random};
 use sorting_filter::refusal::Refusal;
-use sorting_filter::writer;
 use std::ops::Range;
 
 #[derive(Clone, Copy, Debug, PartialEq, Eq)]
@@ -237,8 +237,7 @@ pub fn test_listed(random: &mut Random, damaged: &[u8], tally: &mut Tally) -> Ch
 pub fn test_row(random: &mut Random, tally: &mut Tally) -> Check {
     let settings = Settings { width: 3, height: 1, levels: 1024, guides: 2, kind: KIND_TABLE, radius: 1, smoothing: 0 };
     let values = [0x0102, 0x0304, 0x0203];
-    let file = writer::write(&settings.asked(), &values, &[0, 1, 0], &[], usize::MAX);
-    let file = file.map_err(|refusal| refusal.to_string())?;
+    let file = written(&settings, &values, &[0, 1, 0], &[])?;
     let moved = accepted(random, Call::Split, &file, tally)?;
     first_difference("the split plane", &moved[..6], &[1, 3, 2, 2, 4, 3])?;
     let joined = accepted(random, Call::Join, &file, tally)?;

@@ -1,6 +1,7 @@
 //! The list of damaged files: what document 01 says of each, held against the library and the sorting filter.
 
 use crate::byte_planes;
+use crate::cameras;
 use crate::library::{self, Status};
 use crate::tally::Tally;
 use crate::tolerance;
@@ -62,6 +63,7 @@ pub fn test(random: &mut Random, tally: &mut Tally) -> Check {
         library::compare_explain(&what, explained, &calls::explain(&damaged.file, (0, 0)))?;
         tolerance::test_listed(random, &whole, &damaged.file, tally)
             .and_then(|()| byte_planes::test_listed(random, &damaged.file, tally))
+            .and_then(|()| cameras::test_listed(random, &whole, &damaged.file, tally))
             .map_err(|error| format!("{}: {error}", damaged.name))?;
         tally.damaged += 1;
     }

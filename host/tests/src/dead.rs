@@ -3,10 +3,10 @@
 
 use crate::every_window;
 use crate::tally::Tally;
+use crate::writing::written;
 use crate::Check;
 use sorting_filter::frame::{Settings, KIND_GUIDED, KIND_TABLE};
 use sorting_filter::random::{kill, random_classes, random_guides, random_table, random_values, Random};
-use sorting_filter::writer;
 
 /// Width, height, level count, guide count and radius: single pixels, rows, columns, windows clipped on all sides
 /// and none, one block, short blocks and many, one word of guides and several.
@@ -49,8 +49,7 @@ pub fn file(random: &mut Random, settings: &Settings) -> Result<(Vec<u8>, Vec<u1
     } else {
         (random_guides(random, settings), random_table(random, settings))
     };
-    let file = writer::write(&settings.asked(), &values, &guides, &table, usize::MAX);
-    Ok((file.map_err(|refusal| refusal.to_string())?, values))
+    Ok((written(settings, &values, &guides, &table)?, values))
 }
 
 fn test_frame(random: &mut Random, settings: &Settings, tally: &mut Tally) -> Check {

@@ -1,12 +1,14 @@
-//! Accepted frames: walks and filters in every serving way, balances, explanations, tolerances and byte planes.
+//! Accepted frames: walks and filters in every serving way, balances, explanations, tolerances, byte planes and cameras.
 
 use crate::buffers::{compare, Buffers};
 use crate::byte_planes;
+use crate::cameras;
 use crate::explain;
 use crate::library::{self, Status};
 use crate::overlap;
 use crate::tally::Tally;
 use crate::tolerance;
+use crate::writing::written;
 use crate::{same, Check};
 use sorting_filter::calls;
 use sorting_filter::cases;
@@ -16,7 +18,6 @@ use sorting_filter::random::{random_guides, random_values};
 use sorting_filter::store::{Lengths, Stores, Way, BLOCK_LEVELS};
 use sorting_filter::walk::is_mark;
 use sorting_filter::window::{reach, Window};
-use sorting_filter::writer;
 
 /// Sides of most pictures; sides of those that hold a whole window of the largest radius; the longest list.
 const SIDE: u16 = 12;
@@ -76,8 +77,7 @@ pub fn test_heavy(random: &mut Random, tally: &mut Tally) -> Check {
         let alike = (vec![settings.levels - 1; settings.pixels()], vec![guides - 1; settings.pixels()]);
         let by_chance = (random_values(random, &settings), random_guides(random, &settings));
         for (values, guides) in [alike, by_chance] {
-            let file = writer::write(&settings.asked(), &values, &guides, &table, usize::MAX)
-                .map_err(|refusal| refusal.to_string())?;
+            let file = written(&settings, &values, &guides, &table)?;
             test_accepted(random, &file, tally)?;
             let moves = moves(random, &settings, MOVES);
             for way in [Way::Joint, Way::Coarse] {
@@ -124,8 +124,7 @@ pub fn lonely(random: &mut Random, levels: u16, radius: u8) -> Result<(Settings,
     let settings = Settings { width: 7, height: 5, levels, guides: 16, kind: KIND_GUIDED, radius, smoothing: 1 };
     let values: Vec<u16> = (0..settings.pixels()).map(|_| random.within(0, levels - 1)).collect();
     let guides: Vec<u16> = (0..settings.pixels()).map(|_| random.pick(&[0, 15, 7, 7, 7, 7, 7])).collect();
-    let file = writer::write(&settings.asked(), &values, &guides, &[], usize::MAX);
-    Ok((settings, file.map_err(|refusal| refusal.to_string())?))
+    Ok((settings, written(&settings, &values, &guides, &[])?))
 }
 
 pub fn test_accepted(random: &mut Random, file: &[u8], tally: &mut Tally) -> Check {
@@ -146,6 +145,7 @@ pub fn test_accepted(random: &mut Random, file: &[u8], tally: &mut Tally) -> Che
     explain::test(random, file, &frame, &plane, tally)?;
     tolerance::test(random, file, &frame, tally)?;
     byte_planes::test(random, file, tally)?;
+    cameras::test(random, file, &frame, tally)?;
     same("the file after the calls", &file, &untouched.as_slice())
 }
 
@@ -160,7 +160,7 @@ fn count_overlap(file: &[u8], tally: &mut Tally) {
 }
 
 /// The list of small walks, each in every serving way, every pixel of their frames explained, the frames with upper
-/// levels and split: the bench windows A to H, chosen shapes, and every start of small frames with moves into the
+/// levels, split, and among other frames: the bench windows A to H, chosen shapes, and every start of small frames with moves into the
 /// border and unknown bytes.
 pub fn test_listed(random: &mut Random, tally: &mut Tally) -> Check {
     for case in cases::read(include_str!("../../cases.txt"))? {
@@ -172,6 +172,7 @@ pub fn test_listed(random: &mut Random, tally: &mut Tally) -> Check {
         }
         tolerance::test(random, &case.file, &frame, tally)
             .and_then(|()| byte_planes::test(random, &case.file, tally))
+            .and_then(|()| cameras::test(random, &case.file, &frame, tally))
             .map_err(|error| format!("{}: {error}", case.name))?;
         for pixel in 0..frame.settings.pixels() {
             explain::test_at(&case.file, &frame, place(&frame.settings, pixel), tally)

@@ -2,11 +2,13 @@
 //! leave it so, but for the offset with number 7, and success must write all but the offset.
 
 use crate::buffers::Buffers;
+use crate::cameras::Batch;
 use crate::tolerance::Two;
 use crate::{same, Check};
 use icemedian::raw::{self, Explained};
 use icemedian::WalkEnd;
 use sorting_filter::calls::Walked;
+use sorting_filter::cameras::Cameras;
 use sorting_filter::explain::Explanation;
 use sorting_filter::frame::Asked;
 use sorting_filter::refusal::Refusal;
@@ -17,6 +19,7 @@ use sorting_filter::tolerance::Tolerated;
 const OFFSET: u64 = 0xA5A5_A5A5_A5A5_A5A5;
 const SHIFTS: u64 = 0x5A5A_5A5A_5A5A_5A5A;
 const BOTH_SHIFTS: (u64, u64) = (SHIFTS + 1, SHIFTS + 2);
+const GRANTS: u64 = SHIFTS + 3;
 const BALANCE: i64 = -0x5A5A_5A5A_5A5A_5A5A;
 const LENGTH: usize = usize::MAX - 0x5A5A;
 
@@ -99,6 +102,20 @@ pub fn tolerance(file: &[u8], upper: &[u16], lent: &mut Two) -> (Status, (u64, u
 pub fn compare_tolerance(what: &str, library: (Status, (u64, u64)), expected: &Result<Tolerated, Refusal>) -> Check {
     let counts = |bounds: &Tolerated| (bounds.least_shifts, bounds.greatest_shifts);
     same(what, &library, &(Status::of(expected), expected.as_ref().map_or(BOTH_SHIFTS, counts)))
+}
+
+/// Several files: the status and the number of grants.
+pub fn cameras(batch: &Batch, lent: &mut Buffers) -> (Status, u64) {
+    let (mut grants, mut offset) = (GRANTS, OFFSET);
+    let Batch { files, lengths, limits } = batch;
+    let status = raw::cameras(files, lengths, limits, lent.lend_parts(), &mut grants, &mut offset);
+    (Status { status, offset }, grants)
+}
+
+/// Compares the number of grants with the sorting filter's.
+pub fn compare_cameras(what: &str, library: (Status, u64), expected: &Result<Cameras, Refusal>) -> Check {
+    let grants = expected.as_ref().map_or(GRANTS, |cameras| cameras.served.len() as u64);
+    same(what, &library, &(Status::of(expected), grants))
 }
 
 pub fn balance(file: &[u8], pixel: (usize, usize), level: u32) -> (Status, i64) {

@@ -1,12 +1,13 @@
 //! Random frames through the library's C interface, held against the sorting filter.
 //!
 //! `library_tests [FRAMES] [--seed N] [--program PATH]` makes FRAMES frames (2,000 if not said), walks and filters each
-//! in every serving way, explains its pixels, filters it with upper levels, splits and joins it, all once more with its
-//! table damaged, damages it, and writes it again. With `--program` it also feeds frames to the program's standard
+//! in every serving way, explains its pixels, filters it with upper levels, splits and joins it, filters it by turns with
+//! others, all once more with its table damaged, damages it, and writes it again. With `--program` it also feeds frames to the program's standard
 //! input. The same seed gives the same frames everywhere.
 
 mod buffers;
 mod byte_planes;
+mod cameras;
 mod damaged;
 mod dead;
 mod every_window;
@@ -72,6 +73,7 @@ fn test_frame(random: &mut Random, tally: &mut Tally) -> Check {
     tolerance::test_refused(random, &file, tally)?;
     tolerance::test_damaged(random, &file, tally)?;
     byte_planes::test_damaged(random, &file, tally)?;
+    cameras::test_refused(random, &file, tally)?;
     writing::test_writer(random, &file, tally)
 }
 
@@ -123,6 +125,20 @@ fn run(options: &Options) -> Result<Tally, String> {
     failures.extend(runs.err().map(|message| format!("runs of bytes: {message}")));
     let largest = byte_planes::test_largest(&mut Random::new(options.seed), &mut tally);
     failures.extend(largest.err().map(|message| format!("the largest frame as byte planes: {message}")));
+    let bench = cameras::test_bench(&mut Random::new(options.seed), &mut tally);
+    failures.extend(bench.err().map(|message| format!("request 9's hall: {message}")));
+    let none = cameras::test_none(&mut Random::new(options.seed), &mut tally);
+    failures.extend(none.err().map(|message| format!("no cameras: {message}")));
+    let shapes = cameras::test_shapes(&mut Random::new(options.seed), &mut tally);
+    failures.extend(shapes.err().map(|message| format!("halls halted at each grant: {message}")));
+    let within = cameras::test_within_files(&mut Random::new(options.seed), &mut tally);
+    failures.extend(within.err().map(|message| format!("lengths and limits within the file: {message}")));
+    let pairs = cameras::test_pairs(&mut Random::new(options.seed), &mut tally);
+    failures.extend(pairs.err().map(|message| format!("two things wrong with a hall: {message}")));
+    let periods = cameras::test_periods(&mut Random::new(options.seed), &mut tally);
+    failures.extend(periods.err().map(|message| format!("long periods and many: {message}")));
+    let largest = cameras::test_largest(&mut Random::new(options.seed), &mut tally);
+    failures.extend(largest.err().map(|message| format!("the largest frame before others: {message}")));
     let blocks = frames::test_blocks(&mut Random::new(options.seed), &mut tally);
     failures.extend(blocks.err().map(|message| format!("blocks: {message}")));
     let largest = frames::test_largest(&mut Random::new(options.seed), &mut tally);

@@ -1,6 +1,8 @@
 //! Counts of what a run covered, so that a run which tests nothing is seen.
 
 use crate::byte_planes::BESIDE;
+use crate::cameras::Wrong;
+use sorting_filter::cameras::Cameras as Served;
 use sorting_filter::explain::{Cause, Explanation};
 use sorting_filter::frame::{Frame, KIND_GUIDED, NO_READING};
 use sorting_filter::tolerance::Tolerated;
@@ -244,8 +246,7 @@ impl BytePlanes {
     /// Counts a file that is split, by its parts' bytes and how many lie before the trailer.
     pub fn count(&mut self, frame: &Frame, parts: &[Range<usize>; 3], before: usize) {
         let [values, guides, table] = parts;
-        let kind = if frame.settings.kind == KIND_GUIDED { 2 } else { usize::from(!frame.table.is_empty()) };
-        self.split[kind] += 1;
+        self.split[weights_of(frame)] += 1;
         let others: Vec<&Range<usize>> = [guides, table].into_iter().filter(|part| !part.is_empty()).collect();
         let earlier = others.iter().filter(|part| part.start < values.start).count();
         self.order[if earlier == 0 { 0 } else { 1 + usize::from(earlier == others.len()) }] += 1;
@@ -272,6 +273,118 @@ impl BytePlanes {
         let refused = [self.damaged_overlapping.as_slice(), &self.damaged, &self.touching].concat();
         let more = vec![self.dead, self.runs, self.any_bytes, self.wide, self.both_overlap, self.others_overlap];
         [files, calls, refused, self.beside.concat(), more].concat()
+    }
+}
+
+/// Calls over several files.
+#[derive(Default)]
+pub struct Cameras {
+    /// Accepted calls by the number of files.
+    pub calls: [u64; 9],
+    /// Their files with the built-in weights, with a table of the file's own, and of kind 2.
+    pub files: [u64; 3],
+    /// Files of which no pixel was answered, some, and all.
+    pub answered: [u64; 3],
+    /// Calls with frames of both kinds, with an answer of no reading, and halted in a row that is walked leftward.
+    pub mixed: u64,
+    pub empty: u64,
+    pub leftward: u64,
+    /// Calls whose grants go on in the middle of a period after a frame ends, or end there.
+    pub ended_within: u64,
+    pub rest_of_period: u64,
+    /// Calls in which a period begins with another file than the lowest unfinished one.
+    pub round_kept: u64,
+    /// Limits of 0, 1 and 4,096; calls without a period, and with more periods than 8 bits can count.
+    pub limits: [u64; 3],
+    pub no_period: u64,
+    pub many_periods: u64,
+    pub long_periods: u64,
+    /// With lengths and limits within the file.
+    pub within_files: u64,
+    /// Calls in exact buffers, files held against the library's walk and filter of them alone, and beside two sets of
+    /// others.
+    pub exact: u64,
+    pub alone: u64,
+    pub beside: u64,
+    /// The most grants of a call.
+    pub largest: u64,
+    /// Calls refused for the number of files, the lengths, a limit; a file by its check; counts, words and answers.
+    pub wrong_batch: [u64; 3],
+    pub wrong_file: [u64; 7],
+    pub wrong_room: [u64; 3],
+    /// Pairs of these at once.
+    pub pairs: u64,
+}
+
+impl Cameras {
+    /// Counts a call that is not refused.
+    pub fn count(&mut self, left: &Served, limits: &[u32]) {
+        let (cameras, grants) = (&left.cameras, left.served.len());
+        self.calls[cameras.len()] += 1;
+        for camera in cameras {
+            self.files[weights_of(&camera.frame)] += 1;
+            let done = camera.answers.len();
+            self.answered[if done == 0 { 0 } else { 1 + usize::from(camera.finished()) }] += 1;
+            self.leftward += u64::from(done > 0 && (done - 1) / usize::from(camera.frame.settings.width) % 2 == 1);
+            self.empty += u64::from(camera.answers.contains(&NO_READING));
+        }
+        let kinds = cameras.iter().map(|camera| camera.frame.settings.kind);
+        self.mixed += u64::from(kinds.clone().min() != kinds.max());
+        let ends: Vec<usize> = limits.iter().scan(0, |end, &limit| Some(add(end, limit))).collect();
+        self.rest_of_period += u64::from(grants > 0 && ends.iter().any(|&end| end > grants) && !ends.contains(&grants));
+        let last_turn = |file: usize| left.served.iter().rposition(|&other| other == file);
+        let finished = (0..cameras.len()).filter(|&file| cameras[file].finished());
+        let within = finished.filter_map(last_turn).any(|turn| turn + 1 < grants && !ends.contains(&(turn + 1)));
+        self.ended_within += u64::from(within);
+        let lowest = |turn: usize| left.served[turn..].iter().min() == Some(&left.served[turn]);
+        self.round_kept += u64::from(ends.iter().take(50).any(|&end| (1..grants).contains(&end) && !lowest(end)));
+        for (count, limit) in self.limits.iter_mut().zip([0, 1, 4_096]) {
+            *count += u64::from(limits.contains(&limit));
+        }
+        self.no_period += u64::from(limits.is_empty());
+    }
+
+    /// Counts a refused call by what is wrong with it.
+    pub fn count_wrong(&mut self, wrong: &[Wrong]) {
+        for wrong in wrong {
+            *match *wrong {
+                Wrong::Files => &mut self.wrong_batch[0],
+                Wrong::Lengths => &mut self.wrong_batch[1],
+                Wrong::Limit => &mut self.wrong_batch[2],
+                Wrong::File(_, number) => &mut self.wrong_file[usize::from(number) - 1],
+                Wrong::Room(room) => &mut self.wrong_room[room],
+            } += 1;
+        }
+    }
+
+    fn counts(&self) -> Vec<u64> {
+        let lists =
+            [&self.calls, self.files.as_slice(), &self.answered, &self.limits, &self.wrong_batch, &self.wrong_file];
+        let turns = [self.mixed, self.empty, self.leftward, self.ended_within, self.rest_of_period, self.round_kept];
+        let periods = [self.no_period, self.many_periods, self.long_periods, self.exact, self.alone, self.beside];
+        [
+            lists.concat(),
+            turns.to_vec(),
+            periods.to_vec(),
+            self.wrong_room.to_vec(),
+            vec![self.largest, self.pairs, self.within_files],
+        ]
+        .concat()
+    }
+}
+
+/// The sum after one more limit.
+fn add(end: &mut usize, limit: u32) -> usize {
+    *end += limit as usize;
+    *end
+}
+
+/// 0 for the built-in weights, 1 for a table of the file's own, 2 for kind 2.
+fn weights_of(frame: &Frame) -> usize {
+    if frame.settings.kind == KIND_GUIDED {
+        2
+    } else {
+        usize::from(!frame.table.is_empty())
     }
 }
 
@@ -302,9 +415,10 @@ pub struct Tally {
     pub explained: Explained,
     pub tolerance: Tolerance,
     pub byte_planes: BytePlanes,
+    pub cameras: Cameras,
     pub written: u64,
-    /// Calls refused by each number from 1 to 14; place 0 is not used, nor 12, which is the program's.
-    pub refusals: [u64; 15],
+    /// Calls refused by each number from 1 to 15; place 0 is not used, nor 12, which is the program's.
+    pub refusals: [u64; 16],
     /// Files of the list of damaged ones.
     pub damaged: u64,
     /// Calls with chosen numbers wider than a frame's, among the refused.
@@ -332,7 +446,7 @@ impl Tally {
         let Coarse { walks, one_block, short_block, negative } = self.coarse;
         let coarse = [walks - one_block, walks - short_block, one_block, short_block, negative];
         let tables = [self.heavy_tables, self.damaged_tables, u64::from(self.heaviest == HEAVIEST)];
-        let all = [refusals, hollow, dead, explained, tolerance, self.byte_planes.counts()];
+        let all = [refusals, hollow, dead, explained, tolerance, self.byte_planes.counts(), self.cameras.counts()];
         let more = [windows.as_slice(), &programs, &coarse, &frames, &tables];
         if all.iter().map(Vec::as_slice).chain(more).any(|counts| counts.contains(&0)) {
             return Some(format!("the run left something untried:\n{self}"));
@@ -464,6 +578,38 @@ impl Tally {
             planes.damaged.iter().sum::<u64>()
         )
     }
+
+    fn write_cameras(&self, f: &mut fmt::Formatter<'_>) -> fmt::Result {
+        let cameras = &self.cameras;
+        let ([built_in, own, guided], [none, some, all]) = (cameras.files, cameras.answered);
+        writeln!(
+            f,
+            "calls over 0 to 8 files: {:?}, {} with both kinds, {} in exact buffers, {} within the file; files with the built-in weights: \
+             {built_in}, with an own table: {own}, of kind 2: {guided}; with no answer: {none}, some: {some}, all: {all}",
+            cameras.calls, cameras.mixed, cameras.exact, cameras.within_files
+        )?;
+        writeln!(
+            f,
+            "of the files {} with an answer of no reading, {} halted in a row walked leftward, {} held against themselves \
+             alone, {} beside two sets of others; the most grants of a call: {}",
+            cameras.empty, cameras.leftward, cameras.alone, cameras.beside, cameras.largest
+        )?;
+        let [zero, one, most] = cameras.limits;
+        writeln!(
+            f,
+            "of the calls {} with a frame that ends within a period, {} that leave the rest of one, {} with a period that \
+             begins within a round, {} without a period; with a limit of 0: {zero}, 1: {one}, 4,096: {most}",
+            cameras.ended_within, cameras.rest_of_period, cameras.round_kept, cameras.no_period
+        )?;
+        let ([files, lengths, limit], [counts, words, answers]) = (cameras.wrong_batch, cameras.wrong_room);
+        writeln!(
+            f,
+            "calls over several files that are refused: {files} for their number, {lengths} for the lengths, {limit} for a \
+             limit, by checks 1 to 7 of one: {:?}, {counts} for counts, {words} for words, {answers} for answers; {} pairs \
+             of these",
+            cameras.wrong_file, cameras.pairs
+        )
+    }
 }
 
 impl fmt::Display for Tally {
@@ -529,6 +675,7 @@ impl fmt::Display for Tally {
         )?;
         self.write_tolerance(f)?;
         self.write_byte_planes(f)?;
+        self.write_cameras(f)?;
         write!(f, "refused calls by number:")?;
         for (number, count) in self.refusals.iter().enumerate().filter(|&(number, _)| number != 0 && number != 12) {
             write!(f, " {number}: {count}")?;

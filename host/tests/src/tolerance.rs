@@ -5,6 +5,7 @@ use crate::buffers::first_difference;
 use crate::library;
 use crate::refusals::count;
 use crate::tally::Tally;
+use crate::writing::written;
 use crate::{same, Check};
 use icemedian::raw::LentTwo;
 use sorting_filter::frame::{bytes_of, open, trailer_bytes, Frame, Settings, KIND_GUIDED, KIND_TABLE, NO_READING};
@@ -13,7 +14,6 @@ use sorting_filter::refusal::Refusal;
 use sorting_filter::store::Stores;
 use sorting_filter::tolerance::{tolerance, Lengths, Tolerated};
 use sorting_filter::walk::filter;
-use sorting_filter::writer;
 
 /// The buffers of the call: filled with arbitrary bits before it, compared as a whole after it.
 #[derive(Clone)]
@@ -200,11 +200,6 @@ pub fn test_row(random: &mut Random, tally: &mut Tally) -> Check {
         try_refused(random, &file, &vec![7; length], &lengths, 13, tally)?;
     }
     Ok(())
-}
-
-fn written(settings: &Settings, values: &[u16], guides: &[u16], table: &[u16]) -> Result<Vec<u8>, String> {
-    let file = writer::write(&settings.asked(), values, guides, table, usize::MAX);
-    file.map_err(|refusal| refusal.to_string())
 }
 
 /// Width, height, level count, guide count and radius of frames of which every choice is filtered: single pixels, rows,

@@ -8,6 +8,12 @@ use sorting_filter::frame::{open, Asked, Frame, Settings, KIND_TABLE, NO_READING
 use sorting_filter::random::Random;
 use sorting_filter::writer;
 
+/// The file of a frame that the sorting filter's writer takes.
+pub fn written(settings: &Settings, values: &[u16], guides: &[u16], table: &[u16]) -> Result<Vec<u8>, String> {
+    let file = writer::write(&settings.asked(), values, guides, table, usize::MAX);
+    file.map_err(|refusal| refusal.to_string())
+}
+
 pub fn test_writer(random: &mut Random, file: &[u8], tally: &mut Tally) -> Check {
     let frame = open(file).map_err(|refusal| refusal.to_string())?;
     let asked = frame.settings.asked();
