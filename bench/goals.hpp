@@ -43,8 +43,8 @@ inline Goal slowest(const Rows &rows) {
     Goal goal{"OpenCV's time / library's, joint, kind 1, every frame", Goal::AT_LEAST, 1.0, NOT_TIMED};
     if (!least) return goal;
     goal.seen = least->over_opencv();
-    goal.what += " (least: " + std::string(least->name()) + " " + std::to_string(least->k.width) + "x" +
-                 std::to_string(least->k.height) + ", r " + std::to_string(least->k.radius) + ")";
+    goal.what += " (least: " + std::string(least->name()) + " " + size_of(least->k) + ", r " +
+                 std::to_string(least->k.radius) + ")";
     return goal;
 }
 
@@ -55,8 +55,8 @@ inline Goal longest(const Explained &all) {
     auto most = std::max_element(all.begin(), all.end(), shorter);
     if (most == all.end() || most->times() == NOT_TIMED) return goal;
     goal.seen = most->times();
-    goal.what += std::string(" (most: ") + most->weights() + " " + most->size() + ", M " + std::to_string(most->k.guides) +
-                 ", answer " + std::to_string(most->level) + ")";
+    goal.what += std::string(" (most: ") + weights_of(most->contest) + " " + size_of(most->k) + ", M " +
+                 std::to_string(most->k.guides) + ", answer " + std::to_string(most->level) + ")";
     return goal;
 }
 
