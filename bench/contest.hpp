@@ -17,12 +17,17 @@ inline Kind kind_of(int contest) {
     return contest == JOINT_TABLE || contest == JOINT_OWN || contest == COARSE_TABLE ? TABLE : GUIDED;
 }
 inline bool is_coarse(int contest) { return contest == COARSE_TABLE || contest == COARSE_GUIDED; }
+inline const char *weights_of(Contest contest) {
+    return contest == JOINT_OWN ? "own table" : kind_of(contest) == TABLE ? "kind 1" : "kind 2";
+}
+// Cameras are filtered by way 1.
+inline bool is_joint(Contest contest) { return contest == JOINT_TABLE || contest == JOINT_OWN || contest == JOINT_GUIDED; }
 // A tolerance is by way 1 and of kind 1.
 inline bool has_tolerance(Contest contest) { return contest == JOINT_TABLE || contest == JOINT_OWN; }
 // Ice of the contest's kind and with its table, of which so many pixels of a hundred are dead.
-inline Frame ice_for(Contest contest, Settings k, uint32_t dead_percent) {
+inline Frame ice_for(Contest contest, Settings k, uint32_t dead_percent, uint64_t seed = 1) {
     k.kind = kind_of(contest);
-    Frame frame = ice(k);
+    Frame frame = ice(k, seed);
     if (contest == JOINT_OWN) frame.own_table();
     kill(frame, dead_percent);
     return frame;
@@ -65,6 +70,11 @@ inline Walk by_yardstick(Contest contest, const Frame &frame, const std::vector<
     Walk made = walk<by_blocks>(coarse, frame, 0, 0, moves);
     coarse.summarise();
     return made;
+}
+
+// No frame of the benchmark is one to refuse.
+inline void accept(uint32_t status) {
+    if (status != 0) std::printf("the library refused a frame: %u\n", unsigned(status)), std::exit(1);
 }
 
 // What the library gives as the grounds of a pixel's level.
@@ -198,6 +208,11 @@ class Library {
         if (greatest_shifts != yardstick.shifts) std::printf("upper shift counts differ: %s\n", name), std::exit(1);
         compare_answers(greatest, yardstick, name);
     }
+    // Way 1's stores as the last call left them, behind those of other frames.
+    void add_stores(std::vector<uint16_t> &all_counts, std::vector<uint64_t> &all_words) const {
+        all_counts.insert(all_counts.end(), counts.begin(), counts.end());
+        all_words.insert(all_words.end(), words.begin(), words.end());
+    }
     // The bytes of the stores that the way needs.
     size_t store_bytes() const {
         return counts.size() * sizeof counts[0] + words.size() * sizeof words[0] + numbers.size() * sizeof numbers[0] +
@@ -225,9 +240,6 @@ class Library {
     static uint32_t way_of(Contest contest) {
         if (is_coarse(contest)) return ICEMEDIAN_COARSE;
         return contest == COLUMNS ? ICEMEDIAN_COLUMNS : contest == CHAIN ? ICEMEDIAN_CHAIN : ICEMEDIAN_JOINT;
-    }
-    static void accept(uint32_t status) {
-        if (status != 0) std::printf("the library refused a frame: %u\n", unsigned(status)), std::exit(1);
     }
 };
 

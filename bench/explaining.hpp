@@ -13,8 +13,6 @@ struct Explaining {
     double balance = NOT_TIMED, explain = NOT_TIMED;  // nanoseconds a call
 
     double times() const { return explain == NOT_TIMED ? NOT_TIMED : explain / balance; }
-    const char *weights() const { return contest == JOINT_OWN ? "own table" : k.kind == TABLE ? "kind 1" : "kind 2"; }
-    std::string size() const { return std::to_string(k.width) + "x" + std::to_string(k.height); }
 };
 using Explained = std::vector<Explaining>;
 
@@ -45,7 +43,7 @@ inline Explaining measure_explaining(Contest contest, Settings k, uint32_t level
     }
     // Both must have looked at the same window, with the answer that was meant.
     if (why.level != level || 2 * why.reached - why.total != balance)
-        std::printf("an explanation differs from the balance: %s, r %d\n", times.weights(), k.radius), std::exit(1);
+        std::printf("an explanation differs from the balance: %s, r %d\n", weights_of(contest), k.radius), std::exit(1);
     return times;
 }
 
@@ -69,8 +67,8 @@ inline void print_explaining(const Explained &all) {
                 "| weights | size | r | M | answer | balance | explanation | explanation / balance |\n"
                 "|---|---|---|---|---|---|---|---|\n");
     for (const Explaining &one : all)
-        std::printf("| %s | %s | %d | %d | %u | %s | %s | %s |\n", one.weights(), one.size().c_str(), one.k.radius,
-                    one.k.guides, unsigned(one.level), number("%.0f", one.balance).c_str(),
+        std::printf("| %s | %s | %d | %d | %u | %s | %s | %s |\n", weights_of(one.contest), size_of(one.k).c_str(),
+                    one.k.radius, one.k.guides, unsigned(one.level), number("%.0f", one.balance).c_str(),
                     number("%.0f", one.explain).c_str(), number("%.2f", one.times()).c_str());
 }
 

@@ -1,6 +1,7 @@
 // The goals, each held against the times of the run.
 #pragma once
 #include "byte_planes.hpp"
+#include "cameras.hpp"
 #include "dead.hpp"
 #include "explaining.hpp"
 #include "rows.hpp"
@@ -43,8 +44,8 @@ inline Goal slowest(const Rows &rows) {
     Goal goal{"OpenCV's time / library's, joint, kind 1, every frame", Goal::AT_LEAST, 1.0, NOT_TIMED};
     if (!least) return goal;
     goal.seen = least->over_opencv();
-    goal.what += " (least: " + std::string(least->name()) + " " + std::to_string(least->k.width) + "x" +
-                 std::to_string(least->k.height) + ", r " + std::to_string(least->k.radius) + ")";
+    goal.what += " (least: " + std::string(least->name()) + " " + size_of(least->k) + ", r " +
+                 std::to_string(least->k.radius) + ")";
     return goal;
 }
 
@@ -55,8 +56,8 @@ inline Goal longest(const Explained &all) {
     auto most = std::max_element(all.begin(), all.end(), shorter);
     if (most == all.end() || most->times() == NOT_TIMED) return goal;
     goal.seen = most->times();
-    goal.what += std::string(" (most: ") + most->weights() + " " + most->size() + ", M " + std::to_string(most->k.guides) +
-                 ", answer " + std::to_string(most->level) + ")";
+    goal.what += std::string(" (most: ") + weights_of(most->contest) + " " + size_of(most->k) + ", M " +
+                 std::to_string(most->k.guides) + ", answer " + std::to_string(most->level) + ")";
     return goal;
 }
 
@@ -89,8 +90,31 @@ inline void add_byte_planes_goals(const AllBytePlanes &all, std::vector<Goal> &g
     }
 }
 
+// The frames on which a grant takes longest beside a pixel of their own filters.
+inline Goal longest_grant(const Halls &all, size_t frames, Contest contest) {
+    const std::string many = std::to_string(frames) + (frames == 1 ? " frame, " : " frames, ");
+    Goal goal{"cameras' time / filters', " + many + weights_of(contest) + ", every row", Goal::AT_MOST, 1.4, NOT_TIMED};
+    const Hall *most = nullptr;
+    for (const Hall &hall : all) {
+        if (!hall.held || hall.times() == NOT_TIMED) continue;
+        if (hall.sheets.size() != frames || hall.sheets[0].contest != contest) continue;
+        if (!most || hall.times() > most->times()) most = &hall;
+    }
+    if (!most) return goal;
+    const Settings &k = most->sheets[0].k;
+    goal.seen = most->times();
+    goal.what += " (most: r " + std::to_string(k.radius) + ", L " + std::to_string(k.levels) + ")";
+    return goal;
+}
+
+inline void add_camera_goals(const Halls &all, std::vector<Goal> &goals) {
+    for (size_t frames : HELD_FRAMES)
+        for (Contest contest : {JOINT_TABLE, JOINT_GUIDED}) goals.push_back(longest_grant(all, frames, contest));
+}
+
 inline std::vector<Goal> goals_of(const Rows &rows, const AllDead &dead, const Tolerances &tolerances,
-                                  const Explained &explained, const Written &written, const AllBytePlanes &byte_planes) {
+                                  const Explained &explained, const Written &written, const AllBytePlanes &byte_planes,
+                                  const Halls &halls) {
     std::vector<Goal> goals;
     for (Picture picture : {ICE, NOISE})
         goals.push_back({"OpenCV's time / library's, joint, kind 1," + place(picture), Goal::AT_LEAST,
@@ -118,13 +142,14 @@ inline std::vector<Goal> goals_of(const Rows &rows, const AllDead &dead, const T
     for (const Writing &one : written)
         goals.push_back({std::string("writing's time / plain loops', ") + one.weights, Goal::AT_MOST, 1.5, one.times()});
     add_byte_planes_goals(byte_planes, goals);
+    add_camera_goals(halls, goals);
     return goals;
 }
 
-inline void print_goals(const Rows &rows, const AllDead &dead, const Tolerances &tolerances, const Explained &explained,
-                        const Written &written, const AllBytePlanes &byte_planes) {
-    std::printf("\n## Goals\n\nGeometric means over the frames of this run.\n\n| goal | seen | |\n|---|---|---|\n");
-    for (const Goal &goal : goals_of(rows, dead, tolerances, explained, written, byte_planes)) goal.print();
+inline void print_goals(const std::vector<Goal> &goals) {
+    std::printf("\n## Goals\n\nGeometric means over the frames of this run, but for those of every frame, window or row.\n\n"
+                "| goal | seen | |\n|---|---|---|\n");
+    for (const Goal &goal : goals) goal.print();
 }
 
 }  // namespace bench

@@ -191,9 +191,11 @@ int main(int count, char **words) {
     print_writing(written);
     AllBytePlanes byte_planes = measure_all_byte_planes();
     print_byte_planes(byte_planes);
+    Halls halls = measure_all_halls(quick);
+    print_halls(halls);
     print_full_frames(rows);
     print_memory();
-    print_goals(rows, dead, tolerances, explained, written, byte_planes);
+    print_goals(goals_of(rows, dead, tolerances, explained, written, byte_planes, halls));
     print_headline(rows);
     std::chrono::duration<double> passed = std::chrono::steady_clock::now() - start;
     std::printf("\nThe measurements took %.0f seconds.\n", passed.count());

@@ -1,8 +1,12 @@
 // The memory of each way: the stores that a caller lends, and the stack that the library takes.
 #pragma once
-#include "contest.hpp"
-#include "text.hpp"
+#include "cameras.hpp"
 #include <ucontext.h>
+
+// The goal, 96 KB, as long as the header says nothing.
+#ifndef ICEMEDIAN_CAMERAS_STACK
+#define ICEMEDIAN_CAMERAS_STACK 98304
+#endif
 
 namespace bench {
 
@@ -26,23 +30,48 @@ inline size_t stack_touched(std::function<void()> run) {
     return size_t(std::end(stack) - deepest);
 }
 
+// A small frame of a contest with windows as large as they get, and eight cameras: half of them have such frames, the
+// others those of the other kind.
+struct Measured {
+    Library library;
+    Cameras cameras;
+
+    Measured(Contest contest, uint32_t dead_percent)
+        : library(contest, frame_of(contest, dead_percent)), cameras(eight_of(contest, dead_percent), LONGEST_PERIOD) {}
+
+  private:
+    static Frame frame_of(Contest contest, uint32_t dead_percent) {
+        Frame frame = noise({64, 32, 1024, 256, kind_of(contest), 15, 64});
+        if (contest == JOINT_OWN) frame.own_table();
+        kill(frame, dead_percent);
+        return frame;
+    }
+    static std::vector<Frame> eight_of(Contest contest, uint32_t dead_percent) {
+        const Contest other = kind_of(contest) == TABLE ? JOINT_GUIDED : JOINT_TABLE;
+        std::vector<Frame> frames(4, frame_of(contest, dead_percent));
+        frames.insert(frames.end(), 4, frame_of(other, dead_percent));
+        return frames;
+    }
+};
+
 // The calls, the most bytes of stack that the header says they take, and whether they serve a contest.
 struct Call {
     const char *what;
-    void (*make)(Library &);
+    void (*make)(Measured &);
     size_t most;
     bool (*serves)(Contest) = [](Contest) { return true; };
 };
 inline constexpr Call CALLS[] = {
-    {"a filter", [](Library &library) { library.filter(); }, ICEMEDIAN_FILTER_STACK},
-    {"a tolerance", [](Library &library) { library.tolerance(); }, ICEMEDIAN_TOLERANCE_STACK, has_tolerance},
-    {"a walk", [](Library &library) { library.walk({RIGHT, DOWN, LEFT, UP}); }, ICEMEDIAN_WALK_STACK},
-    {"a balance", [](Library &library) { library.balance(0, 0, 1); }, ICEMEDIAN_BALANCE_STACK},
-    {"an explanation", [](Library &library) { library.explain(0, 0); }, ICEMEDIAN_EXPLAIN_STACK},
-    {"a check", [](Library &library) { library.check(); }, ICEMEDIAN_CHECK_STACK},
-    {"a split", [](Library &library) { library.split(); }, ICEMEDIAN_SPLIT_STACK},
-    {"a join", [](Library &library) { library.join(); }, ICEMEDIAN_JOIN_STACK},
-    {"a writing", [](Library &library) { library.write(); }, ICEMEDIAN_WRITE_STACK},
+    {"a filter", [](Measured &m) { m.library.filter(); }, ICEMEDIAN_FILTER_STACK},
+    {"a tolerance", [](Measured &m) { m.library.tolerance(); }, ICEMEDIAN_TOLERANCE_STACK, has_tolerance},
+    {"eight cameras", [](Measured &m) { m.cameras.filter(); }, ICEMEDIAN_CAMERAS_STACK, is_joint},
+    {"a walk", [](Measured &m) { m.library.walk({RIGHT, DOWN, LEFT, UP}); }, ICEMEDIAN_WALK_STACK},
+    {"a balance", [](Measured &m) { m.library.balance(0, 0, 1); }, ICEMEDIAN_BALANCE_STACK},
+    {"an explanation", [](Measured &m) { m.library.explain(0, 0); }, ICEMEDIAN_EXPLAIN_STACK},
+    {"a check", [](Measured &m) { m.library.check(); }, ICEMEDIAN_CHECK_STACK},
+    {"a split", [](Measured &m) { m.library.split(); }, ICEMEDIAN_SPLIT_STACK},
+    {"a join", [](Measured &m) { m.library.join(); }, ICEMEDIAN_JOIN_STACK},
+    {"a writing", [](Measured &m) { m.library.write(); }, ICEMEDIAN_WRITE_STACK},
 };
 
 // The most bytes that a call takes of the stack, less what a run takes that does nothing: on frames without a dead pixel,
@@ -51,11 +80,8 @@ inline size_t call_stack(Contest contest, const Call &call) {
     size_t most = 0;
     if (!call.serves(contest)) return most;
     for (uint32_t dead_percent : {0u, 50u, 100u}) {
-        Frame frame = noise({64, 32, 1024, 256, kind_of(contest), 15, 64});
-        if (contest == JOINT_OWN) frame.own_table();
-        kill(frame, dead_percent);
-        Library library(contest, frame);
-        most = std::max(most, stack_touched([&] { call.make(library); }) - stack_touched([] {}));
+        Measured measured(contest, dead_percent);
+        most = std::max(most, stack_touched([&] { call.make(measured); }) - stack_touched([] {}));
     }
     return most;
 }
