@@ -1,4 +1,4 @@
-// One call that filters the frames of a hall's sheets in turn, a pixel at a time, beside a filter of each frame.
+// One call that filters the frames of a hall's sheets as far as their grants reach, beside a filter of each frame.
 #pragma once
 #include "contest.hpp"
 #include "text.hpp"
@@ -151,7 +151,7 @@ inline Halls measure_all_halls(bool quick) {
 inline void print_halls(const Halls &all) {
     std::printf("\n## Cameras: a grant beside a pixel of the frames' own filters (joint)\n\n"
                 "Nanoseconds a pixel over all frames of a line, ice, each frame another, 256 guides: a filter of each frame, one "
-                "after the other, and one call that filters all to the end, a pixel of each in turn. Each period has as many "
+                "after the other, and one call that filters all to the end. Each period has as many "
                 "grants as the line says. Answers, counts and words are compared with the filters', and these with the C++. "
                 "Lines without a goal show short periods, small frames, where what a call costs whatever the frames' size is "
                 "shows, and unlike frames, which end one after the other.\n\n"

@@ -3,11 +3,6 @@
 #include "cameras.hpp"
 #include <ucontext.h>
 
-// The goal, 96 KB, as long as the header says nothing.
-#ifndef ICEMEDIAN_CAMERAS_STACK
-#define ICEMEDIAN_CAMERAS_STACK 98304
-#endif
-
 namespace bench {
 
 // The stack that a run touches: it runs on a stack of its own, filled with one byte before, and what still holds that

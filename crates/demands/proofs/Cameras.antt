@@ -74,7 +74,7 @@ shared-or-refused b lengths limits before after r h = by (outcomeOf b lengths li
         not-both q = let z : _≡_ {A = ℕ} 0 1 = cc in omega arith
 
 -- ---- request 9: what an accepted call has
-filtered-long : (p : Frame) → length (filtered p) ≡ pixels (p .set)
+pub filtered-long : (p : Frame) → length (filtered p) ≡ pixels (p .set)
 unfolding filtered
 filtered-long p = length-tabulate _ _
 

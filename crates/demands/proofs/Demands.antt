@@ -87,10 +87,11 @@ use Rattle.demands.proofs.Table.{
   tolerance-table,
   writer-table,
   split-table,
-  join-table, cameras-table,
+  join-table,
+  cameras-table,
 }
 use Rattle.demands.proofs.BytePlanes.{accepted-verdict, split-or-refused, joined-or-refused}
-use Rattle.demands.proofs.Cameras.{shared-or-refused}
+use Rattle.demands.proofs.Cameras.{filtered-long, shared-or-refused}
 use Rattle.demands.specs.Demands.{
   WalkedOrRefused,
   FilteredOrRefused,
@@ -450,10 +451,6 @@ pub request-4 : Request4
 request-4 = record { grounds = every-explanation; answer = explains-the-answer }
 
 -- ---- request 7
-filtered-long : (p : Frame) → length (filtered p) ≡ pixels (p .set)
-unfolding filtered
-filtered-long p = length-tabulate (pixels (p .set)) _
-
 -- an output that begins with a plane of answers
 plane-of : (p : Frame) (n : ℕ) (new old : List ℕ) → n ≡ pixels (p .set) → new ≡ filtered p ++ drop n old → take n new ≡ filtered p
 plane-of p n new old e h = ap (take n) h ∙ take-at (filtered p) (drop n old) n (filtered-long p ∙ sym e)

@@ -65,12 +65,11 @@ pub fn run(sizes: [usize; 8], limits: &[u32]) -> Round
     requires { ⌜ SizesFit sizes ⌝ }
     ensures { λ r. ⌜ r ≡ definitions.periods sizes (now (limits .entry)) definitions.opening ⌝ }
 {
-    let start = Round {
+    let mut x = Round {
         next: 0,
         granted: 0,
         tallies: [0; 8],
     };
-    let mut x = start;
     let mut i = 0;
     while i < limits.len() {
         x = period(sizes, limits[i], x);

@@ -14,10 +14,10 @@ use Rattle.schedule.proofs.run.Lts as lts
 use Rattle.schedule.proofs.period.Reads as period-reads
 
 abbrev Inv-loop : tie.InvT-loop
-Inv-loop sizes limits start x₀ i₀ x i = (i ≤ length limits) × (x ≡ definitions.periods sizes (take i limits) definitions.opening) × (Sound sizes x)
+Inv-loop sizes limits x₀ i₀ x i = (i ≤ length limits) × (x ≡ definitions.periods sizes (take i limits) definitions.opening) × (Sound sizes x)
 
 abbrev μ-loop : tie.MeasureT-loop
-μ-loop sizes limits start x₀ i₀ x i = length limits - i
+μ-loop sizes limits x₀ i₀ x i = length limits - i
 
 loop-holds : tie.Need-loop-holds Inv-loop μ-loop
 loop-holds c = (omega arith, sym (periods-none _ (c .before .args .limits .now) _), sound-opening _)
