@@ -129,7 +129,8 @@ pub sizes-run : (b lengths limits sizes : List ℕ) (held : Parts) → BatchAcce
 sizes-run b lengths limits sizes held h e =
     subst SizesFit (sym e) (sizes-fit (filesIn lengths b) (omega (arith, length-files lengths b, h .good .few)) (h .files))
 
-pub round-run : (fs : List (List ℕ)) (limits sizes : List ℕ) (x : Round) → sizes ≡ sizesOf fs → x ≡ periods sizes limits opening → x ≡ roundOf fs limits
+pub round-run : (fs : List (List ℕ)) (limits sizes : List ℕ) (x : Round) → sizes ≡ sizesOf fs → x ≡ periods sizes limits opening → x ≡ roundOf fs
+    limits
 unfolding roundOf
 round-run fs limits sizes x e h = h ∙ ap (λ (q : List ℕ). periods q limits opening) e
 

@@ -73,7 +73,8 @@ module _ (room : List ℕ → ℕ) (part : List ℕ → ℕ → List ℕ → Lis
   part-at (f ∷ fs) (d ∷ ds) old p h (suc k) l =
       let n = p .0 old (omega arith) in
       let m = total (map room (take k fs)) in
-      let behind : drop (room f + m) (part f d old ++ endToEnd room part fs ds (drop (room f) old)) ≡ drop m (endToEnd room part fs ds (drop (room f) old)) =
+      let behind : drop (room f + m) (part f d old ++ endToEnd room part fs ds (drop (room f) old)) ≡ drop m
+      (endToEnd room part fs ds (drop (room f) old)) =
       ap (λ (j : ℕ). drop (j + m) (part f d old ++ endToEnd room part fs ds (drop (room f) old))) (sym n)
       ∙ drop-append-add (part f d old) (endToEnd room part fs ds (drop (room f) old)) m in
       ap (take (room (getD fs k []))) behind

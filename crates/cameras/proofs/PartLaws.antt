@@ -68,7 +68,8 @@ lent-long c n xs h = omega (arith, ap length (lent-is c xs), length-drop c xs)
 put-back : (c : ℕ) (xs ys : List ℕ) → c ≤ length xs → putMid c (length xs - c) xs ys ≡ take c xs ++ ys
 put-back c xs ys h =
     let e : c + (length xs - c) ≡ length xs = omega arith in
-    ap (λ (l : List ℕ). take c xs ++ (ys ++ l)) (drop-drop (length xs - c) c xs ∙ ap (λ (n : ℕ). drop n xs) e ∙ drop-length xs) ∙ ap (λ (l : List ℕ). take c xs ++ l) (append-nil ys)
+    ap (λ (l : List ℕ). take c xs ++ (ys ++ l)) (drop-drop (length xs - c) c xs ∙ ap (λ (n : ℕ). drop n xs) e ∙ drop-length xs) ∙ ap
+    (λ (l : List ℕ). take c xs ++ l) (append-nil ys)
 
 -- ---- a part that is as lent
 kept-part : (n c : ℕ) (old : List ℕ) → old ≡ take c old ++ (take n (drop c old) ++ drop n (drop c old))
@@ -113,7 +114,8 @@ module _ {f : List ℕ} {z : Plan} (k : Planned f z) (room : Room) (needs : room
 
   -- made is what the walk left from the place on
   pub some-made : (d : ℕ) → 1 ≤ d → d ≤ pixelsIn f → RoomFrom f from held → (made : Parts)
-      → Begun f d (parts (lentFrom (from .counts) (held .counts)) (lentFrom (from .words) (held .words)) (lentFrom (from .answers) (held .answers))) made
+      → Begun f d (parts (lentFrom (from .counts) (held .counts)) (lentFrom (from .words) (held .words)) (lentFrom (from .answers) (held .answers)))
+      made
       → PartMade f d from held
       (parts (putMid (from .counts) (length (held .counts) - from .counts) (held .counts) (made .counts))
       (putMid (from .words) (length (held .words) - from .words) (held .words) (made .words))
@@ -124,11 +126,14 @@ module _ {f : List ℕ} {z : Plan} (k : Planned f z) (room : Room) (needs : room
       let rest = drop (from .answers) (held .answers) in
       let b = rw (lent-is (from .counts) (held .counts), lent-is (from .words) (held .words), lent-is (from .answers) (held .answers)) at b′ in
       record {
-        counts = put-back (from .counts) (held .counts) (made .counts) (omega (arith, h .counts)) ∙ ap (λ (l : List ℕ). take (from .counts) (held .counts) ++ l)
+        counts = put-back (from .counts) (held .counts) (made .counts) (omega (arith, h .counts)) ∙ ap
+            (λ (l : List ℕ). take (from .counts) (held .counts) ++ l)
             (b .counts ∙ ap (λ (l : List ℕ). l ++ drop (countsRoom f) xs) (counts-some f d xs some));
-        words = put-back (from .words) (held .words) (made .words) (omega (arith, h .words)) ∙ ap (λ (l : List ℕ). take (from .words) (held .words) ++ l)
+        words = put-back (from .words) (held .words) (made .words) (omega (arith, h .words)) ∙ ap
+            (λ (l : List ℕ). take (from .words) (held .words) ++ l)
             (b .words ∙ ap (λ (l : List ℕ). l ++ drop (wordsRoom f) ws) (words-some f d ws some));
-        answers = put-back (from .answers) (held .answers) (made .answers) (omega (arith, h .answers)) ∙ ap (λ (l : List ℕ). take (from .answers) (held .answers) ++ l)
+        answers = put-back (from .answers) (held .answers) (made .answers) (omega (arith, h .answers)) ∙ ap
+            (λ (l : List ℕ). take (from .answers) (held .answers) ++ l)
             (b .answers ∙ answers-some f d rest few (omega (arith, h .answers, length-drop (from .answers) (held .answers))));
         next-counts = ap (λ (n : ℕ). from .counts + n) (counts-needed k room needs);
         next-words = ap (λ (n : ℕ). from .words + n) (words-needed k room needs);

@@ -145,7 +145,8 @@ module _ (b lengths tallies : List ℕ) (old : Parts) where
 
     -- what is left begins with it; c′ is where the next file's part begins
     one-on : (room : List ℕ → ℕ) (part : List ℕ → ℕ → List ℕ → List ℕ) (c c′ : ℕ) (xs new due : List ℕ)
-        → Left room part (rest b lengths i at) (drop i tallies) c xs due → new ≡ withPart room part f d c xs → length new ≡ length xs → c′ ≡ c + room f
+        → Left room part (rest b lengths i at) (drop i tallies) c xs due → new ≡ withPart room part f d c xs → length new ≡ length xs → c′ ≡ c +
+        room f
         → Left room part later (drop (i + 1) tallies) c′ new due
     one-on room part c c′ xs new due l e n q =
         subst (λ (k : ℕ). Left room part later (drop (i + 1) tallies) k new due) (sym q)

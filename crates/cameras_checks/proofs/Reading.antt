@@ -83,7 +83,8 @@ module _ (b lengths : List ℕ) where
   pub ends : (i at : ℕ) → i < length lengths → at + total (drop i lengths) ≡ length b
       → at + getD lengths i 0 + total (drop (i + 1) lengths) ≡ length b
   unfolding total
-  ends i at h e = let s : total (drop i lengths) ≡ getD lengths i 0 + total (drop (i + 1) lengths) = ap total (left-step lengths i h) in omega (arith, s, e)
+  ends i at h e = let s : total (drop i lengths) ≡ getD lengths i 0 + total (drop (i + 1) lengths) = ap total (left-step lengths i h) in omega
+      (arith, s, e)
 
   pub verdict-step : (i at : ℕ) → i < length lengths → verdicts (rest i at) ≡ (verdict (file i at) ▷ verdicts (rest (i + 1) (at + getD lengths i 0)))
   unfolding verdicts
@@ -102,7 +103,8 @@ module _ (b lengths : List ℕ) where
     pub sizes : take i (t .sizes) ++ map pixelsIn (rest i at) ≡ map pixelsIn (filesIn lengths b)
     pub zeros : drop i (t .sizes) ≡ replicate (8 - i) 0
 
-  pub reading-start : (t : Totals) → total lengths ≡ length b → t ≡ record { counts = 0; words = 0; answers = 0; sizes = replicate 8 0 } → Reading t 0 0
+  pub reading-start : (t : Totals) → total lengths ≡ length b → t ≡ record { counts = 0; words = 0; answers = 0; sizes = replicate 8 0 } → Reading t
+      0 0
   reading-start t e h = rw h
       (record {
         most = omega arith;
@@ -134,9 +136,11 @@ module _ (b lengths : List ℕ) where
         most = omega arith;
         place = ends i at h (w .place);
         verdict = w .verdict ∙ verdict-step i at h ∙ ap (λ (o : Outcome). o ▷ verdicts (rest (i + 1) (at + n))) ok;
-        counts = ap (λ (m : ℕ). m + total (map countsRoom (rest (i + 1) (at + n)))) (a .counts) ∙ share-step countsRoom (t .counts) _ i at h (w .counts);
+        counts = ap (λ (m : ℕ). m + total (map countsRoom (rest (i + 1) (at + n)))) (a .counts) ∙ share-step countsRoom (t .counts) _ i at h
+            (w .counts);
         words = ap (λ (m : ℕ). m + total (map wordsRoom (rest (i + 1) (at + n)))) (a .words) ∙ share-step wordsRoom (t .words) _ i at h (w .words);
-        answers = ap (λ (m : ℕ). m + total (map pixelsIn (rest (i + 1) (at + n)))) (a .answers) ∙ share-step pixelsIn (t .answers) _ i at h (w .answers);
+        answers = ap (λ (m : ℕ). m + total (map pixelsIn (rest (i + 1) (at + n)))) (a .answers) ∙ share-step pixelsIn (t .answers) _ i at h
+            (w .answers);
         low =
             record {
               counts = omega (arith, a .counts, w .low .counts, cells .0);
@@ -149,10 +153,12 @@ module _ (b lengths : List ℕ) where
             ∙ ap (λ (q : List ℕ). q ++ map pixelsIn (rest (i + 1) (at + n))) (take-suc-set (t .sizes) i (pixelsIn f) (omega (arith, w .long)))
             ∙ append-assoc (take i (t .sizes)) (pixelsIn f ∷ []) (map pixelsIn (rest (i + 1) (at + n)))
             ∙ ap (λ (q : List (List ℕ)). take i (t .sizes) ++ map pixelsIn q) (sym (rest-step i at h)) ∙ w .sizes;
-        zeros = ap (drop (i + 1)) (a .sizes) ∙ drop-set-lt (i + 1) (t .sizes) i (pixelsIn f) (omega arith) ∙ tail-zeros 8 i (t .sizes) (omega arith) (w .zeros);
+        zeros = ap (drop (i + 1)) (a .sizes) ∙ drop-set-lt (i + 1) (t .sizes) i (pixelsIn f) (omega arith) ∙ tail-zeros 8 i (t .sizes) (omega arith)
+            (w .zeros);
       }
 
-  pub reading-end : (t : Totals) (at i : ℕ) → Reading t at i → length lengths ≤ i → (verdicts (filesIn lengths b) ≡ accepted) × (TotalsOf (filesIn lengths b) t)
+  pub reading-end : (t : Totals) (at i : ℕ) → Reading t at i → length lengths ≤ i → (verdicts (filesIn lengths b) ≡ accepted) ×
+      (TotalsOf (filesIn lengths b) t)
   unfolding sizesOf verdicts
   reading-end t at i w h =
       let e : i ≡ length (filesIn lengths b) = omega (arith, w .most, length-files lengths b) in
@@ -180,7 +186,8 @@ module _ (b lengths : List ℕ) where
       let s : numbered v ≡ verdicts (filesIn lengths b) = stopped _ _ e refl f ∙ sym (w .verdict ∙ verdict-step i at h) in
       record { verdict = s; totals = λ q. absurd (true≢false (sym f ∙ ap fires (s ∙ q))) }
 
-  pub read-all : (t : Totals) (at i : ℕ) → Reading t at i → length lengths ≤ i → FilesRead (filesIn lengths b) (record { verdict = Accepted; totals = t })
+  pub read-all : (t : Totals) (at i : ℕ) → Reading t at i → length lengths ≤ i → FilesRead (filesIn lengths b)
+      (record { verdict = Accepted; totals = t })
   read-all t at i w h = let e = reading-end t at i w h in record { verdict = sym (e .0); totals = λ _. e .1 }
 
   -- the file that the code opened

@@ -24,7 +24,8 @@ module _ (b lengths limits : List ℕ) (counts words answers : ℕ) where
   outcome = camerasOutcome b lengths limits counts words answers
 
   -- a refusal: no totals are promised
-  refused-by : (r : Checked) → numbered (r .verdict) ≡ outcome → fires (numbered (r .verdict)) ≡ true → BatchRead b lengths limits counts words answers r
+  refused-by : (r : Checked) → numbered (r .verdict) ≡ outcome → fires (numbered (r .verdict)) ≡ true → BatchRead b lengths limits counts words
+      answers r
   refused-by r e f = record { verdict = e; sizes = λ q. absurd (true≢false (sym f ∙ ap fires (e ∙ q))) }
 
   pub batch-refused : (t : Totals) → badBatch b lengths limits ≡ true

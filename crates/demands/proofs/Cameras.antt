@@ -82,7 +82,8 @@ in-frame : (f : List ℕ) (i : ℕ) → i < pixelsIn f → i < pixels (frameOf f
 unfolding frameOf
 in-frame f i h = h
 
-module _ (b lengths limits : List ℕ) (before after : Parts) (r : Granted) (h : Schedules b lengths limits before after r) (ok : r .verdict ≡ Accepted) where
+module _ (b lengths limits : List ℕ) (before after : Parts) (r : Granted) (h : Schedules b lengths limits before after r)
+    (ok : r .verdict ≡ Accepted) where
   abbrev fs : List (List ℕ)
   fs = filesIn lengths b
 

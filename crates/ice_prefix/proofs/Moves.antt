@@ -81,11 +81,14 @@ module _ {f : List ℕ} {z : Plan} (k : Planned f z) where
         let m : suc (n - 1) ≡ n = omega arith in
         record {
           counts =
-              joined (countsRoom f) _ (s .counts) (subst (λ (y : State). take (countsRoom f) (s .counts) ≡ countsOf Joint p (y .column) (y .row)) (w .state) (w .here .holds .counts))
+              joined (countsRoom f) _ (s .counts) (subst (λ (y : State). take (countsRoom f) (s .counts) ≡ countsOf Joint p (y .column) (y .row))
+              (w .state) (w .here .holds .counts))
               ∙ ap (λ (q : List ℕ). countsOf Joint p (x .column) (x .row) ++ q) (w .kept .counts .beyond);
           words =
-              joined (wordsRoom f) _ (s .words) (subst (λ (y : State). take (wordsRoom f) (s .words) ≡ wordsOf Joint p (y .column) (y .row)) (w .state) (w .here .holds .words))
+              joined (wordsRoom f) _ (s .words) (subst (λ (y : State). take (wordsRoom f) (s .words) ≡ wordsOf Joint p (y .column) (y .row))
+              (w .state) (w .here .holds .words))
               ∙ ap (λ (q : List ℕ). wordsOf Joint p (x .column) (x .row) ++ q) (w .kept .words .beyond);
           answers =
-              e ∙ ap₂ (λ (q : List ℕ) (j : ℕ). q ++ drop j A₁) (answers-take p _ (serpentine (p .set)) (n - 1) ∙ ap (λ (j : ℕ). take j (walkAnswers p 0 0 (serpentine (p .set)))) m) l;
+              e ∙ ap₂ (λ (q : List ℕ) (j : ℕ). q ++ drop j A₁)
+              (answers-take p _ (serpentine (p .set)) (n - 1) ∙ ap (λ (j : ℕ). take j (walkAnswers p 0 0 (serpentine (p .set)))) m) l;
         }

@@ -14,7 +14,8 @@ ghost use Rattle.tolerance.specs.Contract.{buffers};
 ghost use Rattle.ice_prefix.specs.Prefix.{parts};
 ghost use Rattle.c_values.specs.Results.{Reported, lentGrounds};
 ghost use Rattle.c_values.specs.Settings.{settingsFrom};
-ghost use Rattle.icemedian_c.specs.Exports.{WalkCall, FilterCall, ToleranceCall, BalanceCall, ExplainCall, WriteCall, SplitCall, JoinCall, CamerasCall};
+ghost use Rattle.icemedian_c.specs.Exports.{WalkCall, FilterCall, ToleranceCall, BalanceCall, ExplainCall, WriteCall, SplitCall, JoinCall};
+ghost use Rattle.icemedian_c.specs.Exports.{CamerasCall};
 
 // Checks 1 to 7.
 #[no_mangle]

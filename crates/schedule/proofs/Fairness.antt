@@ -1,5 +1,5 @@
--- Document 02, ask 9: an unfinished file is served within every eight grants, the periods are one list of grants, and all grants are made while a file
--- is unfinished.
+-- Document 02, ask 9: an unfinished file is served within every eight grants, the periods are one list of grants, and all grants are made while a
+-- file is unfinished.
 -- Assumes nothing.
 use Prim.Native.Nat.{ℕ, zero, suc, _+_, _-_, _*_, _%_, _≤_, _<_, min}
 use mathlib.Core.Path.{_≡_, refl, sym, ap, ap₂, _∙_, subst}
@@ -16,7 +16,17 @@ use Rattle.spec.specs.declared.Round.{Round}
 use Rattle.spec.specs.Schedule.{opening, unfinished, looked, passedOver, serve, grant, grants, periods}
 use Rattle.spec.specs.Cameras.{total}
 use Rattle.schedule.specs.Sound.{SizesFit, Sound}
-use Rattle.schedule.proofs.Grants.{over-is, grant-serves, grant-none, by-grant, looked-low, sound-grant, sound-opening, grants-more, grants-add}
+use Rattle.schedule.proofs.Grants.{
+  over-is,
+  grant-serves,
+  grant-none,
+  by-grant,
+  looked-low,
+  sound-grant,
+  sound-opening,
+  grants-more,
+  grants-add,
+}
 
 -- ---- two lists of which one is no more than the other
 pub total-mono : (a b : List ℕ) → length a ≡ length b → ((k : ℕ) → getD a k 0 ≤ getD b k 0) → total a ≤ total b
@@ -113,7 +123,8 @@ module _ (sizes : List ℕ) where
   unfolding unfinished
   finished-all x h k l =
       let a = away x k l in
-      ltb-false _ _ (subst (λ (q : ℕ). ltb (getD (x .tallies) q 0) (getD sizes q 0) ≡ false) (a .2) (over-is sizes x .before (a .0) (omega (arith, a .1))))
+      ltb-false _ _ (subst (λ (q : ℕ). ltb (getD (x .tallies) q 0) (getD sizes q 0) ≡ false) (a .2)
+      (over-is sizes x .before (a .0) (omega (arith, a .1))))
 
   module _ (fit : SizesFit sizes) where
     grant-counted : (x : Round) → Sound sizes x → grant sizes x .granted ≡ min (x .granted + 1) (total sizes)
@@ -124,7 +135,13 @@ module _ (sizes : List ℕ) where
 
         one : (passedOver sizes x < 8) × (getD (x .tallies) (looked x (passedOver sizes x)) 0 < getD sizes (looked x (passedOver sizes x)) 0)
             → grant sizes x .granted ≡ min (x .granted + 1) (total sizes)
-        one h = omega (arith, ap (λ (y : Round). y .granted) (grant-serves sizes x (h .0)), s .counted, total-less (x .tallies) sizes same-long (s .within) _ (h .1))
+        one h = omega (
+          arith,
+          ap (λ (y : Round). y .granted) (grant-serves sizes x (h .0)),
+          s .counted,
+          total-less (x .tallies) sizes same-long
+              (s .within) _ (h .1),
+        )
 
         none : 8 ≤ passedOver sizes x → grant sizes x .granted ≡ min (x .granted + 1) (total sizes)
         none h =

@@ -63,12 +63,14 @@ module _ (sizes : List ℕ) where
   none-by x j e l = sym (grant-none x (rw e at l))
 
   -- it serves a file that has a pixel left, or none
-  pub by-grant : (x : Round) → ((passedOver sizes x < 8) × (getD (x .tallies) (looked x (passedOver sizes x)) 0 < getD sizes (looked x (passedOver sizes x)) 0))
+  pub by-grant : (x : Round) → ((passedOver sizes x < 8) ×
+      (getD (x .tallies) (looked x (passedOver sizes x)) 0 < getD sizes (looked x (passedOver sizes x)) 0))
       ⊎ (8 ≤ passedOver sizes x)
   unfolding unfinished
   by-grant x = go (decLt (passedOver sizes x) 8)
     where
-      go : Dec (passedOver sizes x < 8) → ((passedOver sizes x < 8) × (getD (x .tallies) (looked x (passedOver sizes x)) 0 < getD sizes (looked x (passedOver sizes x)) 0))
+      go : Dec (passedOver sizes x < 8) → ((passedOver sizes x < 8) ×
+          (getD (x .tallies) (looked x (passedOver sizes x)) 0 < getD sizes (looked x (passedOver sizes x)) 0))
           ⊎ (8 ≤ passedOver sizes x)
       go (yes l) = inl (l, ltb-true _ _ (over-is x .passes l))
       go (no l) = inr (omega arith)

@@ -151,8 +151,8 @@ pub enum Move {
     Nowhere(u16),
 }
 
-// The grants so far of a call over up to eight files (document 02): the file that is looked at first, which is the one after the last served; how many
-// grants were made; and the pixels answered of each file.
+// The grants so far of a call over up to eight files (document 02): the file that is looked at first, which is the one after the last served; how
+// many grants were made; and the pixels answered of each file.
 pub struct Round {
     pub next: usize,
     pub granted: u64,

@@ -6,7 +6,17 @@ use Rattle.spec.specs.Checks.{Planned}
 use Rattle.spec.proofs.Plans.{plane-small}
 use Rattle.ice_prefix.specs.Prefix.{parts}
 use Rattle.cameras_checks.proofs.Reading.{limits-planned}
-use Rattle.cameras.proofs.PartLaws.{planned-by, trailer-in, counts-needed, words-needed, pixels-needed, stores-from, lent-long, none-made, some-made}
+use Rattle.cameras.proofs.PartLaws.{
+  planned-by,
+  trailer-in,
+  counts-needed,
+  words-needed,
+  pixels-needed,
+  stores-from,
+  lent-long,
+  none-made,
+  some-made,
+}
 use borrow.Author.Needs.{needs}
 use Rattle.cameras.proofs.serve_file.Statement.{statement}
 use Rattle.cameras.proofs.serve_file.Tie as tie
@@ -57,7 +67,8 @@ returns c =
     none-made (plan-at o) _ (n .needed .ensures) _ _ _ (c .if1 .taken)
 
 mul-begin-2 : tie.Need-mul-begin-2
-mul-begin-2 c = let at = c .before .before .before .before .before .before .before .before .before .before in omega (arith, at .pre .1 .counts, at .good .1 .1 .1 .0 .1)
+mul-begin-2 c = let at = c .before .before .before .before .before .before .before .before .before .before in omega
+    (arith, at .pre .1 .counts, at .good .1 .1 .1 .0 .1)
 
 sub-begin : tie.Need-sub-begin
 sub-begin c = search needs
@@ -69,7 +80,8 @@ part-begin-end : tie.Need-part-begin-end
 part-begin-end c = search needs
 
 mul-begin-3 : tie.Need-mul-begin-3
-mul-begin-3 c = let at = c .before .before .before .before .before .before .before .before .before .before .before in omega (arith, at .pre .1 .words, at .good .1 .1 .1 .1 .0 .1)
+mul-begin-3 c = let at = c .before .before .before .before .before .before .before .before .before .before .before in omega
+    (arith, at .pre .1 .words, at .good .1 .1 .1 .1 .0 .1)
 
 sub-begin-2 : tie.Need-sub-begin-2
 sub-begin-2 c = search needs
@@ -81,7 +93,8 @@ part-begin-end-2 : tie.Need-part-begin-end-2
 part-begin-end-2 c = search needs
 
 mul-begin-4 : tie.Need-mul-begin-4
-mul-begin-4 c = let at = c .before .before .before .before .before .before .before .before .before .before .before .before in omega (arith, at .pre .1 .answers, at .good .1 .1 .1 .1 .1 .0 .1)
+mul-begin-4 c = let at = c .before .before .before .before .before .before .before .before .before .before .before .before in omega
+    (arith, at .pre .1 .answers, at .good .1 .1 .1 .1 .1 .0 .1)
 
 sub-begin-3 : tie.Need-sub-begin-3
 sub-begin-3 c = search needs
@@ -126,7 +139,8 @@ returns-2 c =
     let o = n .before in
     let at = start o in
     some-made (plan-at o) _ (n .needed .ensures) _ (parts (at .args .counts .now) (at .args .words .now) (at .args .answers .now)) _
-    (omega (arith, c .before .before .before .before .before .before .before .before .before .before .if1 .left)) (at .pre .0 .1) (at .pre .1) _ (c .before .before .before .before .before .before .begin .ensures)
+    (omega (arith, c .before .before .before .before .before .before .before .before .before .before .if1 .left)) (at .pre .0 .1) (at .pre .1) _
+    (c .before .before .before .before .before .before .begin .ensures)
 
 pub serve-file-spec : {M : Type 1} → statement M
 serve-file-spec =

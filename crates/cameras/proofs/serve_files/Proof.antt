@@ -53,10 +53,18 @@ part-serve-file-end c =
     omega (arith, ends (at .files .now) (at .lengths .now) (l .i) (l .at) (c .before .loop-test .taken) (l .inv .here))
 
 mul-serve-file : tie.Need-mul-serve-file Inv-loop μ-loop
-mul-serve-file c = omega (arith, c .before .before .loop-test .taken, c .before .before .before .before .before .before .before .before .before .pre .few)
+mul-serve-file c = omega (
+  arith,
+  c .before .before .loop-test .taken,
+  c .before .before .before .before .before .before .before .before .before .pre .few,
+)
 
 array-read-serve-file : tie.Need-array-read-serve-file Inv-loop μ-loop
-array-read-serve-file c = omega (arith, c .before .before .loop-test .taken, c .before .before .before .before .before .before .before .before .before .pre .few)
+array-read-serve-file c = omega (
+  arith,
+  c .before .before .loop-test .taken,
+  c .before .before .before .before .before .before .before .before .before .pre .few,
+)
 
 serve-file-requires : tie.Need-serve-file-requires Inv-loop μ-loop
 serve-file-requires c κs =
@@ -77,7 +85,12 @@ serve-file-requires c κs =
     )
 
 add-i : tie.Need-add-i Inv-loop μ-loop
-add-i c = omega (arith, c .before .before .before .before .before .before .before .before .before .before .before .before .loop-test .taken, c .before .before .before .before .before .before .before .before .before .before .before .before .before .before .before .before .before .before .before .pre .few)
+add-i c = omega (
+  arith,
+  c .before .before .before .before .before .before .before .before .before .before .before .before .loop-test .taken,
+  c .before .before .before .before .before .before .before .before .before .before .before .before .before .before .before .before .before
+      .before .before .pre .few,
+)
 
 loop-less : tie.Need-loop-less Inv-loop μ-loop
 loop-less c = omega (arith, c .before .before .before .before .before .before .before .before .before .before .before .before .loop-test .taken)
@@ -85,7 +98,8 @@ loop-less c = omega (arith, c .before .before .before .before .before .before .b
 loop-again : tie.Need-loop-again Inv-loop μ-loop
 loop-again c =
     let l = c .before .before .before .before .before .before .before .before .before .before .before .before .before .loop in
-    let at = c .before .before .before .before .before .before .before .before .before .before .before .before .before .before .before .before .before .before .before in
+    let at = c .before .before .before .before .before .before .before .before .before .before .before .before .before .before .before .before
+    .before .before .before in
     let b = at .args .files .now in
     let ns = at .args .lengths .now in
     let old = parts (at .args .counts .now) (at .args .words .now) (at .args .answers .now) in
@@ -94,7 +108,8 @@ loop-again c =
     let e = part-is b ns (l .i) (l .at) _ refl in
     serving-more b ns (at .args .t3) old (at .pre) (parts (l .counts) (l .words) (l .answers)) (l .place) (l .at) (l .i) (l .inv)
     (c .before .before .before .before .before .before .before .before .before .before .before .before .loop-test .taken) _ (f .result)
-    (subst (λ (q : List ℕ). PartMade q (getD (at .args .t3) (l .i) 0) (l .place) (parts (l .counts) (l .words) (l .answers)) new (f .result)) e (f .ensures))
+    (subst (λ (q : List ℕ). PartMade q (getD (at .args .t3) (l .i) 0) (l .place) (parts (l .counts) (l .words) (l .answers)) new (f .result)) e
+    (f .ensures))
     (f .kept .1 .1 .1 .0) (f .kept .1 .1 .1 .1 .0) (f .kept .1 .1 .1 .1 .1 .0)
 
 same-length : tie.Need-same-length Inv-loop μ-loop

@@ -22,7 +22,8 @@ any-above-requires : tie.Need-any-above-requires
 any-above-requires c κs = search needs
 
 returns-3 : tie.Need-returns-3
-returns-3 c = bad-limit _ _ _ (omega (arith, c .before .before .before .if1 .left)) (c .before .before .add-up .ensures) (c .before .if2 .left) (c .any-above .ensures)
+returns-3 c = bad-limit _ _ _ (omega (arith, c .before .before .before .if1 .left)) (c .before .before .add-up .ensures) (c .before .if2 .left)
+    (c .any-above .ensures)
 
 pub bad-batch-spec : {M : Type 1} → statement M
 bad-batch-spec =

@@ -39,7 +39,8 @@ stops-requires : tie.Need-stops-requires
 stops-requires c κs = search needs
 
 returns-2 : tie.Need-returns-2
-returns-2 c = let r = c .before .before in files-refused _ _ _ _ _ _ (good r) _ (r .read-files .ensures) (same (c .before .stops .ensures) (c .if2 .taken))
+returns-2 c = let r = c .before .before in files-refused _ _ _ _ _ _ (good r) _ (r .read-files .ensures)
+    (same (c .before .stops .ensures) (c .if2 .taken))
 
 returns-3 : tie.Need-returns-3
 returns-3 c =
@@ -51,20 +52,23 @@ returns-4 : tie.Need-returns-4
 returns-4 c =
     let e = c .before .before .before .before .before in
     let r = e .before .before in
-    short-words _ _ _ _ _ _ (good r) (passed e) _ (r .read-files .ensures .totals (passed e)) (omega (arith, c .before .before .if3 .left)) (omega (arith, c .if4 .taken))
+    short-words _ _ _ _ _ _ (good r) (passed e) _ (r .read-files .ensures .totals (passed e)) (omega (arith, c .before .before .if3 .left))
+    (omega (arith, c .if4 .taken))
 
 returns-5 : tie.Need-returns-5
 returns-5 c =
     let e = c .before .before .before .before .before .before .before in
     let r = e .before .before in
-    short-answers _ _ _ _ _ _ (good r) (passed e) _ (r .read-files .ensures .totals (passed e)) (omega (arith, c .before .before .before .before .if3 .left))
+    short-answers _ _ _ _ _ _ (good r) (passed e) _ (r .read-files .ensures .totals (passed e))
+    (omega (arith, c .before .before .before .before .if3 .left))
     (omega (arith, c .before .before .if4 .left)) (omega (arith, c .if5 .taken))
 
 returns-6 : tie.Need-returns-6
 returns-6 c =
     let e = c .before .before .before .before .before .before .before in
     let r = e .before .before in
-    all-long _ _ _ _ _ _ (good r) (passed e) _ (r .read-files .ensures .totals (passed e)) _ (silent _ (same (e .before .stops .ensures) (e .if2 .left))) refl
+    all-long _ _ _ _ _ _ (good r) (passed e) _ (r .read-files .ensures .totals (passed e)) _
+    (silent _ (same (e .before .stops .ensures) (e .if2 .left))) refl
     (omega (arith, c .before .before .before .before .if3 .left)) (omega (arith, c .before .before .if4 .left)) (omega (arith, c .if5 .left))
 
 pub check-batch-spec : {M : Type 1} → statement M

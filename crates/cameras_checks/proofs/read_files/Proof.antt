@@ -75,7 +75,8 @@ with-file-requires c κs =
     )
 
 add-i : tie.Need-add-i Inv-loop μ-loop
-add-i c = let k = c .before .before .before .before .before .before in omega (arith, k .before .loop-test .taken, k .before .before .before .before .before .pre .0)
+add-i c = let k = c .before .before .before .before .before .before in omega
+    (arith, k .before .loop-test .taken, k .before .before .before .before .before .pre .0)
 
 loop-less : tie.Need-loop-less Inv-loop μ-loop
 loop-less c = let k = c .before .before .before .before .before .before in omega (arith, k .before .loop-test .taken)

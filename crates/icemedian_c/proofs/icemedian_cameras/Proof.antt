@@ -25,7 +25,8 @@ same-length-3 : tie.Need-same-length-3
 same-length-3 c = search needs
 
 returns : tie.Need-returns
-returns c = cameras-passed (c .before .before .before .before .before .before .before .before .before .cameras .ensures) (c .before .report .ensures) (omega arith) (omega arith)
+returns c = cameras-passed (c .before .before .before .before .before .before .before .before .before .cameras .ensures)
+    (c .before .report .ensures) (omega arith) (omega arith)
 
 same-length-4 : tie.Need-same-length-4
 same-length-4 c = search needs
@@ -37,7 +38,8 @@ same-length-6 : tie.Need-same-length-6
 same-length-6 c = search needs
 
 returns-2 : tie.Need-returns-2
-returns-2 c = cameras-stopped (c .before .before .before .before .before .before .before .before .before .cameras .ensures) (c .before .report .ensures) (omega arith)
+returns-2 c = cameras-stopped (c .before .before .before .before .before .before .before .before .before .cameras .ensures)
+    (c .before .report .ensures) (omega arith)
 
 pub icemedian-cameras-spec : {M : Type 1} → statement M
 icemedian-cameras-spec =
