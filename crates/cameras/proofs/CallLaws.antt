@@ -20,8 +20,8 @@ use Rattle.spec.specs.Schedule.{opening, periods}
 use Rattle.spec.specs.Cameras.{filesIn, total, countsRoom, wordsRoom, pixelsIn, sizesOf, roundOf, badBatch, verdicts, shortOf, camerasOutcome}
 use Rattle.spec.proofs.Checks.{both-accepted, not-fired, neither}
 use Rattle.spec.proofs.Limits.{limits-of}
-use Rattle.schedule.specs.Sound.{SizesFit, Sound}
-use Rattle.schedule.proofs.Grants.{total-zeros, sound-opening, sound-periods}
+use Rattle.schedule.specs.Tallies.{SizesFit, TalliesCounted}
+use Rattle.schedule.proofs.Grants.{total-zeros, tallies-opening, tallies-periods}
 use Rattle.ice_prefix.specs.Prefix.{Parts, parts}
 use Rattle.cameras_checks.proofs.Batch.{BatchGood, batch-good}
 use Rattle.cameras_checks.proofs.Reading.{length-files}
@@ -140,7 +140,7 @@ pub servable-by : (b lengths limits : List ℕ) (held : Parts) → BatchAccepted
 unfolding roundOf
 servable-by b lengths limits held h =
     let fs = filesIn lengths b in
-    let s = sound-periods (sizesOf fs) limits opening (sound-opening (sizesOf fs)) in
+    let s = tallies-periods (sizesOf fs) limits opening (tallies-opening (sizesOf fs)) in
     record {
       few = h .good .few;
       sum = h .good .sum;

@@ -15,15 +15,15 @@ use borrow.Author.Tests.{lt-ltb, le-ltb, ltb-false}
 use Rattle.spec.specs.declared.Round.{Round}
 use Rattle.spec.specs.Schedule.{opening, unfinished, looked, passedOver, serve, grant, grants, periods}
 use Rattle.spec.specs.Cameras.{total}
-use Rattle.schedule.specs.Sound.{SizesFit, Sound}
+use Rattle.schedule.specs.Tallies.{SizesFit, TalliesCounted}
 use Rattle.schedule.proofs.Grants.{
   over-is,
   grant-serves,
   grant-none,
   by-grant,
   looked-low,
-  sound-grant,
-  sound-opening,
+  tallies-grant,
+  tallies-opening,
   grants-more,
   grants-add,
 }
@@ -127,7 +127,7 @@ module _ (sizes : List ℕ) where
       (over-is sizes x .before (a .0) (omega (arith, a .1))))
 
   module _ (fit : SizesFit sizes) where
-    grant-counted : (x : Round) → Sound sizes x → grant sizes x .granted ≡ min (x .granted + 1) (total sizes)
+    grant-counted : (x : Round) → TalliesCounted sizes x → grant sizes x .granted ≡ min (x .granted + 1) (total sizes)
     grant-counted x s = ⊎-elim one none (by-grant sizes x)
       where
         same-long : length (x .tallies) ≡ length sizes
@@ -157,15 +157,16 @@ module _ (sizes : List ℕ) where
             all k (yes l) = finished-all x h k l
             all k (no l) = omega (arith, lib.ListN.List·getD-eq-default {A = ℕ} sizes 0 {n = k} (omega (arith, fit .long)))
 
-    grants-counted : (m : ℕ) (x : Round) → Sound sizes x → x .granted ≤ total sizes → grants sizes m x .granted ≡ min (x .granted + m) (total sizes)
+    grants-counted : (m : ℕ) (x : Round) → TalliesCounted sizes x → x .granted ≤ total sizes
+        → grants sizes m x .granted ≡ min (x .granted + m) (total sizes)
     unfolding grants
     grants-counted zero x s l = omega arith
     grants-counted (suc m) x s l =
         let g = grant-counted x s in
-        let r = grants-counted m (grant sizes x) (sound-grant sizes x s) (omega (arith, g)) in
+        let r = grants-counted m (grant sizes x) (tallies-grant sizes x s) (omega (arith, g)) in
         omega (arith, g, r)
 
     pub all-granted : (limits : List ℕ) → periods sizes limits opening .granted ≡ min (total limits) (total sizes)
     all-granted limits =
-        ap (λ (y : Round). y .granted) (periods-grants limits opening) ∙ grants-counted (total limits) opening (sound-opening sizes) (omega arith)
+        ap (λ (y : Round). y .granted) (periods-grants limits opening) ∙ grants-counted (total limits) opening (tallies-opening sizes) (omega arith)
         ∙ ap (λ (n : ℕ). min n (total sizes)) (native.Mathlib.Nat.zero-add (total limits))

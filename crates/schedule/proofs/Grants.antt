@@ -18,7 +18,7 @@ use Rattle.spec.specs.Base.{if_then_else_, first}
 use Rattle.spec.specs.Schedule.{opening, unfinished, looked, passedOver, serve, grant, grants, periods}
 use Rattle.spec.specs.Cameras.{total}
 use Rattle.spec.proofs.First.{First, first-is, first-unique}
-use Rattle.schedule.specs.Sound.{SizesFit, Sound}
+use Rattle.schedule.specs.Tallies.{SizesFit, TalliesCounted}
 
 -- ---- sums of a list
 pub total-set : (xs : List ℕ) (k : ℕ) → k < length xs → total (set xs k (getD xs k 0 + 1)) ≡ total xs + 1
@@ -78,13 +78,13 @@ module _ (sizes : List ℕ) where
   pub looked-low : (x : Round) (j : ℕ) → looked x j < 8
   looked-low x j = mod-lt (x .next + j) (omega arith)
 
-  pub sound-grant : (x : Round) → Sound sizes x → Sound sizes (grant sizes x)
-  sound-grant x s = ⊎-elim serves none (by-grant x)
+  pub tallies-grant : (x : Round) → TalliesCounted sizes x → TalliesCounted sizes (grant sizes x)
+  tallies-grant x s = ⊎-elim serves none (by-grant x)
     where
-      none : 8 ≤ passedOver sizes x → Sound sizes (grant sizes x)
-      none h = subst (Sound sizes) (sym (grant-none x h)) s
+      none : 8 ≤ passedOver sizes x → TalliesCounted sizes (grant sizes x)
+      none h = subst (TalliesCounted sizes) (sym (grant-none x h)) s
 
-      served : (k : ℕ) → k < 8 → getD (x .tallies) k 0 < getD sizes k 0 → Sound sizes (serve k x)
+      served : (k : ℕ) → k < 8 → getD (x .tallies) k 0 < getD sizes k 0 → TalliesCounted sizes (serve k x)
       served k l u =
           record {
             long = length-set (x .tallies) k _ ∙ s .long;
@@ -98,21 +98,21 @@ module _ (sizes : List ℕ) where
           at i (no e) = omega (arith, getD-set-other (x .tallies) k i (getD (x .tallies) k 0 + 1) 0 e, s .within i)
 
       serves : (passedOver sizes x < 8) × (getD (x .tallies) (looked x (passedOver sizes x)) 0 < getD sizes (looked x (passedOver sizes x)) 0)
-          → Sound sizes (grant sizes x)
-      serves h = subst (Sound sizes) (sym (grant-serves x (h .0))) (served _ (looked-low x (passedOver sizes x)) (h .1))
+          → TalliesCounted sizes (grant sizes x)
+      serves h = subst (TalliesCounted sizes) (sym (grant-serves x (h .0))) (served _ (looked-low x (passedOver sizes x)) (h .1))
 
-  pub sound-grants : (m : ℕ) (x : Round) → Sound sizes x → Sound sizes (grants sizes m x)
+  pub tallies-grants : (m : ℕ) (x : Round) → TalliesCounted sizes x → TalliesCounted sizes (grants sizes m x)
   unfolding grants
-  sound-grants zero x s = s
-  sound-grants (suc m) x s = sound-grants m (grant sizes x) (sound-grant x s)
+  tallies-grants zero x s = s
+  tallies-grants (suc m) x s = tallies-grants m (grant sizes x) (tallies-grant x s)
 
-  pub sound-periods : (limits : List ℕ) (x : Round) → Sound sizes x → Sound sizes (periods sizes limits x)
+  pub tallies-periods : (limits : List ℕ) (x : Round) → TalliesCounted sizes x → TalliesCounted sizes (periods sizes limits x)
   unfolding periods
-  sound-periods [] x s = s
-  sound-periods (m ∷ limits) x s = sound-periods limits (grants sizes m x) (sound-grants m x s)
+  tallies-periods [] x s = s
+  tallies-periods (m ∷ limits) x s = tallies-periods limits (grants sizes m x) (tallies-grants m x s)
 
-  pub sound-opening : Sound sizes opening
-  sound-opening =
+  pub tallies-opening : TalliesCounted sizes opening
+  tallies-opening =
       record {
         long = length-replicate {A = ℕ} 8 0;
         next-low = omega arith;
@@ -125,7 +125,7 @@ module _ (sizes : List ℕ) where
       none k (no l) = omega (arith, List·getD-eq-default {A = ℕ} (replicate 8 0) 0 {n = k} (omega (arith, length-replicate {A = ℕ} 8 0)))
 
   -- so few that they are no sum that a number could not hold
-  pub granted-low : (x : Round) → SizesFit sizes → Sound sizes x → x .granted ≤ 2097152
+  pub granted-low : (x : Round) → SizesFit sizes → TalliesCounted sizes x → x .granted ≤ 2097152
   granted-low x f s = omega (arith, s .counted, s .long, total-low (x .tallies) (λ k. omega (arith, s .within k, f .low k)))
 
   -- ---- a list of grants, from its end

@@ -3,7 +3,7 @@ use spec::Round;
 ghost use mathlib.Core.Path.{_≡_};
 ghost use Prim.Native.Nat.{_≤_, _<_};
 ghost use Rattle.spec.specs.Schedule as definitions;
-ghost use Rattle.schedule.specs.Sound.{SizesFit, Sound};
+ghost use Rattle.schedule.specs.Tallies.{SizesFit, TalliesCounted};
 
 // How many files are passed over because they are finished: 8 where all are.
 pub fn passed_over(sizes: [usize; 8], x: Round) -> usize
@@ -25,7 +25,7 @@ pub fn passed_over(sizes: [usize; 8], x: Round) -> usize
 
 // One grant: nothing where all files are finished.
 pub fn grant(sizes: [usize; 8], x: Round) -> Round
-    requires { ⌜ (SizesFit sizes) × (Sound sizes x) ⌝ }
+    requires { ⌜ (SizesFit sizes) × (TalliesCounted sizes x) ⌝ }
     ensures { λ r. ⌜ r ≡ definitions.grant sizes x ⌝ }
 {
     let j = passed_over(sizes, x);
@@ -44,7 +44,7 @@ pub fn grant(sizes: [usize; 8], x: Round) -> Round
 
 // The grants of a period with this limit. Once one grants nothing, all files are finished, and so does each after it.
 pub fn period(sizes: [usize; 8], limit: u32, from: Round) -> Round
-    requires { ⌜ (SizesFit sizes) × (Sound sizes from) ⌝ }
+    requires { ⌜ (SizesFit sizes) × (TalliesCounted sizes from) ⌝ }
     ensures { λ r. ⌜ r ≡ definitions.grants sizes limit from ⌝ }
 {
     let mut x = from;

@@ -5,8 +5,8 @@ use native.Mathlib.Omega.{arith}
 use borrow.Author.Needs.{needs}
 use Rattle.spec.specs.declared.Round.{Round}
 use Rattle.spec.specs.Schedule as definitions
-use Rattle.schedule.specs.Sound.{Sound}
-use Rattle.schedule.proofs.Grants.{sound-grant, grants-zero, grants-next, grants-end, grants-early, grant-uncounted}
+use Rattle.schedule.specs.Tallies.{TalliesCounted}
+use Rattle.schedule.proofs.Grants.{tallies-grant, grants-zero, grants-next, grants-end, grants-early, grant-uncounted}
 use Rattle.schedule.proofs.period.Statement.{statement}
 use Rattle.schedule.proofs.period.Tie as tie
 use Rattle.schedule.proofs.period.Reads as reads
@@ -14,7 +14,7 @@ use Rattle.schedule.proofs.period.Lts as lts
 use Rattle.schedule.proofs.grant.Reads as grant-reads
 
 abbrev Inv-loop : tie.InvT-loop
-Inv-loop sizes limit x₀ i₀ x i = (i ≤ limit) × (x ≡ definitions.grants sizes i x₀) × (Sound sizes x)
+Inv-loop sizes limit x₀ i₀ x i = (i ≤ limit) × (x ≡ definitions.grants sizes i x₀) × (TalliesCounted sizes x)
 
 abbrev μ-loop : tie.MeasureT-loop
 μ-loop sizes limit x₀ i₀ x i = limit - i
@@ -44,7 +44,7 @@ loop-again c =
     let g = c .before .before .before .grant in (
       omega (arith, c .before .before .before .before .loop-test .taken),
       grants-next _ (l .i) _ (l .x) _ (l .inv .1) (g .ensures),
-      subst (Sound _) (sym (g .ensures)) (sound-grant _ (l .x) (l .inv .2)),
+      subst (TalliesCounted _) (sym (g .ensures)) (tallies-grant _ (l .x) (l .inv .2)),
     )
 
 returns-2 : tie.Need-returns-2 Inv-loop μ-loop

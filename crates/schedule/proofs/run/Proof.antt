@@ -5,8 +5,8 @@ use native.Mathlib.Omega.{arith}
 use borrow.Author.Needs.{needs}
 use lib.ListN.{length, take, getD}
 use Rattle.spec.specs.Schedule as definitions
-use Rattle.schedule.specs.Sound.{Sound}
-use Rattle.schedule.proofs.Grants.{sound-opening, sound-grants, periods-none, periods-next, periods-all}
+use Rattle.schedule.specs.Tallies.{TalliesCounted}
+use Rattle.schedule.proofs.Grants.{tallies-opening, tallies-grants, periods-none, periods-next, periods-all}
 use Rattle.schedule.proofs.run.Statement.{statement}
 use Rattle.schedule.proofs.run.Tie as tie
 use Rattle.schedule.proofs.run.Reads as reads
@@ -14,13 +14,13 @@ use Rattle.schedule.proofs.run.Lts as lts
 use Rattle.schedule.proofs.period.Reads as period-reads
 
 abbrev Inv-loop : tie.InvT-loop
-Inv-loop sizes limits x₀ i₀ x i = (i ≤ length limits) × (x ≡ definitions.periods sizes (take i limits) definitions.opening) × (Sound sizes x)
+Inv-loop sizes limits x₀ i₀ x i = (i ≤ length limits) × (x ≡ definitions.periods sizes (take i limits) definitions.opening) × (TalliesCounted sizes x)
 
 abbrev μ-loop : tie.MeasureT-loop
 μ-loop sizes limits x₀ i₀ x i = length limits - i
 
 loop-holds : tie.Need-loop-holds Inv-loop μ-loop
-loop-holds c = (omega arith, sym (periods-none _ (c .before .args .limits .now) _), sound-opening _)
+loop-holds c = (omega arith, sym (periods-none _ (c .before .args .limits .now) _), tallies-opening _)
 
 mul-period : tie.Need-mul-period Inv-loop μ-loop
 mul-period c = omega arith
@@ -43,7 +43,7 @@ loop-again c =
     let e = c .period .ensures ∙ ap (definitions.grants _ _) (l .inv .1) in (
       omega (arith, c .before .before .loop-test .taken),
       e ∙ sym (periods-next _ (c .before .before .before .before .before .args .limits .now) (l .i) _ (c .before .before .loop-test .taken)),
-      subst (Sound _) (sym (c .period .ensures)) (sound-grants _ _ (l .x) (l .inv .2)),
+      subst (TalliesCounted _) (sym (c .period .ensures)) (tallies-grants _ _ (l .x) (l .inv .2)),
     )
 
 returns : tie.Need-returns Inv-loop μ-loop

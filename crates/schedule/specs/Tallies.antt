@@ -13,7 +13,7 @@ pub record SizesFit (sizes : List ℕ) : Type 0 where
   pub low : (k : ℕ) → getD sizes k 0 ≤ 262144
 
 -- no file has more pixels answered than it has, and the grants made are the pixels answered
-pub record Sound (sizes : List ℕ) (x : Round) : Type 0 where
+pub record TalliesCounted (sizes : List ℕ) (x : Round) : Type 0 where
   pub long : length (x .tallies) ≡ 8
   pub next-low : x .next ≤ 8
   pub within : (k : ℕ) → getD (x .tallies) k 0 ≤ getD sizes k 0
