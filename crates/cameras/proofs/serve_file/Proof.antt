@@ -1,11 +1,12 @@
 -- `serve_file` meets its contract. Assumes nothing.
 use Prim.Native.Nat.{_+_, _*_, _≤_}
-use mathlib.Core.Path.{_≡_, refl, sym, _∙_}
+use mathlib.Core.Path.{_≡_, ap}
 use native.Mathlib.Omega.{arith}
+use Rattle.spec.specs.declared.Room.{Room}
 use Rattle.spec.specs.Checks.{Planned}
 use Rattle.spec.proofs.Plans.{plane-small}
 use Rattle.ice_prefix.specs.Prefix.{parts}
-use Rattle.cameras_checks.proofs.Reading.{limits-planned}
+use Rattle.cameras_checks.proofs.Reading.{limits-planned, cells-low}
 use Rattle.cameras.proofs.PartLaws.{
   planned-by,
   trailer-in,
@@ -43,7 +44,15 @@ add-begin : tie.Need-add-begin
 add-begin c =
     let o = c .before .before in
     let at = start o in
-    omega (arith, counts-needed (plan-at o) _ (c .before .needed .ensures), at .pre .1 .counts)
+    let e = c .before .needed .ensures in
+    omega (
+      arith,
+      counts-needed (plan-at o) _ e,
+      at .pre .1 .counts,
+      ap (λ (r : Room). r .words) e,
+      cells-low _ (limits-planned (plan-at o)) .1,
+      at .good .1 .1 .1 .0 .1,
+    )
 
 add-begin-2 : tie.Need-add-begin-2
 add-begin-2 c =

@@ -29,7 +29,8 @@ shared-slice-read-n c = omega arith
 returns : tie.Need-returns Inv-loop μ-loop
 returns c =
     let l = c .before .before .before .loop in
-    sym (l .inv .1 ∙ off-short _ (l .i) (l .left) (c .before .before .loop-test .taken) (c .if1 .taken))
+    let ns = c .before .before .before .before .args .lengths .now in
+    sym (l .inv .1 ∙ off-short ns (l .i) (l .left) (c .before .before .loop-test .taken) (omega (arith, c .if1 .taken)))
 
 add-i : tie.Need-add-i Inv-loop μ-loop
 add-i c = omega arith
@@ -40,7 +41,8 @@ loop-less c = omega arith
 loop-again : tie.Need-loop-again Inv-loop μ-loop
 loop-again c =
     let l = c .before .before .before .loop in
-    (omega (arith, c .before .before .loop-test .taken), l .inv .1 ∙ off-more _ (l .i) (l .left) (c .before .before .loop-test .taken) (c .if1 .left))
+    let ns = c .before .before .before .before .args .lengths .now in
+    (omega (arith, c .before .before .loop-test .taken), l .inv .1 ∙ off-more ns (l .i) (l .left) (c .before .before .loop-test .taken) (omega (arith, c .if1 .left)))
 
 returns-2 : tie.Need-returns-2 Inv-loop μ-loop
 returns-2 c = let l = c .before .loop in sym (l .inv .1 ∙ off-end _ (l .i) (l .left) (c .loop-test .left))

@@ -28,7 +28,8 @@ shared-slice-read-if1 c = omega arith
 returns : tie.Need-returns Inv-loop μ-loop
 returns c =
     let l = c .before .before .before .loop in
-    sym (l .inv .1 ∙ above-here _ _ (l .i) (c .before .before .loop-test .taken) (c .if1 .taken))
+    let at = c .before .before .before .before .args in
+    sym (l .inv .1 ∙ above-here (at .most) (at .numbers .now) (l .i) (c .before .before .loop-test .taken) (omega (arith, c .if1 .taken)))
 
 add-i : tie.Need-add-i Inv-loop μ-loop
 add-i c = omega arith
@@ -39,7 +40,10 @@ loop-less c = omega arith
 loop-again : tie.Need-loop-again Inv-loop μ-loop
 loop-again c =
     let l = c .before .before .before .loop in
-    (omega (arith, c .before .before .loop-test .taken), l .inv .1 ∙ above-later _ _ (l .i) (c .before .before .loop-test .taken) (c .if1 .left))
+    let at = c .before .before .before .before .args in (
+      omega (arith, c .before .before .loop-test .taken),
+      l .inv .1 ∙ above-later (at .most) (at .numbers .now) (l .i) (c .before .before .loop-test .taken) (omega (arith, c .if1 .left)),
+    )
 
 returns-2 : tie.Need-returns-2 Inv-loop μ-loop
 returns-2 c = let l = c .before .loop in sym (l .inv .1 ∙ above-none _ _ (l .i) (c .loop-test .left))

@@ -26,14 +26,16 @@ array-write-sizes c = search needs
 add-t8 : tie.Need-add-t8
 add-t8 c =
     let at = c .before .before .before .before .before in
-    let e = ap (λ (r : Room). r .counts) (c .before .before .before .before .needed .ensures) in
-    omega (arith, e, at .pre .1 .counts, cells-low _ (at .pre .0) .0)
+    let e = c .before .before .before .before .needed .ensures in
+    let low = cells-low _ (at .pre .0) in
+    omega (arith, ap (λ (r : Room). r .counts) e, ap (λ (r : Room). r .words) e, at .pre .1 .counts, low .0, low .1)
 
 add-t11 : tie.Need-add-t11
 add-t11 c =
     let at = c .before .before .before .before .before .before .before in
-    let e = ap (λ (r : Room). r .words) (c .before .before .before .before .before .before .needed .ensures) in
-    omega (arith, e, at .pre .1 .words, cells-low _ (at .pre .0) .1)
+    let e = c .before .before .before .before .before .before .needed .ensures in
+    let low = cells-low _ (at .pre .0) in
+    omega (arith, ap (λ (r : Room). r .counts) e, ap (λ (r : Room). r .words) e, at .pre .1 .words, low .0, low .1)
 
 add-t12 : tie.Need-add-t12
 add-t12 c = search needs

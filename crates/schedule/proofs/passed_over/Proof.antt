@@ -45,8 +45,15 @@ returns : tie.Need-returns Inv-loop μ-loop
 unfolding unfinished
 returns c =
     let l = c .before .before .loop in
-    over-unique (c .before .before .before .before .args .t1) (c .before .before .before .before .args .x) (l .j)
-    (record { within = l .inv .0; passes = λ _. lt-ltb _ _ (c .if1 .taken); before = l .inv .1 })
+    let sizes = c .before .before .before .before .args .t1 in
+    let x = c .before .before .before .before .args .x in
+    let k = (x .next + l .j) % 8 in
+    over-unique sizes x (l .j)
+    (record {
+      within = l .inv .0;
+      passes = λ _. lt-ltb (getD (x .tallies) k 0) (getD sizes k 0) (omega (arith, c .if1 .taken));
+      before = l .inv .1;
+    })
 
 add-j : tie.Need-add-j Inv-loop μ-loop
 add-j c = omega arith
