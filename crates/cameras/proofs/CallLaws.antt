@@ -2,12 +2,12 @@
 -- Assumes nothing.
 use Prim.Native.Nat.{ℕ, zero, suc, _+_, _-_, _≤_, _<_}
 use mathlib.Core.Path.{_≡_, refl, sym, ap, ap₂, _∙_, subst}
-use mathlib.Core.Bool.{Bool, true, false, true≢false, _||_}
+use mathlib.Core.Bool.{true, _||_}
 use mathlib.Core.List.{List, [], _∷_, _++_, map}
 use native.Mathlib.Decide.{decLt}
 use native.Mathlib.Omega.{arith}
 use lib.Dec.{ltb}
-use lib.ListN.{length, getD, replicate, length-append, length-replicate, List·getD-append}
+use lib.ListN.{length, getD, replicate, length-append, length-map, length-replicate, List·getD-append}
 use lib.Seq.{getD-append-add}
 use borrow.Author.Tests.{ltb-false}
 use Rattle.spec.specs.declared.Round.{Round}
@@ -23,7 +23,7 @@ use Rattle.spec.proofs.Limits.{limits-of}
 use Rattle.schedule.specs.Tallies.{SizesFit, TalliesCounted}
 use Rattle.schedule.proofs.Grants.{total-zeros, tallies-opening, tallies-periods}
 use Rattle.ice_prefix.specs.Prefix.{Parts, parts}
-use Rattle.cameras_checks.proofs.Batch.{BatchGood, batch-good}
+use Rattle.cameras_checks.proofs.Batch.{fires-not, BatchGood, batch-good}
 use Rattle.cameras_checks.proofs.Reading.{length-files}
 use Rattle.cameras.specs.declared.Granted.{Granted}
 use Rattle.cameras.specs.Parts.{Servable, AllMade}
@@ -36,7 +36,7 @@ schedules-refused b lengths limits held v r h f e =
     record {
       verdict = ap numbered (h .verdict) ∙ e;
       refused = λ _. record { grants = h .grants; counts = refl; words = refl; answers = refl };
-      shared = λ q. absurd (true≢false (sym f ∙ ap fires (e ∙ q)));
+      shared = λ q. absurd (fires-not f (e ∙ q));
     }
 
 -- ---- accepted: what no check has refused
@@ -67,10 +67,6 @@ batch-accepted b lengths limits held e =
     }
 
 -- ---- the sizes of accepted files
-length-map : (g : List ℕ → ℕ) (fs : List (List ℕ)) → length (map g fs) ≡ length fs
-length-map g [] = refl
-length-map g (f ∷ fs) = ap suc (length-map g fs)
-
 file-high : (f : List ℕ) → verdict f ≡ accepted → pixelsIn f ≤ 262144
 unfolding frameOf
 file-high f ok = limits-of f ok .sound .pixels-high
@@ -78,12 +74,12 @@ file-high f ok = limits-of f ok .sound .pixels-high
 sizes-long : (fs : List (List ℕ)) → length fs ≤ 8 → length (sizesOf fs) ≡ 8
 unfolding sizesOf
 sizes-long fs few =
-    omega (arith, length-append (map pixelsIn fs) (replicate (8 - length fs) 0), length-map pixelsIn fs, length-replicate {A = ℕ} (8 - length fs) 0)
+    omega (arith, length-append (map pixelsIn fs) (replicate (8 - length fs) 0), length-map fs pixelsIn, length-replicate {A = ℕ} (8 - length fs) 0)
 
 sizes-beyond : (fs : List (List ℕ)) (k : ℕ) → length fs ≤ k → getD (sizesOf fs) k 0 ≡ 0
 unfolding sizesOf
 sizes-beyond fs k h =
-    let n : k ≡ length (map pixelsIn fs) + (k - length fs) = omega (arith, length-map pixelsIn fs) in
+    let n : k ≡ length (map pixelsIn fs) + (k - length fs) = omega (arith, length-map fs pixelsIn) in
     ap (λ (j : ℕ). getD (map pixelsIn fs ++ replicate (8 - length fs) 0) j 0) n
     ∙ getD-append-add (map pixelsIn fs) (replicate (8 - length fs) 0) (k - length fs) 0 ∙ zeros-at (8 - length fs) (k - length fs)
   where
@@ -101,7 +97,7 @@ pixels-high (f ∷ fs) e (suc k) = pixels-high fs (both-accepted (verdict f) (ve
 -- beside the files there is none
 sizes-at : (fs : List (List ℕ)) (k : ℕ) → k < length fs → getD (sizesOf fs) k 0 ≡ getD (map pixelsIn fs) k 0
 unfolding sizesOf
-sizes-at fs k h = List·getD-append (map pixelsIn fs) (replicate (8 - length fs) 0) 0 k (omega (arith, length-map pixelsIn fs))
+sizes-at fs k h = List·getD-append (map pixelsIn fs) (replicate (8 - length fs) 0) 0 k (omega (arith, length-map fs pixelsIn))
 
 pub sizes-fit : (fs : List (List ℕ)) → length fs ≤ 8 → verdicts fs ≡ accepted → SizesFit (sizesOf fs)
 sizes-fit fs few ok =

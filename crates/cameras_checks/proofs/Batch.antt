@@ -2,7 +2,7 @@
 -- Assumes nothing.
 use Prim.Native.Nat.{ℕ, zero, suc, _+_, _-_, _*_, _≤_, _<_}
 use mathlib.Core.Path.{_≡_, refl, sym, ap, _∙_}
-use mathlib.Core.Bool.{Bool, true, false, not, _||_}
+use mathlib.Core.Bool.{Bool, true, false, true≢false, not, _||_}
 use mathlib.Core.List.{List, [], _∷_}
 use native.Mathlib.Decide.{ℕ-discrete}
 use native.Mathlib.Numerals.{add-one}
@@ -11,9 +11,14 @@ use lib.Dec.{ltb, eqb}
 use lib.ListN.{length, getD, drop}
 use lib.Seq.{drop-cons}
 use borrow.Author.Tests.{lt-ltb, le-ltb, ltb-false, eq-eqb, ne-eqb, eqb-true, not-false}
+use Rattle.spec.specs.Refusal.{Outcome, accepted, fires}
 use Rattle.spec.specs.Cameras.{total, anyAbove, badBatch}
 use Rattle.spec.proofs.Checks.{neither}
 use Rattle.spec.proofs.Outcomes.{or-else}
+
+-- a verdict that fires is not accepted
+pub fires-not : {o : Outcome} → fires o ≡ true → o ≡ accepted → ⊥
+fires-not f e = true≢false (sym f ∙ ap fires e)
 
 -- what is left of a list, one number on
 pub left-step : (xs : List ℕ) (i : ℕ) → i < length xs → drop i xs ≡ getD xs i 0 ∷ drop (i + 1) xs

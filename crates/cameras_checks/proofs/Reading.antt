@@ -2,7 +2,7 @@
 -- Assumes nothing.
 use Prim.Native.Nat.{ℕ, zero, suc, _+_, _-_, _*_, _/_, _≤_, _<_}
 use mathlib.Core.Path.{_≡_, refl, sym, ap, ap₂, _∙_, subst}
-use mathlib.Core.Bool.{true, false, true≢false}
+use mathlib.Core.Bool.{true, false}
 use mathlib.Core.List.{List, [], _∷_, _++_, map, append-assoc, append-nil}
 use native.Mathlib.Nat.{mul-le-mul}
 use native.Mathlib.Numerals.{add-one}
@@ -23,7 +23,7 @@ use Rattle.spec.proofs.Outcomes.{stopped}
 use Rattle.spec.proofs.Plans.{facts}
 use Rattle.cameras_checks.specs.declared.Totals.{Totals}
 use Rattle.cameras_checks.specs.Totals.{TotalsLow, Added, TotalsOf, FilesRead}
-use Rattle.cameras_checks.proofs.Batch.{left-step, left-none}
+use Rattle.cameras_checks.proofs.Batch.{left-step, left-none, fires-not}
 
 -- ---- one file
 pub settings-planned : {f : List ℕ} {z : Plan} → Planned f z → settingsIn z ≡ settingsOf f
@@ -184,7 +184,7 @@ module _ (b lengths : List ℕ) where
       → fires (numbered v) ≡ true → FilesRead (filesIn lengths b) (record { verdict = v; totals = t })
   read-refused t at i v w h e f =
       let s : numbered v ≡ verdicts (filesIn lengths b) = stopped _ _ e refl f ∙ sym (w .verdict ∙ verdict-step i at h) in
-      record { verdict = s; totals = λ q. absurd (true≢false (sym f ∙ ap fires (s ∙ q))) }
+      record { verdict = s; totals = λ q. absurd (fires-not f (s ∙ q)) }
 
   pub read-all : (t : Totals) (at i : ℕ) → Reading t at i → length lengths ≤ i → FilesRead (filesIn lengths b)
       (record { verdict = Accepted; totals = t })

@@ -2,7 +2,7 @@
 -- Assumes nothing.
 use Prim.Native.Nat.{ℕ, _≤_, _<_}
 use mathlib.Core.Path.{_≡_, refl, sym, ap, _∙_}
-use mathlib.Core.Bool.{Bool, true, false, true≢false, _||_}
+use mathlib.Core.Bool.{Bool, true, false, _||_}
 use mathlib.Core.List.{List, [], map}
 use lib.Dec.{ltb}
 use borrow.Author.Tests.{lt-ltb, le-ltb}
@@ -15,6 +15,7 @@ use Rattle.spec.proofs.Outcomes.{fired, or-else}
 use Rattle.cameras_checks.specs.declared.Totals.{Totals}
 use Rattle.cameras_checks.specs.declared.Checked.{Checked}
 use Rattle.cameras_checks.specs.Totals.{TotalsOf, FilesRead, BatchRead}
+use Rattle.cameras_checks.proofs.Batch.{fires-not}
 
 module _ (b lengths limits : List ℕ) (counts words answers : ℕ) where
   abbrev fs : List (List ℕ)
@@ -26,7 +27,7 @@ module _ (b lengths limits : List ℕ) (counts words answers : ℕ) where
   -- a refusal: no totals are promised
   refused-by : (r : Checked) → numbered (r .verdict) ≡ outcome → fires (numbered (r .verdict)) ≡ true → BatchRead b lengths limits counts words
       answers r
-  refused-by r e f = record { verdict = e; sizes = λ q. absurd (true≢false (sym f ∙ ap fires (e ∙ q))) }
+  refused-by r e f = record { verdict = e; sizes = λ q. absurd (fires-not f (e ∙ q)) }
 
   pub batch-refused : (t : Totals) → badBatch b lengths limits ≡ true
       → BatchRead b lengths limits counts words answers (record { verdict = Refused Batch; totals = t })

@@ -4,7 +4,6 @@ use Prim.Native.Nat.{ℕ, zero, suc, _+_, _-_, _*_, _≤_, _<_}
 use mathlib.Core.Path.{_≡_, refl, ap, ap₂, sym, _∙_, subst}
 use mathlib.Core.Logic.{inl, inr}
 use mathlib.Core.List.{List, [], _∷_, _++_}
-use native.Mathlib.Nat.{mul-pos}
 use native.Mathlib.Omega.{arith}
 use lib.ListN.{length, getD, take, drop}
 use lib.Seq.{length-take-le, getD-take}
@@ -23,6 +22,7 @@ use Rattle.visit.specs.declared.Visit.{Visit}
 use Rattle.visit.specs.Visit.{stateOf}
 use Rattle.ways.specs.Visit.{Stores, Serves, Visited}
 use Rattle.ways.proofs.WayLaws.{joined}
+use Rattle.ice_filter.proofs.FilterLoop.{count-is}
 use Rattle.ice_prefix.specs.Prefix.{parts, Begun}
 
 -- the answers of the first moves are the first answers
@@ -41,25 +41,19 @@ pub joint-serves : (z : Plan) → Serves Joint z []
 joint-serves z = (inl tt, inl refl)
 
 module _ {f : List ℕ} {z : Plan} (k : Planned f z) where
-  same-count : z .width * z .height ≡ pixels (frameOf f .set)
-  same-count = ap₂ _*_ (facts k .width) (facts k .height)
-
-  pub first-in : (0 < z .width) × (0 < z .height)
-  first-in = let g = facts k in (rw (g .width) (g .limits .sound .width-low), rw (g .height) (g .limits .sound .height-low))
-
   module _ (n : ℕ) (some : 1 ≤ n) (few : n ≤ z .width * z .height) where
     pub few-pixels : n ≤ 262144
     few-pixels = omega (arith, plane-small k)
 
     pub moves-long : length (movesTo f n) ≡ n - 1
     unfolding movesTo
-    moves-long = length-take-le (n - 1) (serpentine (frameOf f .set)) (omega (arith, serpentine-length (frameOf f .set), same-count))
+    moves-long = length-take-le (n - 1) (serpentine (frameOf f .set)) (omega (arith, serpentine-length (frameOf f .set), count-is Joint k))
 
     pub move-at : (i : ℕ) → i + 1 < n → turn (z .width) i ≡ getD (movesTo f n) i 0
     unfolding movesTo
     move-at i h =
         sym (getD-take (n - 1) (serpentine (frameOf f .set)) i 0 (omega arith)
-        ∙ serpentine-byte (frameOf f .set) i (omega (arith, same-count)) ∙ ap (λ (w : ℕ). turn w i) (sym (facts k .width)))
+        ∙ serpentine-byte (frameOf f .set) i (omega (arith, count-is Joint k)) ∙ ap (λ (w : ℕ). turn w i) (sym (facts k .width)))
 
     -- a turn's step, by the byte that the code made
     pub stepped : (i byte : ℕ) → i + 1 < n → byte ≡ turn (z .width) i → (v : Visit) (a s : Stores) (hs : List ℕ) (d : List ℤ) (v′ : Visit)

@@ -41,8 +41,10 @@ loop-less c = omega arith
 loop-again : tie.Need-loop-again Inv-loop μ-loop
 loop-again c =
     let l = c .before .before .before .loop in
-    let ns = c .before .before .before .before .args .lengths .now in
-    (omega (arith, c .before .before .loop-test .taken), l .inv .1 ∙ off-more ns (l .i) (l .left) (c .before .before .loop-test .taken) (omega (arith, c .if1 .left)))
+    let ns = c .before .before .before .before .args .lengths .now in (
+      omega (arith, c .before .before .loop-test .taken),
+      l .inv .1 ∙ off-more ns (l .i) (l .left) (c .before .before .loop-test .taken) (omega (arith, c .if1 .left)),
+    )
 
 returns-2 : tie.Need-returns-2 Inv-loop μ-loop
 returns-2 c = let l = c .before .loop in sym (l .inv .1 ∙ off-end _ (l .i) (l .left) (c .loop-test .left))

@@ -8,8 +8,9 @@ use Rattle.spec.specs.declared.Way.the-variants.{Joint}
 use Rattle.visit.specs.Visit.{stateOf}
 use Rattle.ways.specs.Visit.{stores}
 use Rattle.ice_step.proofs.Laws.{histogram-blank, held-first, within-of, fit-going}
+use Rattle.ice_filter.proofs.FilterLoop.{first-in}
 use Rattle.ice_walk.proofs.WalkLoop.{Walking, walking-start, walking-long, walking-more, walking-end}
-use Rattle.ice_prefix.proofs.Moves.{movesTo, joint-serves, first-in, few-pixels, moves-long, stepped, begun}
+use Rattle.ice_prefix.proofs.Moves.{movesTo, joint-serves, few-pixels, moves-long, stepped, begun}
 use Rattle.ice_prefix.proofs.begin.Statement.{statement}
 use Rattle.ice_prefix.proofs.begin.Tie as tie
 use Rattle.ice_prefix.proofs.begin.Reads as reads
@@ -78,7 +79,7 @@ enter-requires : tie.Need-enter-requires Inv-loop μ-loop
 enter-requires c κs =
     let at = c .before .before .before .before .before .before .before .before .before .before .before .before .before .before in (
       (at .pre .0, c .before .before .before .before .before .before .before .before .built-rows .ensures, joint-serves (at .args .plan)),
-      (first-in (at .pre .0), (at .pre .1 .1, (refl, histogram-blank (at .pre .0)))),
+      (first-in Joint (at .pre .0), (at .pre .1 .1, (refl, histogram-blank (at .pre .0)))),
     )
 
 answer-number-requires : tie.Need-answer-number-requires Inv-loop μ-loop
@@ -94,7 +95,7 @@ loop-holds c =
     let at = entry c in
     let v = c .before .before .before .before .before .before .enter in
     walking-start _ (at .args .file .now) _ _ (at .args .answers .now) _ _ _ (omega (arith, room c)) (v .ensures .here)
-    (held-first _ (at .pre .0) _ _ (v .result) (first-in (at .pre .0) .0) (first-in (at .pre .0) .1) (v .ensures .state)) _
+    (held-first _ (at .pre .0) _ _ (v .result) (first-in Joint (at .pre .0) .0) (first-in Joint (at .pre .0) .1) (v .ensures .state)) _
     (c .answer-number .ensures)
 
 add-loop : tie.Need-add-loop Inv-loop μ-loop
@@ -114,7 +115,7 @@ unfolding entry
 turn-at-requires c κs =
     let l = c .before .before .before in
     let at = entry (l .before) in
-    (first-in (at .pre .0) .0, omega (arith, c .before .before .loop-test .taken, small (l .before)))
+    (first-in Joint (at .pre .0) .0, omega (arith, c .before .before .loop-test .taken, small (l .before)))
 
 slice-aggregate-step-3 : tie.Need-slice-aggregate-step-3 Inv-loop μ-loop
 slice-aggregate-step-3 c = search needs
