@@ -3,7 +3,7 @@
 ghost use Rattle.std.specs.Prelude.{◌≡◌, ◌≤◌, length, nat_abs, ◌+ℤ◌, ◌*ℤ◌};
 ghost use Rattle.balance.specs.Formula.{Ramp};
 
-#[derive(Drop)]
+#[derive(Clone, Copy)]
 pub struct Formula {
     pub slope: i64,
     pub offset: i64,

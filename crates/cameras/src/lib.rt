@@ -16,7 +16,7 @@ use ice_prefix::begin;
 use spec::{Verdict, Way, stops};
 
 // Where a file's parts of the three buffers begin.
-#[derive(Drop)]
+#[derive(Clone, Copy)]
 pub struct Place {
     pub counts: usize,
     pub words: usize,
@@ -24,7 +24,7 @@ pub struct Place {
 }
 
 // What the call gives back beside the buffers: the verdict, and how many grants were made (0 where refused).
-#[derive(Drop)]
+#[derive(Clone, Copy)]
 pub struct Granted {
     pub verdict: Verdict,
     pub grants: u64,

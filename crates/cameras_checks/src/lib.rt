@@ -10,7 +10,7 @@ use frame::plan::open_plan;
 use spec::{Plan, Refusal, Verdict, Way, stops};
 
 // What the parts of the files read so far take together, and the pixels of each of eight files, none where there is no file.
-#[derive(Drop)]
+#[derive(Clone, Copy)]
 pub struct Totals {
     pub counts: usize,
     pub words: usize,
@@ -19,7 +19,7 @@ pub struct Totals {
 }
 
 // What the checks say, and the totals of all files where they accept them.
-#[derive(Drop)]
+#[derive(Clone, Copy)]
 pub struct Checked {
     pub verdict: Verdict,
     pub totals: Totals,

@@ -6,7 +6,7 @@ ghost use Rattle.chain_nodes.specs.Nodes.{node_level, node_pixels, node_guides, 
 use spec::{Guide, Level};
 
 // The free list: its head and its length.
-#[derive(Drop)]
+#[derive(Clone, Copy)]
 pub struct FreeList {
     pub head: u32,
     pub count: u32,

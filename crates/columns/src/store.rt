@@ -13,7 +13,7 @@ use spec::{NO_READING, Plan};
 use window::{line, pixel};
 
 // Which column or row enters and which one leaves as the centre moves by one, and whether it is in the picture.
-#[derive(Drop)]
+#[derive(Clone, Copy)]
 pub struct Exchange {
     pub entering: usize,
     pub enters: bool,

@@ -18,7 +18,7 @@ use spec::{Answer, Cause, Grounds, Plan};
 use weight_sums::{add_window, weights_of};
 
 // The answer of a window with a reading: the total, and where half of it is reached.
-#[derive(Drop)]
+#[derive(Clone, Copy)]
 pub struct Answered {
     pub total: i64,
     pub half: Half,

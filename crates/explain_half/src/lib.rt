@@ -8,7 +8,7 @@ use spec::Level;
 const BLOCK: usize = spec::BLOCK as usize;
 
 // The lowest level at which half is reached, and what the levels weigh that are below it, and up to it.
-#[derive(Drop)]
+#[derive(Clone, Copy)]
 pub struct Half {
     pub level: Level,
     pub below: i64,

@@ -10,7 +10,7 @@ use frame_distances::plane_bytes;
 use frame_trailer::{own_weights, trailer_of};
 use spec::{Settings, TRAILER, Trailer, Verdict, stops};
 
-#[derive(Drop)]
+#[derive(Clone, Copy)]
 pub enum Plane {
     Values,
     Guides,
@@ -18,7 +18,7 @@ pub enum Plane {
 }
 
 // What the checks say of a file, and its trailer; a blank one where they refuse it.
-#[derive(Drop)]
+#[derive(Clone, Copy)]
 pub struct Head {
     pub verdict: Verdict,
     pub trailer: Trailer,
@@ -95,7 +95,7 @@ pub fn show(which: Plane, file: &[u8], h: Head) -> &[u8]
 }
 
 // An opened frame. An enum can't hold a reference, so whether it is accepted is a field of its head.
-#[derive(Drop)]
+#[derive(Clone, Copy)]
 pub struct Frame<'a> {
     pub file: &'a [u8],
     pub head: Head,

@@ -9,7 +9,7 @@ use frame_trailer::plan_of;
 use spec::{Plan, Verdict, stops};
 
 // What the checks say of a file, and its plan where they accept it.
-#[derive(Drop)]
+#[derive(Clone, Copy)]
 pub struct Opened {
     pub verdict: Verdict,
     pub plan: Plan,

@@ -13,7 +13,7 @@ use frame_write_trailer::put_trailer;
 use spec::{Refusal, Settings, TRAILER, Verdict, judged, stops};
 
 // The file's length, or why nothing was written.
-#[derive(Drop)]
+#[derive(Clone, Copy)]
 pub enum Written {
     Length(usize),
     Refused(Refusal),

@@ -16,7 +16,7 @@ use ways::dispatch;
 
 // What walk and filter give back beside the buffers: the verdict; the shift count, the last cut point and, for the joint way, the balance box (zeros
 // for the other ways; all zeros where refused).
-#[derive(Drop)]
+#[derive(Clone, Copy)]
 pub struct Walked {
     pub verdict: Verdict,
     pub shifts: u64,

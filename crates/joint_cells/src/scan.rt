@@ -6,7 +6,7 @@ ghost use Rattle.joint_cells.specs.Scan.{place_of, Scans, Follows};
 use spec::Guide;
 
 // A word by its number among the level's, and its bits that are still to come.
-#[derive(Drop)]
+#[derive(Clone, Copy)]
 pub struct Scan {
     pub word: usize,
     pub rest: u64,

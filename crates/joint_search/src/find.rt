@@ -12,7 +12,7 @@ use joint_cells::shift::shift_level;
 use spec::Level;
 
 // The level at which a search ends, and the shifts counted up to it.
-#[derive(Drop)]
+#[derive(Clone, Copy)]
 pub struct SearchEnd {
     pub level: Level,
     pub shifts: u64,

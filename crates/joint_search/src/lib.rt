@@ -3,7 +3,7 @@
 pub mod find;
 
 // How many levels and guides the counts are for.
-#[derive(Drop)]
+#[derive(Clone, Copy)]
 pub struct Sizes {
     pub levels: usize,
     pub guides: usize,

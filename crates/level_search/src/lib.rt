@@ -4,7 +4,7 @@ pub mod block;
 pub mod search;
 
 // A count of pixels and the sum of their guides.
-#[derive(Drop)]
+#[derive(Clone, Copy)]
 pub struct Tally {
     pub count: usize,
     pub sum: usize,

@@ -10,7 +10,7 @@ use spec::Level;
 use window_weights::coefficients::{Coefficients, reached};
 
 // The answer, the tally of the levels up to it, and the shift count.
-#[derive(Drop)]
+#[derive(Clone, Copy)]
 pub struct Found {
     pub level: Level,
     pub tally: Tally,

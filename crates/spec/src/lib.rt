@@ -6,15 +6,15 @@ ghost use Rattle.spec.specs.Refusal.{number, offset_of, numbered, fires};
 ghost use Rattle.spec.specs.Walk.{answer_number, by_blocks, shifts_to};
 
 // A level index counts temperature steps. The value of a pixel that has no reading (document 02) is none.
-#[derive(Drop)]
+#[derive(Clone, Copy)]
 pub struct Level(pub u16);
 
 // A guide index counts brightness steps.
-#[derive(Drop)]
+#[derive(Clone, Copy)]
 pub struct Guide(pub u16);
 
 // A frame's settings, as its trailer has them: kind 1 weighs by a table, kind 2 by the guided formula.
-#[derive(Drop)]
+#[derive(Clone, Copy)]
 pub struct Settings {
     pub width: u16,
     pub height: u16,
@@ -51,7 +51,7 @@ pub const TRAILER: usize = 28;
 pub const MARK: usize = 0x49434531;
 
 // The settings of a file, and the distances back from its trailer to the planes and the table.
-#[derive(Drop)]
+#[derive(Clone, Copy)]
 pub struct Trailer {
     pub settings: Settings,
     pub value: usize,
@@ -61,7 +61,7 @@ pub struct Trailer {
 
 // An accepted file's settings as indices, and where its planes and its table begin; weights is the number of weights that the file itself has, 0 for
 // the built-in ones.
-#[derive(Drop)]
+#[derive(Clone, Copy)]
 pub struct Plan {
     pub width: usize,
     pub height: usize,
@@ -77,7 +77,7 @@ pub struct Plan {
 }
 
 // Why a call refuses, in the order of the checks; specs/Refusal.antt has the documents' number of each.
-#[derive(Drop)]
+#[derive(Clone, Copy)]
 pub enum Refusal {
     Mark,
     Size,
@@ -101,14 +101,14 @@ pub enum Refusal {
 }
 
 // What the checks say.
-#[derive(Drop)]
+#[derive(Clone, Copy)]
 pub enum Verdict {
     Accepted,
     Refused(Refusal),
 }
 
 // The ways of counting: document 01's 1, 2 and 3, and document 02's 4.
-#[derive(Drop)]
+#[derive(Clone, Copy)]
 pub enum Way {
     Joint,
     Columns,
@@ -126,7 +126,7 @@ const BLOCK_OF_SHIFTS: u64 = BLOCK as u64;
 
 // Why a window has its answer (document 02): the formula of a window that is not steady is negative at one end of the guides, 0 or M - 1; a window
 // with no reading is empty.
-#[derive(Drop)]
+#[derive(Clone, Copy)]
 pub enum Cause {
     Ordinary,
     Hollow,
@@ -137,7 +137,7 @@ pub enum Cause {
 
 // The grounds of a window's answer: how many pixels the window has, what they weigh, the answer, what the levels below it weigh, and what they weigh
 // with it.
-#[derive(Drop)]
+#[derive(Clone, Copy)]
 pub struct Grounds {
     pub pixels: usize,
     pub total: i64,
@@ -148,7 +148,7 @@ pub struct Grounds {
 }
 
 // How many numbers of each store: 16-bit counts, 64-bit occupancy words, 32-bit numbers, and the signed 64-bit weight sums of the summary.
-#[derive(Drop)]
+#[derive(Clone, Copy)]
 pub struct Room {
     pub counts: usize,
     pub words: usize,
@@ -157,7 +157,7 @@ pub struct Room {
 }
 
 // Where a byte of a walk's list leads: to a column and a row, or nowhere, with the mark that answers it.
-#[derive(Drop)]
+#[derive(Clone, Copy)]
 pub enum Move {
     To(usize, usize),
     Nowhere(u16),
@@ -165,7 +165,7 @@ pub enum Move {
 
 // The grants so far of a call over up to eight files (document 02): the file that is looked at first, which is the one after the last served; how
 // many grants were made; and the pixels answered of each file.
-#[derive(Drop)]
+#[derive(Clone, Copy)]
 pub struct Round {
     pub next: usize,
     pub granted: u64,
@@ -188,7 +188,7 @@ pub fn judged(values: bool, number: u16) -> u16
 }
 
 // What a walk answers: a window's level, that the window has no reading, or the mark of a byte that moves nothing.
-#[derive(Drop)]
+#[derive(Clone, Copy)]
 pub enum Answer {
     Level(Level),
     NoReading,

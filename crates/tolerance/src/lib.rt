@@ -14,7 +14,7 @@ use spec::{Plan, Room, Verdict, Way, stops};
 use tolerance_checks::tolerance_verdict;
 
 // What the call gives back beside the buffers: the verdict, and the shift count of each of the two filters (0 where refused).
-#[derive(Drop)]
+#[derive(Clone, Copy)]
 pub struct Tolerated {
     pub verdict: Verdict,
     pub least_shifts: u64,

@@ -10,7 +10,7 @@ use window::sums::Sums;
 
 // What runs along from window to window by value, beside the store: the window's sums, the tally of its pixels up to the cut point, and the store's
 // free list. A way leaves 0 in what it does not use.
-#[derive(Drop)]
+#[derive(Clone, Copy)]
 pub struct Running {
     pub sums: Sums,
     pub below: Tally,
@@ -18,7 +18,7 @@ pub struct Running {
 }
 
 // A walk at a window: its pixel, its cut point, its shift count, its last answer, and what runs along.
-#[derive(Drop)]
+#[derive(Clone, Copy)]
 pub struct Visit {
     pub column: usize,
     pub row: usize,

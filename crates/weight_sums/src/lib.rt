@@ -17,7 +17,7 @@ use window::pixel;
 use window::sums::Sums;
 
 // How a window is counted: the formula over a row of numbers, and whether it is hollow.
-#[derive(Drop)]
+#[derive(Clone, Copy)]
 pub struct Counting {
     pub formula: Formula,
     pub hollow: bool,

@@ -7,14 +7,14 @@ ghost use Rattle.window.specs.Line.{PlanLimits, Adjacent, column_line, row_line,
 use spec::Plan;
 
 // The pixels first, first + stride, .. , count of them.
-#[derive(Drop)]
+#[derive(Clone, Copy)]
 pub struct Line {
     pub first: usize,
     pub stride: usize,
     pub count: usize,
 }
 
-#[derive(Drop)]
+#[derive(Clone, Copy)]
 pub struct Step {
     pub leaving: Line,
     pub entering: Line,

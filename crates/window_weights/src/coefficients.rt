@@ -11,7 +11,7 @@ use window::pixel;
 use window::sums::Sums;
 
 // A pixel of guide g weighs slope·g + offset; the window's weights sum to total.
-#[derive(Drop)]
+#[derive(Clone, Copy)]
 pub struct Coefficients {
     pub slope: i64,
     pub offset: i64,

@@ -10,7 +10,7 @@ use Rattle.balance.proofs.add.Tie as tie
 abbrev env : tie.Start → List Cell
 env c = param_cell w64 c.args.a 173129780571075 c.requires.0 tt ∷ param_cell w64 c.args.b 173129780571075 c.requires.1 tt ∷ []
 
-add-result : tie.Need-overflow-add-result
+add-result : tie.Need-overflow_add-result
 add-result c = need! w64 (env c) (search signed_code depth 12) tt
 
 returns : tie.Need-returns

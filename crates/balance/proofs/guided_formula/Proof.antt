@@ -9,26 +9,25 @@ use Rattle.balance.proofs.BalanceLaws.{ramp-weighs}
 use Rattle.balance.proofs.guided_formula.Statement.{statement}
 use Rattle.balance.proofs.guided_formula.Tie as tie
 
-abbrev start : tie.After-of-window → tie.Start
+abbrev start : tie.After-of_window-coefficients → tie.Start
 start k = k.before.before
 
-of-window-requires : tie.Need-of-window-requires
-of-window-requires c κs = let at = c.before in ((at.requires.0.0, at.requires.0.1), (at.requires.0.2, at.requires.0.3, at.requires.1.0))
+of-window-requires : tie.Need-of_window-coefficients-requires
+of-window-requires c κs = let at = c.before in ((at.requires.planned.0, at.requires.planned.1), (at.requires.planned.2, at.requires.planned.3, at.requires.sums_at.0))
 
 ramp-requires : tie.Need-ramp-requires
-ramp-requires c κs = let at = start c.before in let m = guides_high at.pre.0.0 in (omega (arith, m, at.pre.1.1), m)
+ramp-requires c κs = let at = start c.before in let m = guides_high at.requires.planned.0 in (omega (arith, m, at.requires.sums_at.1), m)
 
 returns : tie.Need-returns
 returns c =
     let e = c.before in
     let k = e.before.before in
     let at = start k in
-    let known = k.of-window.ensures in (
-      ramp-weighs at.pre.0.0 at.pre.0.1 at.pre.0.2 at.pre.0.3 e.ramp.ensures.0 known.0 known.1
+    let known = k.of_window-coefficients.ensures in (
+      ramp-weighs at.requires.planned.0 at.requires.planned.1 at.requires.planned.2 at.requires.planned.3 e.ramp.ensures.0 known.0 known.1
           (read-bounded w64 235497855 known.1.slope tt) (read-bounded w64 180155859075 known.1.offset tt),
-      e.ramp.ensures.1 ∙ at.pre.1.1,
+      e.ramp.ensures.1 ∙ at.requires.sums_at.1,
     )
 
-pub guided-formula-spec : {M : Type 1} → statement M
-guided-formula-spec =
-    tie.close (tie.spec of-window-requires ramp-requires returns)
+pub guided_formula_spec : {M : Type 1} → statement M
+guided_formula_spec = tie.close (tie.spec of-window-requires ramp-requires returns)

@@ -13,77 +13,63 @@ use Rattle.balance.proofs.BalanceLaws.{low-next}
 use Rattle.balance.proofs.table_row.Statement.{statement}
 use Rattle.balance.proofs.table_row.Tie as tie
 
-abbrev invariant-loop : tie.invariant-loop
+abbrev invariant-loop : tie.invariant-loop-k
 invariant-loop file plan f row₀ built m k₀ row k =
     (k ≤ m) × Made (table (frame_of file) f.0) 0 k row₀ row × ((g : ℕ) → g < k → table (frame_of file) f.0 g ≤ heaviest) × (length row₀ ≡ 256)
 
-abbrev decreases-loop : tie.decreases-loop
+abbrev decreases-loop : tie.decreases-loop-k
 decreases-loop file plan f row₀ built m k₀ row k = m - k
 
-abbrev start : tie.At-loop invariant-loop decreases-loop → tie.Start invariant-loop decreases-loop
+abbrev start : tie.At-loop-k invariant-loop decreases-loop → tie.Start invariant-loop decreases-loop
 start h = h.before.before.before
 
-constants-requires : tie.Need-constants-requires invariant-loop decreases-loop
+constants-requires : tie.Need-constants-built-requires invariant-loop decreases-loop
 constants-requires c κs = search rules
 
-loop-holds : tie.Need-loop-init invariant-loop decreases-loop
-loop-holds c = (omega arith, made-start _ _ _, (λ g h. absurd (omega arith)), c.before.before.requires.2)
+loop-holds : tie.Need-loop-k-init invariant-loop decreases-loop
+loop-holds c = (omega arith, made-start _ _ _, (λ g h. absurd (omega arith)), c.requires.2)
 
-cast-t12 : tie.Need-overflow-cast-t12 invariant-loop decreases-loop
-cast-t12 c = let t = c.before in omega (arith, t.loop-test.true, guides_high (start t.before).pre.0)
+cast-t12 : tie.Need-overflow_cast-k invariant-loop decreases-loop
+cast-t12 c = let t = c.before in omega (arith, t.loop-k-test.true, guides_high (start t.before).requires.0)
 
-weight-at-requires : tie.Need-weight-at-requires invariant-loop decreases-loop
+weight-at-requires : tie.Need-weight_at-requires invariant-loop decreases-loop
 weight-at-requires c κs =
     let t = c.before in
-    let h = (start t.before).pre in
-    (t.before.before.constants.ensures, h.0, h.1, t.loop-test.true)
+    let h = (start t.before).requires in
+    (t.constants-built.ensures, h.0, h.1, t.loop-k-test.true)
 
-mul-row : tie.Need-overflow-mul-row invariant-loop decreases-loop
+mul-row : tie.Need-offset_bounds-row-k invariant-loop decreases-loop
 mul-row c = let t = c.before.before in let at =
-    start t.before in omega (arith, t.loop-test.true, guides_high at.pre.0, t.before.loop.invariant.1.long, t.before.loop.invariant.3)
+    start t.before in omega (arith, t.loop-k-test.true, guides_high at.requires.0, t.loop-k.invariant.1.long, t.loop-k.invariant.3)
 
-element-write-row : tie.Need-element-write-row invariant-loop decreases-loop
+element-write-row : tie.Need-bounds-row-k invariant-loop decreases-loop
 element-write-row c = let t = c.before.before in let at =
-    start t.before in omega (arith, t.loop-test.true, guides_high at.pre.0, t.before.loop.invariant.1.long, t.before.loop.invariant.3)
+    start t.before in omega (arith, t.loop-k-test.true, guides_high at.requires.0, t.loop-k.invariant.1.long, t.loop-k.invariant.3)
 
-add-k : tie.Need-overflow-add-k invariant-loop decreases-loop
+add-k : tie.Need-overflow_add-k invariant-loop decreases-loop
 add-k c = let t = c.before.before in let at =
-    start t.before in omega (arith, t.loop-test.true, guides_high at.pre.0, t.before.loop.invariant.1.long, t.before.loop.invariant.3)
+    start t.before in omega (arith, t.loop-k-test.true, guides_high at.requires.0, t.loop-k.invariant.1.long, t.loop-k.invariant.3)
 
-loop-less : tie.Need-loop-smaller invariant-loop decreases-loop
-loop-less c = omega (arith, c.before.before.loop-test.true)
+loop-less : tie.Need-loop-k-smaller invariant-loop decreases-loop
+loop-less c = omega (arith, c.loop-k-test.true)
 
-loop-again : tie.Need-loop-preserved invariant-loop decreases-loop
+loop-again : tie.Need-loop-k-preserved invariant-loop decreases-loop
 loop-again c =
     let t = c.before.before in
     let h = t.before in
-    let w = c.weight-at.ensures in (
-      omega (arith, t.loop-test.true),
-      made-next h.loop.k _ (omega arith) (omega (arith, t.loop-test.true, guides_high (start h).requires.0, h.loop.invariant.3)) w.0
-          h.loop.invariant.1,
-      low-next w.0 w.1 h.loop.invariant.2,
-      h.loop.invariant.3,
+    let w = c.weight_at.ensures in (
+      omega (arith, t.loop-k-test.true),
+      made-next h.loop-k.k _ (omega arith) (omega (arith, t.loop-k-test.true, guides_high (start h).requires.0, h.loop-k.invariant.3)) w.0
+          h.loop-k.invariant.1,
+      low-next w.0 w.1 h.loop-k.invariant.2,
+      h.loop-k.invariant.3,
     )
 
 returns : tie.Need-returns invariant-loop decreases-loop
 returns c =
     let h = c.before in
-    let all : (start h).args.plan.guides ≤ h.loop.k = omega (arith, h.loop.invariant.0, c.loop-test.false) in
-    row_made h.loop.invariant.1 h.loop.invariant.3 all (λ g l. refl) (λ g l. h.loop.invariant.2 g (omega arith))
+    let all : (start h).args.plan.guides ≤ h.loop-k.k = omega (arith, h.loop-k.invariant.0, c.loop-k-test.false) in
+    row_made h.loop-k.invariant.1 h.loop-k.invariant.3 all (λ g l. refl) (λ g l. h.loop-k.invariant.2 g (omega arith))
 
-pub table-row-spec : {M : Type 1} → statement M
-table-row-spec =
-    tie.close
-    (tie.spec
-    invariant-loop
-    decreases-loop
-    constants-requires
-    loop-holds
-    cast-t12
-    weight-at-requires
-    mul-row
-    element-write-row
-    add-k
-    loop-less
-    loop-again
-    returns)
+pub table_row_spec : {M : Type 1} → statement M
+table_row_spec = tie.close (tie.spec invariant-loop decreases-loop constants-requires loop-holds cast-t12 weight-at-requires mul-row element-write-row add-k loop-less loop-again returns)

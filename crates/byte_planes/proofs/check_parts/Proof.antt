@@ -11,71 +11,57 @@ use Rattle.byte_planes.proofs.check_parts.Statement.{statement}
 use Rattle.byte_planes.proofs.check_parts.Tie as tie
 
 -- checks 1 to 6 are passed, and so the parts fit
-passed : (e : tie.Else1) → trailer_outcome e.before.before.before.before.args.file.now ≡ accepted
-passed e = quiet e.before.before.check-trailer.ensures e.before.stops.ensures e.if1.false
+passed : (e : tie.Else-stops) → trailer_outcome e.args.file.now ≡ accepted
+passed e = quiet e.check_trailer-v.ensures e.stops.ensures e.if-stops.false
 
-fit : (k : tie.After-plan-of) → PartsFit k.before.before.before.before.before.args.file.now k.plan-of.result
-fit k = parts-fit (passed k.before) k.plan-of.ensures
+fit : (k : tie.After-plan_of-plan) → PartsFit k.args.file.now k.plan_of-plan.result
+fit k = parts-fit (passed k.before) k.plan_of-plan.ensures
 
-check-trailer-requires : tie.Need-check-trailer-requires
+check-trailer-requires : tie.Need-check_trailer-v-requires
 check-trailer-requires c κs = search rules
 
 stops-requires : tie.Need-stops-requires
 stops-requires c κs = search rules
 
-returns : tie.Need-returns
-returns c = stopped _ _ c.before.before.check-trailer.ensures c.before.stops.ensures c.if1.true
+returns : tie.Need-returns-then-stops
+returns c = stopped _ _ c.check_trailer-v.ensures c.stops.ensures c.if-stops.true
 
-plan-of-requires : tie.Need-plan-of-requires
+plan-of-requires : tie.Need-plan_of-plan-requires
 plan-of-requires c κs = (trailer-passed _ (passed c)).long
 
-mul-n : tie.Need-overflow-mul-n
+mul-n : tie.Need-overflow_mul-n
 mul-n c = omega (arith, fit c.before)
 
-mul-n-2 : tie.Need-overflow-mul-n-2
+mul-n-2 : tie.Need-overflow_mul-n-2
 mul-n-2 c = omega (arith, fit c.before)
 
 overlap-requires : tie.Need-overlap-requires
 overlap-requires c κs = let f = fit c.before in (omega (arith, f.values), omega (arith, f.guides))
 
-returns-2 : tie.Need-returns-2
+returns-2 : tie.Need-returns-then-overlap
 returns-2 c =
     let k = c.before.before.before in
-    guide-meets _ k.plan-of.ensures (passed k.before) c.before.overlap.ensures c.if2.true
+    guide-meets _ k.plan_of-plan.ensures (passed k.before) c.overlap.ensures c.if-overlap.true
 
-mul-overlap : tie.Need-overflow-mul-overlap
+mul-overlap : tie.Need-overflow_mul-plan
 mul-overlap c = omega (arith, fit c.before.before.before.before)
 
 overlap-requires-2 : tie.Need-overlap-requires-2
 overlap-requires-2 c κs = let f = fit c.before.before.before.before in (omega (arith, f.values), omega (arith, f.table))
 
-returns-3 : tie.Need-returns-3
+returns-3 : tie.Need-returns-then-overlap-2
 returns-3 c =
     let e = c.before.before.before in
     let k = e.before.before.before in
-    table_meets _ k.plan-of.ensures (passed k.before) e.before.overlap.ensures e.if2.false c.before.overlap2.ensures
-    c.if3.true
+    table_meets _ k.plan_of-plan.ensures (passed k.before) e.overlap.ensures e.if-overlap.false c.overlap-2.ensures
+    c.if-overlap-2.true
 
-returns-4 : tie.Need-returns-4
+returns-4 : tie.Need-returns
 returns-4 c =
     let e = c.before.before.before in
     let k = e.before.before.before in
-    none-meets _ k.plan-of.ensures (passed k.before) e.before.overlap.ensures e.if2.false c.before.overlap2.ensures
-    c.if3.false
+    none-meets _ k.plan_of-plan.ensures (passed k.before) e.overlap.ensures e.if-overlap.false c.overlap-2.ensures
+    c.if-overlap-2.false
 
-pub check-parts-spec : {M : Type 1} → statement M
-check-parts-spec =
-    tie.close
-    (tie.spec
-    check-trailer-requires
-    stops-requires
-    returns
-    plan-of-requires
-    mul-n
-    mul-n-2
-    overlap-requires
-    returns-2
-    mul-overlap
-    overlap-requires-2
-    returns-3
-    returns-4)
+pub check_parts_spec : {M : Type 1} → statement M
+check_parts_spec = tie.close (tie.spec check-trailer-requires stops-requires returns plan-of-requires mul-n mul-n-2 overlap-requires returns-2 mul-overlap overlap-requires-2 returns-3 returns-4)

@@ -13,6 +13,9 @@ use Rattle.spec.specs.BytePlanes.{bad_overlap}
 use Rattle.spec.proofs.Checks.{trailer-passed}
 use Rattle.spec.proofs.Outcomes.{same, quiet}
 use Rattle.byte_planes.proofs.Laws.{
+use Rattle.byte_planes.proofs.join.Statement.{statement}
+use Rattle.byte_planes.proofs.join.Tie as tie
+
   PartsFit,
   parts-fit,
   trailer-of-parts,
@@ -22,66 +25,53 @@ use Rattle.byte_planes.proofs.Laws.{
   joins-refused,
   joins-done,
 }
-use Rattle.byte_planes.proofs.join.Statement.{statement}
-use Rattle.byte_planes.proofs.join.Tie as tie
 
 -- checks 1 to 6 and 14 are passed
-abbrev bytes : tie.Else1 → List ℕ
-bytes e = e.before.before.before.before.before.args.file.now
+abbrev bytes : tie.Else-stops → List ℕ
+bytes e = e.args.file.now
 
-parts : (e : tie.Else1) → (trailer_outcome (bytes e) ▷ refuse 14 (bad_overlap (plan_of (bytes e)))) ≡ accepted
-parts e = quiet e.before.before.check-parts.ensures e.before.stops.ensures e.if1.false
+parts : (e : tie.Else-stops) → (trailer_outcome (bytes e) ▷ refuse 14 (bad_overlap (plan_of (bytes e)))) ≡ accepted
+parts e = quiet e.check_parts-v.ensures e.stops.ensures e.if-stops.false
 
-trailer : (e : tie.Else1) → trailer_outcome (bytes e) ≡ accepted
+trailer : (e : tie.Else-stops) → trailer_outcome (bytes e) ≡ accepted
 trailer e = trailer-of-parts _ (parts e)
 
-fit : (k : tie.After-plan-of) → PartsFit (bytes k.before.before) k.plan-of.result
-fit k = parts-fit (trailer k.before.before) k.plan-of.ensures
+fit : (k : tie.After-plan_of-plan) → PartsFit (bytes k.before.before) k.plan_of-plan.result
+fit k = parts-fit (trailer k.before.before) k.plan_of-plan.ensures
 
-check-parts-requires : tie.Need-check-parts-requires
+check-parts-requires : tie.Need-check_parts-v-requires
 check-parts-requires c κs = search rules
 
 stops-requires : tie.Need-stops-requires
 stops-requires c κs = search rules
 
-returns : tie.Need-returns
+returns : tie.Need-returns-then-stops
 returns c =
     let s = c.before in
-    joins-refused _ _ s.before.check-parts.result (join-parts-stop _ _ s.before.check-parts.ensures s.stops.ensures c.if1.true)
-    (same s.stops.ensures c.if1.true)
+    joins-refused _ _ s.check_parts-v.result (join-parts-stop _ _ s.check_parts-v.ensures s.stops.ensures c.if-stops.true)
+    (same s.stops.ensures c.if-stops.true)
 
-returns-2 : tie.Need-returns-2
-returns-2 c = joins-refused _ _ (Refused Room) (join-room-stops _ _ (parts c.before) c.if2.true) refl
+returns-2 : tie.Need-returns-then-room-file
+returns-2 c = joins-refused _ _ (Refused Room) (join-room-stops _ _ (parts c.before) c.if-room-file.true) refl
 
-plan-of-requires : tie.Need-plan-of-requires
+plan-of-requires : tie.Need-plan_of-plan-requires
 plan-of-requires c κs = (trailer-passed _ (trailer c.before)).long
 
-mul-join-file : tie.Need-overflow-mul-join-file
+mul-join-file : tie.Need-overflow_mul-plan
 mul-join-file c = omega (arith, (fit c.before).values)
 
-join-file-requires : tie.Need-join-file-requires
-join-file-requires c κs = let f = fit c.before.before in (omega (arith, f.values, f.guides), c.before.before.before.if2.false)
+join-file-requires : tie.Need-join_file-requires
+join-file-requires c κs = let f = fit c.before.before in (omega (arith, f.values, f.guides), c.if-room-file.false)
 
-same_length : tie.Need-same-length
+same_length : tie.Need-shape_of-output
 same_length c = search rules
 
-returns-3 : tie.Need-returns-3
+returns-3 : tie.Need-returns
 returns-3 c =
     let k = c.before.before.before.before.before in
-    let room = k.before.if2.false in
-    joins-done k.plan-of.ensures (trailer k.before.before) room (join-passes _ _ (parts k.before.before) room)
-    c.before.before.join-file.ensures
+    let room = k.if-room-file.false in
+    joins-done k.plan_of-plan.ensures (trailer k.before.before) room (join-passes _ _ (parts k.before.before) room)
+    c.join_file.ensures
 
-pub join-spec : {M : Type 1} → statement M
-join-spec =
-    tie.close
-    (tie.spec
-    check-parts-requires
-    stops-requires
-    returns
-    returns-2
-    plan-of-requires
-    mul-join-file
-    join-file-requires
-    same_length
-    returns-3)
+pub join_spec : {M : Type 1} → statement M
+join_spec = tie.close (tie.spec check-parts-requires stops-requires returns returns-2 plan-of-requires mul-join-file join-file-requires same_length returns-3)

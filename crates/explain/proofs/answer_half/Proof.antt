@@ -18,48 +18,41 @@ use Rattle.explain.proofs.answer_half.Statement.{statement}
 use Rattle.explain.proofs.answer_half.Tie as tie
 
 pixel : (at : tie.Start) → Pixel (frame_of at.args.file.now) at.args.s at.args.t
-pixel at = let w = at.requires.0.0 in pixel-of w.planned w.column w.row
+pixel at = let w = at.requires.weighed.0 in pixel-of w.planned w.column w.row
 
-abbrev start : tie.After-add-window → tie.Start
+abbrev start : tie.After-add_window-total → tie.Start
 start w = w.before.before.before.before
 
 -- the total that the pass gave
-total_is : (w : tie.After-add-window) → let at = start w in
-    to_z w64 (of_z w64 w.add-window.result) ≡ total_weight (frame_of at.args.file.now) at.args.s at.args.t
+total_is : (w : tie.After-add_window-total) → let at = start w in
+    to_z w64 (of_z w64 w.add_window-total.result) ≡ total_weight (frame_of at.args.file.now) at.args.s at.args.t
 total_is w = let at = start w in
-    to_z-of_z (record { sfits = w.add-window.type-inv }) ∙ w.add-window.ensures.1 ∙ total-gathered (pixel at) at.pre.0.1
+    to_z-of_z (record { sfits = w.add_window-total.type_inv }) ∙ w.add_window-total.ensures.1 ∙ total-gathered (pixel at) at.requires.weighed.1
 
-slice-aggregate-add-window : tie.Need-slice-aggregate-add-window
+slice-aggregate-add-window : tie.Need-slice_bounds-add_window-end
 slice-aggregate-add-window c = search rules
 
-add-window-requires : tie.Need-add-window-requires
+add-window-requires : tie.Need-add_window-total-requires
 add-window-requires c κs =
     let at = c.before.before.before in
-    (at.requires.0, (zeros-made 1024, levels-fit _ (levels_high at.requires.0.0.planned), omega arith))
+    (at.requires.weighed, (zeros-made 1024, levels-fit _ (levels_high at.requires.weighed.0.planned), omega arith))
 
-slice-aggregate-reach-half : tie.Need-slice-aggregate-reach-half
+slice-aggregate-reach-half : tie.Need-slice_bounds-reach_half-end
 slice-aggregate-reach-half c = search rules
 
-reach-half-requires : tie.Need-reach-half-requires
+reach-half-requires : tie.Need-reach_half-half-requires
 reach-half-requires c κs =
     let w = c.before.before in
     let at = start w in
     subst (HalfInReach _) (sym (total_is w))
-    (in_reach (pixel at) at.pre.1 w.add-window.ensures.0 at.pre.0.1 (length-replicate {A = ℤ} 1024 (pos 0)))
+    (in_reach (pixel at) at.requires.t_value w.add_window-total.ensures.0 at.requires.weighed.1 (length-replicate {A = ℤ} 1024 (pos 0)))
 
 returns : tie.Need-returns
 returns c =
     let w = c.before.before.before in
     let at = start w in
-    answer-found (pixel at) at.pre.1 w.add-window.ensures.0 (total_is w)
-    (subst (λ (z : ℤ). HalfReached w.add-window.new.1.1.1.1.1.1.1.0 z c.reach-half.result) (total_is w) c.reach-half.ensures)
+    answer-found (pixel at) at.requires.t_value w.add_window-total.ensures.0 (total_is w)
+    (subst (λ (z : ℤ). HalfReached w.add_window-total.new.1.1.1.1.1.1.1.0 z c.reach_half-half.result) (total_is w) c.reach_half-half.ensures)
 
-pub answer-half-spec : {M : Type 1} → statement M
-answer-half-spec =
-    tie.close
-    (tie.spec
-    slice-aggregate-add-window
-    add-window-requires
-    slice-aggregate-reach-half
-    reach-half-requires
-    returns)
+pub answer_half_spec : {M : Type 1} → statement M
+answer_half_spec = tie.close (tie.spec slice-aggregate-add-window add-window-requires slice-aggregate-reach-half reach-half-requires returns)

@@ -13,73 +13,73 @@ use borrow.Author.Rules.{rules}
 use Rattle.frame_write.proofs.put_file.Statement.{statement}
 use Rattle.frame_write.proofs.put_file.Tie as tie
 
-abbrev start : tie.After-put-all3 → tie.Start
+abbrev start : tie.After-put_all-3 → tie.Start
 start c = c.before.before.before.before.before.before.before.before.before.before.before.before.before.before
 
-put-all-requires : tie.Need-put-all-requires
+put-all-requires : tie.Need-put_all-requires
 unfolding written_size
 put-all-requires c κs =
     let s = c.before.before.before.before.before in
     omega (arith, s.requires.space, s.requires.values, s.requires.guides, s.requires.table, s.requires.few)
 
-mul-put-all : tie.Need-overflow-mul-put-all
+mul-put-all : tie.Need-overflow_mul-p
 mul-put-all c = search rules
 
-put-all-requires-2 : tie.Need-put-all-requires-2
+put-all-requires-2 : tie.Need-put_all-requires-2
 unfolding written_size
 put-all-requires-2 c κs =
     let s = c.before.before.before.before.before.before.before.before.before in
     omega (arith, s.requires.space, s.requires.values, s.requires.guides, s.requires.table, s.requires.few)
 
-mul-put-all-2 : tie.Need-overflow-mul-put-all-2
+mul-put-all-2 : tie.Need-overflow_mul-p-2
 mul-put-all-2 c = search rules
 
-put-all-requires-3 : tie.Need-put-all-requires-3
+put-all-requires-3 : tie.Need-put_all-requires-3
 unfolding written_size
 put-all-requires-3 c κs =
     let s = c.before.before.before.before.before.before.before.before.before.before.before.before.before in
     omega (arith, s.requires.space, s.requires.values, s.requires.guides, s.requires.table, s.requires.few)
 
-mul_at : tie.Need-overflow-mul-at
+mul_at : tie.Need-overflow_mul-at
 mul_at c = search rules
 
-mul-at-2 : tie.Need-overflow-mul-at-2
+mul-at-2 : tie.Need-overflow_mul-at-2
 mul-at-2 c = search rules
 
-add_at : tie.Need-overflow-add-at
+add_at : tie.Need-overflow_add-at
 add_at c = search rules
 
 -- planes and table stored, the output is as long as it was: there is room for the trailer
-room : (c : tie.After-put-all3)
-    → 4 * length (start c).args.values.now + 2 * length (start c).args.table.now + 28 ≤ length c.put-all3.new.0
+room : (c : tie.After-put_all-3)
+    → 4 * length (start c).args.values.now + 2 * length (start c).args.table.now + 28 ≤ length c.put_all-3.new.0
 unfolding written_size
 room c =
     let b = c.before.before.before.before in
     let a = b.before.before.before.before in
     let s = start c in
-    let n1 : length a.put_all_lem.new.0 ≡ length s.args.out.now = ap length a.put_all_lem.ensures ∙ simp length-sets in
-    let n2 : length b.put-all2.new.0 ≡ length a.put_all_lem.new.0 = ap length b.put-all2.ensures ∙ simp length-sets in
-    let n3 : length c.put-all3.new.0 ≡ length b.put-all2.new.0 = ap length c.put-all3.ensures ∙ simp length-sets in
-    omega (arith, s.pre.space, s.pre.values)
+    let n1 : length a.put_all_lem.new.0 ≡ length s.args.out-1.now = ap length a.put_all_lem.ensures ∙ simp length-sets in
+    let n2 : length b.put_all-2.new.0 ≡ length a.put_all_lem.new.0 = ap length b.put_all-2.ensures ∙ simp length-sets in
+    let n3 : length c.put_all-3.new.0 ≡ length b.put_all-2.new.0 = ap length c.put_all-3.ensures ∙ simp length-sets in
+    omega (arith, s.requires.space, s.requires.values)
 
-sub-put-trailer : tie.Need-overflow-sub-put-trailer
+sub-put-trailer : tie.Need-slice_bounds-put_trailer-count
 sub-put-trailer c = omega (arith, room c.before.before)
 
-part-put-trailer-start : tie.Need-slice-bounds-put-trailer-start
+part-put-trailer-start : tie.Need-slice_bounds-put_trailer-start
 part-put-trailer-start c = omega (arith, room c.before.before)
 
-part-put-trailer-end : tie.Need-slice-bounds-put-trailer-end
+part-put-trailer-end : tie.Need-slice_bounds-put_trailer-end
 part-put-trailer-end c = search rules
 
-put-trailer-requires : tie.Need-put-trailer-requires
+put-trailer-requires : tie.Need-put_trailer-requires
 put-trailer-requires c κs =
     let s = start c.before.before.before in (
       simp (length-take, length-drop) (omega (arith, room c.before.before.before)),
-      s.pre.table,
-      omega (arith, s.pre.values, s.pre.few),
+      s.requires.table,
+      omega (arith, s.requires.values, s.requires.few),
     )
 
-same_length : tie.Need-same-length
+same_length : tie.Need-shape_of-out
 same_length c = search rules
 
 returns : tie.Need-returns
@@ -92,26 +92,10 @@ returns c =
     let k = s.args.settings in
     let n = length s.args.table.now in
     let p = length s.args.values.now in
-    file-stored s.args.out.now k s.args.values.now s.args.guides.now s.args.table.now s.pre.values s.pre.guides
-    a.put_all_lem.ensures b.put-all2.ensures o.put-all3.ensures
-    (part-stored o.put-all3.new.0 (4 * p + 2 * n) (field_bytes k ++ distance_bytes n p) (omega (arith, trailer-long k n p, room o))
-    t.put-trailer.ensures) refl refl refl
+    file-stored s.args.out-1.now k s.args.values.now s.args.guides.now s.args.table.now s.requires.values s.requires.guides
+    a.put_all_lem.ensures b.put_all-2.ensures o.put_all-3.ensures
+    (part-stored o.put_all-3.new.0 (4 * p + 2 * n) (field_bytes k ++ distance_bytes n p) (omega (arith, trailer-long k n p, room o))
+    t.put_trailer.ensures) refl refl refl
 
-pub put-file-spec : {M : Type 1} → statement M
-put-file-spec =
-    tie.close
-    (tie.spec
-    put-all-requires
-    mul-put-all
-    put-all-requires-2
-    mul-put-all-2
-    put-all-requires-3
-    mul_at
-    mul-at-2
-    add_at
-    sub-put-trailer
-    part-put-trailer-start
-    part-put-trailer-end
-    put-trailer-requires
-    same_length
-    returns)
+pub put_file_spec : {M : Type 1} → statement M
+put_file_spec = tie.close (tie.spec put-all-requires mul-put-all put-all-requires-2 mul-put-all-2 put-all-requires-3 mul_at mul-at-2 add_at sub-put-trailer part-put-trailer-start part-put-trailer-end put-trailer-requires same_length returns)

@@ -5,19 +5,19 @@ use Rattle.histogram.proofs.Laws.{sum-asks, pixel-changed}
 use Rattle.histogram.proofs.change_pixel.Statement.{statement}
 use Rattle.histogram.proofs.change_pixel.Tie as tie
 
-abbrev begin : tie.After-struct-known2 → tie.Start
+abbrev begin : tie.After-struct_known-2-1 → tie.Start
 begin r = r.before.before.before
 
-cast-i : tie.Need-overflow-cast-i
+cast-i : tie.Need-overflow_cast-i
 cast-i c = search rules
 
-cast-g : tie.Need-overflow-cast-g
+cast-g : tie.Need-overflow_cast-g
 cast-g c = search rules
 
 change-requires : tie.Need-change-requires
-change-requires c κs = let at = begin c.before in (omega (arith, at.pre.0.0, at.pre.0.2), at.pre.1.0)
+change-requires c κs = let at = begin c.before in (omega (arith, at.requires.level_lt_l.0, at.requires.level_lt_l.2), at.requires.fits.0)
 
-add-change : tie.Need-overflow-add-change
+add-change : tie.Need-overflow_add-l
 add-change c = search rules
 
 change-requires-2 : tie.Need-change-requires-2
@@ -25,10 +25,10 @@ change-requires-2 c κs =
     let k = c.before.before.before in
     let at = begin k.before.before in
     rw k.change.ensures
-    (sum-asks at.args.enters at.args.l at.args.level.0 at.args.guide.0 at.args.histogram.now at.pre.0.0 at.pre.0.2
-    at.pre.1.1)
+    (sum-asks at.args.enters at.args.l at.args.level.0 at.args.guide.0 at.args.histogram-1.now at.requires.level_lt_l.0 at.requires.level_lt_l.2
+    at.requires.fits.1)
 
-same_length : tie.Need-same-length
+same_length : tie.Need-shape_of-histogram
 same_length c = search rules
 
 returns : tie.Need-returns
@@ -36,10 +36,9 @@ returns c =
     let o = c.before.before in
     let k = o.before.before.before.before in
     let at = begin k.before.before in
-    rw (o.change2.ensures, k.change.ensures)
-    (pixel-changed at.args.enters at.args.l at.args.level.0 at.args.guide.0 at.args.histogram.now at.pre.0.0
-    at.pre.0.2)
+    rw (o.change-2.ensures, k.change.ensures)
+    (pixel-changed at.args.enters at.args.l at.args.level.0 at.args.guide.0 at.args.histogram-1.now at.requires.level_lt_l.0
+    at.requires.level_lt_l.2)
 
-pub change-pixel-spec : {M : Type 1} → statement M
-change-pixel-spec =
-    tie.close (tie.spec cast-i cast-g change-requires add-change change-requires-2 same_length returns)
+pub change_pixel_spec : {M : Type 1} → statement M
+change_pixel_spec = tie.close (tie.spec cast-i cast-g change-requires add-change change-requires-2 same_length returns)

@@ -11,8 +11,6 @@ use Rattle.ice_step.proofs.Laws.{histogram-blank, held_first, within_of, fit-goi
 use Rattle.ice_filter.proofs.FilterLoop.{first-in}
 use Rattle.ice_walk.proofs.WalkLoop.{Walking, walking_start, walking-long, walking-more, walking-end}
 use Rattle.ice_prefix.proofs.Moves.{moves_to, joint-serves, few-pixels, moves_long, stepped, begun}
-use Rattle.ice_prefix.proofs.begin.Statement.{statement}
-use Rattle.ice_prefix.proofs.begin.Tie as tie
 use Rattle.ice_prefix.proofs.begin.Reads as reads
 use Rattle.ice_prefix.proofs.begin.Lts as lts
 use Rattle.ice_moves.proofs.turn_at.Reads as turn-at-reads
@@ -20,184 +18,186 @@ use Rattle.ice_step.proofs.step.Reads as step-reads
 use Rattle.joint_rows.proofs.rows.built_rows.Reads as built-rows-reads
 use Rattle.spec.proofs.answer_number.Reads as answer-number-reads
 use Rattle.ways.proofs.dispatch.enter.Reads as enter-reads
+use Rattle.ice_prefix.proofs.begin.Statement.{statement}
+use Rattle.ice_prefix.proofs.begin.Tie as tie
 
-abbrev invariant-loop : tie.invariant-loop
+abbrev invariant-loop : tie.invariant-loop-i
 invariant-loop file plan n counts₀ words₀ answers₀ none numbers₀ width weights balance-box₀ histogram₀ visit₀ i₀ counts words answers numbers balance-box
     histogram visit i =
     Walking Joint file (moves_to file n) (state_of Joint visit₀) (stores counts₀ words₀ numbers₀) answers₀ (stores counts words numbers) answers
     histogram
     balance-box visit i
 
-abbrev decreases-loop : tie.decreases-loop
+abbrev decreases-loop : tie.decreases-loop-i
 decreases-loop file plan n counts₀ words₀ answers₀ none numbers₀ width weights balance-box₀ histogram₀ visit₀ i₀ counts words answers numbers balance-box
     histogram visit i =
     n - i
 
 -- the way back from the loop to the function's entry
-entry : (c : tie.After-answer-number invariant-loop decreases-loop) → tie.Start invariant-loop decreases-loop
+entry : (c : tie.After-answer_number invariant-loop decreases-loop) → tie.Start invariant-loop decreases-loop
 entry c = c.before.before.before.before.before.before.before.before.before.before.before.before.before.before.before.before.before.before.before.before.before
 
-room : (c : tie.After-answer-number invariant-loop decreases-loop) → ((entry c).args.n ≤ length (entry c).args.answers.now) × (1 ≤ (entry c).args.n)
+room : (c : tie.After-answer_number invariant-loop decreases-loop) → ((entry c).args.n ≤ length (entry c).args.answers.now) × (1 ≤ (entry c).args.n)
 unfolding entry
-room c = ((entry c).requires.1.0.2, (entry c).requires.1.0.0)
+room c = ((entry c).requires.le_n.0.2, (entry c).requires.le_n.0.0)
 
-small : (c : tie.After-answer-number invariant-loop decreases-loop) → (entry c).args.n ≤ 262144
+small : (c : tie.After-answer_number invariant-loop decreases-loop) → (entry c).args.n ≤ 262144
 unfolding entry
-small c = few-pixels (entry c).requires.0 (entry c).args.n (entry c).requires.1.0.0 (entry c).requires.1.0.1
+small c = few-pixels (entry c).requires.planned (entry c).args.n (entry c).requires.le_n.0.0 (entry c).requires.le_n.0.1
 
-long-enough : (c : tie.After-answer-number invariant-loop decreases-loop) → length (moves_to (entry c).args.file.now (entry c).args.n) ≡ (entry c).args.n - 1
+long-enough : (c : tie.After-answer_number invariant-loop decreases-loop) → length (moves_to (entry c).args.file.now (entry c).args.n) ≡ (entry c).args.n - 1
 unfolding entry
-long-enough c = moves_long (entry c).requires.0 (entry c).args.n (entry c).requires.1.0.0 (entry c).requires.1.0.1
+long-enough c = moves_long (entry c).requires.planned (entry c).args.n (entry c).requires.le_n.0.0 (entry c).requires.le_n.0.1
 
-kept-long : (l : tie.At-loop invariant-loop decreases-loop) → length l.loop.answers ≡ length (entry l.before).args.answers.now
+kept-long : (l : tie.At-loop-i invariant-loop decreases-loop) → length l.loop-i.answers ≡ length (entry l.before).args.answers.now
 unfolding entry
 kept-long l =
-    walking-long _ _ (moves_to (entry l.before).args.file.now (entry l.before).args.n) _ _ _ _ l.loop.answers _ _ _ l.loop.i
-    l.loop.invariant
+    walking-long _ _ (moves_to (entry l.before).args.file.now (entry l.before).args.n) _ _ _ _ l.loop-i.answers _ _ _ l.loop-i.i
+    l.loop-i.invariant
     (simp length-set (omega (arith, long-enough l.before, (room l.before).0, (room l.before).1))) ∙ simp length-set
 
-abbrev looped : tie.After-loop invariant-loop decreases-loop → tie.At-loop invariant-loop decreases-loop
+abbrev looped : tie.After-loop-i invariant-loop decreases-loop → tie.At-loop-i invariant-loop decreases-loop
 looped c = c.before
 
-slice-aggregate-built-rows : tie.Need-slice-aggregate-built-rows invariant-loop decreases-loop
+slice-aggregate-built-rows : tie.Need-slice_bounds-built_rows-end invariant-loop decreases-loop
 slice-aggregate-built-rows c = search rules
 
-built-rows-requires : tie.Need-built-rows-requires invariant-loop decreases-loop
+built-rows-requires : tie.Need-built_rows-requires invariant-loop decreases-loop
 built-rows-requires c κs = omega arith
 
-slice-aggregate-enter : tie.Need-slice-aggregate-enter invariant-loop decreases-loop
+slice-aggregate-enter : tie.Need-slice_bounds-enter-end invariant-loop decreases-loop
 slice-aggregate-enter c = search rules
 
-slice-aggregate-enter-2 : tie.Need-slice-aggregate-enter-2 invariant-loop decreases-loop
+slice-aggregate-enter-2 : tie.Need-slice_bounds-enter-end-2 invariant-loop decreases-loop
 slice-aggregate-enter-2 c = search rules
 
-slice-aggregate-enter-3 : tie.Need-slice-aggregate-enter-3 invariant-loop decreases-loop
+slice-aggregate-enter-3 : tie.Need-slice_bounds-enter-end-3 invariant-loop decreases-loop
 slice-aggregate-enter-3 c = search rules
 
-enter-requires : tie.Need-enter-requires invariant-loop decreases-loop
+enter-requires : tie.Need-enter-visit-requires invariant-loop decreases-loop
 enter-requires c κs =
     let at = c.before.before.before.before.before.before.before.before.before.before.before.before.before.before in (
-      (at.requires.0, c.before.before.before.before.before.before.before.before.built-rows.ensures, joint-serves at.args.plan),
-      (first-in Joint at.requires.0, (at.requires.1.1, (refl, histogram-blank at.requires.0))),
+      (at.requires.planned, c.built_rows.ensures, joint-serves at.args.plan),
+      (first-in Joint at.requires.planned, (at.requires.le_n.1, (refl, histogram-blank at.requires.planned))),
     )
 
-answer-number-requires : tie.Need-answer-number-requires invariant-loop decreases-loop
+answer-number-requires : tie.Need-answer_number-requires invariant-loop decreases-loop
 answer-number-requires c κs = search rules
 
-slice-write-answers : tie.Need-slice-write-answers invariant-loop decreases-loop
+slice-write-answers : tie.Need-bounds-answers-0 invariant-loop decreases-loop
 unfolding entry
 slice-write-answers c = omega (arith, room c)
 
-loop-holds : tie.Need-loop-init invariant-loop decreases-loop
+loop-holds : tie.Need-loop-i-init invariant-loop decreases-loop
 unfolding entry
 loop-holds c =
     let at = entry c in
-    let v = c.before.before.before.before.before.before.enter in
+    let v = c.enter-visit in
     walking_start _ at.args.file.now _ _ at.args.answers.now _ _ _ (omega (arith, room c)) v.ensures.here
-    (held_first _ at.pre.0 _ _ v.result (first-in Joint at.pre.0).0 (first-in Joint at.pre.0).1 v.ensures.state) _
-    c.answer-number.ensures
+    (held_first _ at.requires.planned _ _ v.result (first-in Joint at.requires.planned).0 (first-in Joint at.requires.planned).1 v.ensures.state) _
+    c.answer_number.ensures
 
-add-loop : tie.Need-overflow-add-loop invariant-loop decreases-loop
+add-loop : tie.Need-overflow_add-i invariant-loop decreases-loop
 unfolding entry
 add-loop c =
     let at = entry c.before in
-    omega (arith, c.loop.invariant.going.most, long-enough c.before, small c.before)
+    omega (arith, c.loop-i.invariant.going.most, long-enough c.before, small c.before)
 
-slice-aggregate-step : tie.Need-slice-aggregate-step invariant-loop decreases-loop
+slice-aggregate-step : tie.Need-slice_bounds-step-end invariant-loop decreases-loop
 slice-aggregate-step c = search rules
 
-slice-aggregate-step-2 : tie.Need-slice-aggregate-step-2 invariant-loop decreases-loop
+slice-aggregate-step-2 : tie.Need-slice_bounds-step-end-in-loop-i invariant-loop decreases-loop
 slice-aggregate-step-2 c = search rules
 
-turn-at-requires : tie.Need-turn-at-requires invariant-loop decreases-loop
+turn-at-requires : tie.Need-turn_at-requires invariant-loop decreases-loop
 unfolding entry
 turn-at-requires c κs =
     let l = c.before.before.before in
     let at = entry l.before in
-    ((first-in Joint at.pre.0).0, omega (arith, c.before.before.loop-test.true, small l.before))
+    ((first-in Joint at.requires.planned).0, omega (arith, c.loop-i-test.true, small l.before))
 
-slice-aggregate-step-3 : tie.Need-slice-aggregate-step-3 invariant-loop decreases-loop
+slice-aggregate-step-3 : tie.Need-slice_bounds-step-end-in-loop-i-2 invariant-loop decreases-loop
 slice-aggregate-step-3 c = search rules
 
-step-requires : tie.Need-step-requires invariant-loop decreases-loop
+step-requires : tie.Need-step-then-requires invariant-loop decreases-loop
 unfolding entry
 step-requires c κs =
     let l = c.before.before.before.before.before.before.before.before.before in
-    let w = l.loop.invariant.going in
+    let w = l.loop-i.invariant.going in
     let b = l.before in
     let at = entry b in (
       (
-        at.pre.0,
-        b.before.before.before.before.before.before.before.before.before.before.before.before.before.before.before.built-rows.ensures,
+        at.requires.planned,
+        b.built_rows.ensures,
         joint-serves at.args.plan,
       ),
       (
-        within_of _ at.pre.0 _ _ w.held (omega
-            (arith, c.before.before.before.before.before.before.before.before.loop-test.true, small b)),
+        within_of _ at.requires.planned _ _ w.held (omega
+            (arith, c.loop-i-test.true, small b)),
         (
-          fit-going _ at.pre.0 _ _ _ at.pre.1.1 b.before.before.before.before.before.before.enter.ensures.kept
+          fit-going _ at.requires.planned _ _ _ at.requires.le_n.1 b.enter-visit.ensures.kept
               w.visited.kept,
           w.visited.here,
         ),
       ),
     )
 
-add-i : tie.Need-overflow-add-i invariant-loop decreases-loop
+add-i : tie.Need-overflow_add-i-in-loop-i invariant-loop decreases-loop
 unfolding entry
 add-i c = let l = c.before.before.before.before.before.before.before.before.before.before.before.before.before.before.before in omega (
   arith,
-  c.before.before.before.before.before.before.before.before.before.before.before.before.before.before.loop-test.true,
+  c.loop-i-test.true,
   small l.before,
 )
 
-answer-number-requires-2 : tie.Need-answer-number-requires-2 invariant-loop decreases-loop
+answer-number-requires-2 : tie.Need-answer_number-requires-in-loop-i invariant-loop decreases-loop
 answer-number-requires-2 c κs = search rules
 
-mul-answers : tie.Need-overflow-mul-answers invariant-loop decreases-loop
+mul-answers : tie.Need-offset_bounds-answers-i invariant-loop decreases-loop
 unfolding entry
 mul-answers c = let l = c.before.before.before.before.before.before.before.before.before.before.before.before.before.before.before.before in omega (
   arith,
-  c.before.before.before.before.before.before.before.before.before.before.before.before.before.before.before.loop-test.true,
+  c.loop-i-test.true,
   small l.before,
 )
 
-slice-write-answers-2 : tie.Need-slice-write-answers-2 invariant-loop decreases-loop
+slice-write-answers-2 : tie.Need-bounds-answers-i invariant-loop decreases-loop
 unfolding entry
 slice-write-answers-2 c = let l = c.before.before.before.before.before.before.before.before.before.before.before.before.before.before.before.before in omega (
   arith,
-  c.before.before.before.before.before.before.before.before.before.before.before.before.before.before.before.loop-test.true,
+  c.loop-i-test.true,
   kept-long l,
   room l.before,
 )
 
-loop-less : tie.Need-loop-smaller invariant-loop decreases-loop
+loop-less : tie.Need-loop-i-smaller invariant-loop decreases-loop
 loop-less c = let l = c.before.before.before.before.before.before.before.before.before.before.before.before.before.before.before.before in omega (
   arith,
-  c.before.before.before.before.before.before.before.before.before.before.before.before.before.before.before.loop-test.true,
+  c.loop-i-test.true,
 )
 
-loop-again : tie.Need-loop-preserved invariant-loop decreases-loop
+loop-again : tie.Need-loop-i-preserved invariant-loop decreases-loop
 unfolding entry
 loop-again c =
     let l = c.before.before.before.before.before.before.before.before.before.before.before.before.before.before.before.before in
     let at = entry l.before in
-    let t = c.before.before.before.before.before.before.before.before.before.before.before.before.before.before.before.loop-test.true in
-    walking-more _ at.args.file.now (moves_to at.args.file.now at.args.n) _ _ _ _ _ _ _ _ l.loop.i l.loop.invariant
-    (omega (arith, t, long-enough l.before)) (simp length-set (omega (arith, long-enough l.before, room l.before, at.pre.1.0.0))) _ _ _ _
-    (stepped at.pre.0 at.args.n at.pre.1.0.0 at.pre.1.0.1 l.loop.i _ t
-    c.before.before.before.before.before.before.before.before.before.before.before.before.turn_at.ensures l.loop.visit _ _ _
+    let t = c.loop-i-test.true in
+    walking-more _ at.args.file.now (moves_to at.args.file.now at.args.n) _ _ _ _ _ _ _ _ l.loop-i.i l.loop-i.invariant
+    (omega (arith, t, long-enough l.before)) (simp length-set (omega (arith, long-enough l.before, room l.before, at.requires.le_n.0.0))) _ _ _ _
+    (stepped at.requires.planned at.args.n at.requires.le_n.0.0 at.requires.le_n.0.1 l.loop-i.i _ t
+    c.turn_at.ensures l.loop-i.visit _ _ _
     _ _
-    c.before.before.before.before.before.before.step.ensures) _ c.answer-number2.ensures
+    c.step-then.ensures) _ c.answer_number-in-loop-i.ensures
 
-same_length : tie.Need-same-length invariant-loop decreases-loop
-same_length c = (looped c).loop.invariant.going.visited.kept.counts.long ∙
-    c.before.before.before.before.before.before.before.before.enter.ensures.kept.counts.long
+same_length : tie.Need-shape_of-counts invariant-loop decreases-loop
+same_length c = (looped c).loop-i.invariant.going.visited.kept.counts-1.long ∙
+    c.enter-visit.ensures.kept.counts-1.long
 
-same-length-2 : tie.Need-same-length-2 invariant-loop decreases-loop
-same-length-2 c = (looped c).loop.invariant.going.visited.kept.words.long ∙
-    c.before.before.before.before.before.before.before.before.enter.ensures.kept.words.long
+same-length-2 : tie.Need-shape_of-words invariant-loop decreases-loop
+same-length-2 c = (looped c).loop-i.invariant.going.visited.kept.words-1.long ∙
+    c.enter-visit.ensures.kept.words-1.long
 
-same-length-3 : tie.Need-same-length-3 invariant-loop decreases-loop
+same-length-3 : tie.Need-shape_of-answers invariant-loop decreases-loop
 unfolding entry
 same-length-3 c = kept-long (looped c)
 
@@ -206,41 +206,12 @@ unfolding entry
 returns c =
     let l = looped c in
     let at = entry l.before in
-    let v = c.before.before.before.before.before.before.before.before.enter.ensures in
+    let v = c.enter-visit.ensures in
     let q =
-    walking-end _ at.args.file.now (moves_to at.args.file.now at.args.n) 0 0 _ _ _ at.args.answers.now _ _ _ _ _ l.loop.visit
-    l.loop.i
-    l.loop.inv (omega (arith, c.loop-test.false, long-enough l.before)) v.state v.kept _ refl in
-    begun at.pre.0 at.args.n at.pre.1.0.0 at.pre.1.0.1 _ _ _ _ l.loop.visit _ _ q.0 q.1
+    walking-end _ at.args.file.now (moves_to at.args.file.now at.args.n) 0 0 _ _ _ at.args.answers.now _ _ _ _ _ l.loop-i.visit
+    l.loop-i.i
+    l.loop-i.inv (omega (arith, c.loop-i-test.false, long-enough l.before)) v.state v.kept _ refl in
+    begun at.requires.planned at.args.n at.requires.le_n.0.0 at.requires.le_n.0.1 _ _ _ _ l.loop-i.visit _ _ q.0 q.1
 
-pub begin-spec : {M : Type 1} → statement M
-begin-spec =
-    tie.close
-    (tie.spec
-    invariant-loop
-    decreases-loop
-    slice-aggregate-built-rows
-    built-rows-requires
-    slice-aggregate-enter
-    slice-aggregate-enter-2
-    slice-aggregate-enter-3
-    enter-requires
-    answer-number-requires
-    slice-write-answers
-    loop-holds
-    add-loop
-    slice-aggregate-step
-    slice-aggregate-step-2
-    turn-at-requires
-    slice-aggregate-step-3
-    step-requires
-    add-i
-    answer-number-requires-2
-    mul-answers
-    slice-write-answers-2
-    loop-less
-    loop-again
-    same_length
-    same-length-2
-    same-length-3
-    returns)
+pub begin_spec : {M : Type 1} → statement M
+begin_spec = tie.close (tie.spec invariant-loop decreases-loop slice-aggregate-built-rows built-rows-requires slice-aggregate-enter slice-aggregate-enter-2 slice-aggregate-enter-3 enter-requires answer-number-requires slice-write-answers loop-holds add-loop slice-aggregate-step slice-aggregate-step-2 turn-at-requires slice-aggregate-step-3 step-requires add-i answer-number-requires-2 mul-answers slice-write-answers-2 loop-less loop-again same_length same-length-2 same-length-3 returns)

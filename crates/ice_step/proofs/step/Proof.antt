@@ -1,77 +1,67 @@
+
 use mathlib.Core.Path.{sym, ◌∙◌, refl}
 use Rattle.ice_step.proofs.Laws.{settings-limits-in}
 use Rattle.ice_step.proofs.Laws.{move-adjacent, visited-moves, visited-stays}
 use borrow.Author.Rules.{rules}
-use Rattle.ice_step.proofs.step.Statement.{statement}
-use Rattle.ice_step.proofs.step.Tie as tie
 use Rattle.ice_step.proofs.step.Reads as reads
 use Rattle.ice_step.proofs.step.Lts as lts
 use Rattle.ice_moves.proofs.next.Reads as next-reads
 use Rattle.ways.proofs.dispatch.slide.Reads as slide-reads
+use Rattle.ice_step.proofs.step.Statement.{statement}
+use Rattle.ice_step.proofs.step.Tie as tie
 
-next-requires : tie.Need-next-requires
+next-requires : tie.Need-next-m-requires
 next-requires c κs = let at =
-    c.before.before.before.before.before.before in (settings-limits-in at.pre.0.0, (at.pre.1.0.column, at.pre.1.0.row))
+    c.before.before.before.before.before.before in (settings-limits-in at.requires.pictured.0, (at.requires.within.0.column, at.requires.within.0.row))
 
-enum-known-m : tie.Need-enum-known-m
+enum-known-m : tie.Need-enum_known-m
 enum-known-m c = search rules
 
 slide-requires : tie.Need-slide-requires
 slide-requires c κs =
     let at = c.before.before.before.before.before.before.before.before.before.before.before.before.before.before.before in
     let to = c.before.before.before.before.before.before in
-    let on = at.requires.1.0 in (
-      at.requires.0,
+    let on = at.requires.within.0 in (
+      at.requires.pictured,
       (
         on,
         (
           move-adjacent _ _ _ _ _ _ on.column on.row
-              (sym to.before.before.next.ensures ∙ to.m.given.1),
-          (at.requires.1.1.0, at.requires.1.1.1),
+              (sym to.next-m.ensures ∙ to.m-1.given.1),
+          (at.requires.within.1.0, at.requires.within.1.1),
         ),
       ),
     )
 
-enum-known-m-2 : tie.Need-enum-known-m-2
+enum-known-m-2 : tie.Need-enum_known-m-in-Nowhere-1
 enum-known-m-2 c = search rules
 
-same_length : tie.Need-same-length
+same_length : tie.Need-shape_of-counts
 same_length c = search rules
 
-same-length-2 : tie.Need-same-length-2
+same-length-2 : tie.Need-shape_of-words
 same-length-2 c = search rules
 
-same-length-3 : tie.Need-same-length-3
+same-length-3 : tie.Need-shape_of-numbers
 same-length-3 c = search rules
 
-returns : tie.Need-returns
+returns : tie.Need-returns-in-To
 returns c =
     let at =
     c.before.before.before.before.before.before.before.before.before.before.before.before.before.before.before.before.before.before.before.before.before.before in
-    visited-moves _ at.pre.0.0 at.args.visit _ _ _ _ _ _ _ _
+    visited-moves _ at.requires.pictured.0 at.args.visit _ _ _ _ _ _ _ _
     (sym
-    c.before.before.before.before.before.before.before.before.before.before.before.before.before.before.before.next.ensures ∙
-    c.before.before.before.before.before.before.before.before.before.before.before.before.before.m.given.1)
-    c.before.before.before.before.before.before.slide.ensures
+    c.next-m.ensures ∙
+    c.m-1.given.1)
+    c.slide.ensures
 
-returns-2 : tie.Need-returns-2
+returns-2 : tie.Need-returns-in-Nowhere
 returns-2 c =
     let at = c.before.before.before.before.before.before.before.before.before.before.before.before in
-    let h = at.requires.1.1.1 in
-    visited-stays _ at.requires.0.0 at.args.visit _ _ _ _ _ _
-    (sym c.before.before.before.before.before.next.ensures ∙ c.before.before.before.m2.given.1)
+    let h = at.requires.within.1.1 in
+    visited-stays _ at.requires.pictured.0 at.args.visit _ _ _ _ _ _
+    (sym c.next-m.ensures ∙ c.m-in-Nowhere-1.given.1)
     (record { holds = h.holds; balance-box = h.balance-box; carried = h.carried }) refl
 
 pub step_spec : {M : Type 1} → statement M
-step_spec =
-    tie.close
-    (tie.spec
-    next-requires
-    enum-known-m
-    slide-requires
-    enum-known-m-2
-    same_length
-    same-length-2
-    same-length-3
-    returns
-    returns-2)
+step_spec = tie.close (tie.spec next-requires enum-known-m slide-requires enum-known-m-2 same_length same-length-2 same-length-3 returns returns-2)

@@ -13,18 +13,18 @@ use Rattle.ints.proofs.call_result.Tie as tie
 small : (st : tie.Start) → st.args.x ≤ 4294967295
 small st = omega (arith, st.ranges.x)
 
-abbrev env : tie.After-unsigned-to-signed → List Cell
+abbrev env : tie.After-unsigned_to_signed → List Cell
 env c =
-    result_cell w64 c.unsigned-to-signed.result (pos c.before.args.x) 4294967295 c.unsigned-to-signed.ensures (small c.before) tt ∷ []
+    result_cell w64 c.unsigned_to_signed.result (pos c.args.x) 4294967295 c.unsigned_to_signed.ensures (small c.before) tt ∷ []
 
-unsigned-to-signed-requires : tie.Need-unsigned-to-signed-requires
+unsigned-to-signed-requires : tie.Need-unsigned_to_signed-requires
 unsigned-to-signed-requires c κs = search rules
 
-mul-result : tie.Need-overflow-mul-result
+mul-result : tie.Need-overflow_mul-result
 mul-result c = need w64 (env c) (# 3 ⊗ x) tt
 
 returns : tie.Need-returns
 returns c = computes w64 (env c) (# 3 ⊗ x) tt
 
-pub call-result-spec : {M : Type 1} → statement M
-call-result-spec = tie.close (tie.spec unsigned-to-signed-requires mul-result returns)
+pub call_result_spec : {M : Type 1} → statement M
+call_result_spec = tie.close (tie.spec unsigned-to-signed-requires mul-result returns)

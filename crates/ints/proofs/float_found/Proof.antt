@@ -17,25 +17,24 @@ env st =
     ∷ signed_float binary64 w64 st.args.s 245055 st.requires.4 tt
     ∷ []
 
-int-to-float-m : tie.Need-int-to-float-m
-int-to-float-m c = float-need binary64 w64 c.before.args.n 961 c.before.requires.1 tt
+int-to-float-m : tie.Need-int_to_float-m
+int-to-float-m c = float-need binary64 w64 c.args.n 961 c.requires.1 tt
 
-int-to-float-t : tie.Need-int-to-float-t
-int-to-float-t c = float-need binary64 w64 c.before.before.args.s 245055 c.before.before.requires.4 tt
+int-to-float-t : tie.Need-int_to_float-t
+int-to-float-t c = float-need binary64 w64 c.args.s 245055 c.requires.4 tt
 
-int-to-float-result : tie.Need-int-to-float-result
-int-to-float-result c = float-need binary64 w64 c.before.before.before.args.v 180156859227 c.before.before.before.requires.0 tt
+int-to-float-result : tie.Need-int_to_float-result
+int-to-float-result c = float-need binary64 w64 c.args.v 180156859227 c.requires.0 tt
 
-int-to-float-result-2 : tie.Need-int-to-float-result-2
-int-to-float-result-2 c = float-need binary64 w64 c.before.before.before.before.args.x 255 c.before.before.before.before.requires.2 tt
+int-to-float-result-2 : tie.Need-int_to_float-result-2
+int-to-float-result-2 c = float-need binary64 w64 c.args.x 255 c.requires.2 tt
 
-int-to-float-result-3 : tie.Need-int-to-float-result-3
+int-to-float-result-3 : tie.Need-int_to_float-result-3
 int-to-float-result-3 c =
-    float-need binary64 w64 c.before.before.before.before.before.args.y 255 c.before.before.before.before.before.requires.3 tt
+    float-need binary64 w64 c.args.y 255 c.requires.3 tt
 
 returns : tie.Need-returns
 returns c = rep! (env c.before.before.before.before.before) (search float_code depth 12) (search quote depth 12) tt refl
 
-pub float-found-spec : {M : Type 1} → statement M
-float-found-spec =
-    tie.close (tie.spec int-to-float-m int-to-float-t int-to-float-result int-to-float-result-2 int-to-float-result-3 returns)
+pub float_found_spec : {M : Type 1} → statement M
+float_found_spec = tie.close (tie.spec int-to-float-m int-to-float-t int-to-float-result int-to-float-result-2 int-to-float-result-3 returns)

@@ -19,19 +19,19 @@ env st =
     ∷ signed_float binary64 w64 st.args.t 1000000000000 st.requires.1 tt
     ∷ []
 
-int-to-float-a : tie.Need-int-to-float-a
-int-to-float-a c = float-need binary64 w64 c.before.args.u 1000000000000 c.before.requires.0 tt
+int-to-float-a : tie.Need-int_to_float-a
+int-to-float-a c = float-need binary64 w64 c.args.u 1000000000000 c.requires.0 tt
 
-int-to-float-b : tie.Need-int-to-float-b
-int-to-float-b c = float-need binary64 w64 c.before.before.args.t 1000000000000 c.before.before.requires.1 tt
+int-to-float-b : tie.Need-int_to_float-b
+int-to-float-b c = float-need binary64 w64 c.args.t 1000000000000 c.requires.1 tt
 
-returns : tie.Need-returns
+returns : tie.Need-returns-then-b-a
 returns c =
-    (λ h. refl, λ h. clash_ℤ (lt-true refl refl (sym (lt-computed binary64 (env c.before.before.before) t (two ⊗ u) tt) ∙ c.if1.true)) h)
+    (λ h. refl, λ h. clash_ℤ (lt-true refl refl (sym (lt-computed binary64 (env c.before.before.before) t (two ⊗ u) tt) ∙ c.if-b-a.true)) h)
 
-returns-2 : tie.Need-returns-2
+returns-2 : tie.Need-returns-else-b-a
 returns-2 c =
-    (λ h. clash_ℤ h (lt-false refl refl (sym (lt-computed binary64 (env c.before.before.before) t (two ⊗ u) tt) ∙ c.if1.false)), λ h. refl)
+    (λ h. clash_ℤ h (lt-false refl refl (sym (lt-computed binary64 (env c.before.before.before) t (two ⊗ u) tt) ∙ c.if-b-a.false)), λ h. refl)
 
-pub float-test-spec : {M : Type 1} → statement M
-float-test-spec = tie.close (tie.spec int-to-float-a int-to-float-b returns returns-2)
+pub float_test_spec : {M : Type 1} → statement M
+float_test_spec = tie.close (tie.spec int-to-float-a int-to-float-b returns returns-2)

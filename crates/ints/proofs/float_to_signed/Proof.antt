@@ -19,14 +19,14 @@ comes_back st =
     (sym (read w64 st.ranges.a))
     (float_back binary64 (hbits w64) st.args.a (le_trans st.requires (lit≤ tt)) st.ranges.a.sfits)
 
-int-to-float-x : tie.Need-int-to-float-x
-int-to-float-x c = float-need binary64 w64 c.before.args.a 1000000000000 c.before.requires tt
+int-to-float-x : tie.Need-int_to_float-x
+int-to-float-x c = float-need binary64 w64 c.args.a 1000000000000 c.requires tt
 
-float-to-int-result : tie.Need-float-to-int-result
+float-to-int-result : tie.Need-float_to_int-result
 float-to-int-result c = (comes_back c.before.before).0
 
 returns : tie.Need-returns
-returns c = ap (read_back w64) (comes_back c.before.before).1 ∙ read w64 c.before.before.ranges.a
+returns c = ap (read_back w64) (comes_back c.before.before).1 ∙ read w64 c.ranges.a
 
-pub float-to-signed-spec : {M : Type 1} → statement M
-float-to-signed-spec = tie.close (tie.spec int-to-float-x float-to-int-result returns)
+pub float_to_signed_spec : {M : Type 1} → statement M
+float_to_signed_spec = tie.close (tie.spec int-to-float-x float-to-int-result returns)

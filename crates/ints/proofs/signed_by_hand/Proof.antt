@@ -14,26 +14,26 @@ env c =
     ∷ param_cell w64 c.args.e 65025 c.requires.3 tt
     ∷ []
 
-mul-result : tie.Need-overflow-mul-result
+mul-result : tie.Need-overflow_mul-result
 mul-result c = need w64 (env c) (n ⊗ q) tt
 
-mul-result-2 : tie.Need-overflow-mul-result-2
+mul-result-2 : tie.Need-overflow_mul-result-2
 mul-result-2 c = need w64 (env c) (s ⊗ s) tt
 
-sub-result : tie.Need-overflow-sub-result
+sub-result : tie.Need-overflow_sub-result
 sub-result c = need w64 (env c) (n ⊗ q ⊖ s ⊗ s) tt
 
-mul-result-3 : tie.Need-overflow-mul-result-3
+mul-result-3 : tie.Need-overflow_mul-result-3
 mul-result-3 c = need w64 (env c) (n ⊗ n) tt
 
-mul-result-4 : tie.Need-overflow-mul-result-4
+mul-result-4 : tie.Need-overflow_mul-result-4
 mul-result-4 c = need w64 (env c) (n ⊗ n ⊗ e) tt
 
-add-result : tie.Need-overflow-add-result
+add-result : tie.Need-overflow_add-result
 add-result c = need w64 (env c) (n ⊗ q ⊖ s ⊗ s ⊕ n ⊗ n ⊗ e) tt
 
 returns : tie.Need-returns
 returns c = computes w64 (env c) (n ⊗ q ⊖ s ⊗ s ⊕ n ⊗ n ⊗ e) tt
 
-pub signed-by-hand-spec : {M : Type 1} → statement M
-signed-by-hand-spec = tie.close (tie.spec mul-result mul-result-2 sub-result mul-result-3 mul-result-4 add-result returns)
+pub signed_by_hand_spec : {M : Type 1} → statement M
+signed_by_hand_spec = tie.close (tie.spec mul-result mul-result-2 sub-result mul-result-3 mul-result-4 add-result returns)

@@ -18,36 +18,36 @@ env c =
     ∷ param_cell w64 c.args.f 961 c.requires.5 tt
     ∷ []
 
-mul-a : tie.Need-overflow-mul-a
+mul-a : tie.Need-overflow_mul-a
 mul-a c = need! w64 (env c) (search signed_code depth 12) tt
 
-sub-a : tie.Need-overflow-sub-a
+sub-a : tie.Need-overflow_sub-a
 sub-a c = need! w64 (env c) (search signed_code depth 12) tt
 
 -- `a`, as a cell
 abbrev more : tie.Start → List Cell
 more c = let_cell w64 (env c) (x₁ ⊗ x₂ ⊖ x₃) tt ∷ env c
 
-mul-c : tie.Need-overflow-mul-c
+mul-c : tie.Need-overflow_mul-c
 mul-c c = need! w64 (more c) (search signed_code depth 12) tt
 
-mul-d : tie.Need-overflow-mul-d
+mul-d : tie.Need-overflow_mul-d
 mul-d c = need! w64 (more c) (search signed_code depth 12) tt
 
-sub-d : tie.Need-overflow-sub-d
+sub-d : tie.Need-overflow_sub-d
 sub-d c = need! w64 (more c) (search signed_code depth 12) tt
 
-mul-result : tie.Need-overflow-mul-result
+mul-result : tie.Need-overflow_mul-result
 mul-result c = need! w64 (more c) (search signed_code depth 12) tt
 
-mul-result-2 : tie.Need-overflow-mul-result-2
+mul-result-2 : tie.Need-overflow_mul-result-2
 mul-result-2 c = need! w64 (more c) (search signed_code depth 12) tt
 
-add-result : tie.Need-overflow-add-result
+add-result : tie.Need-overflow_add-result
 add-result c = need! w64 (more c) (search signed_code depth 12) tt
 
 returns : tie.Need-returns
 returns c = computes! w64 (env c) (search signed_code depth 12) (search quote depth 12) tt refl
 
-pub signed-found-spec : {M : Type 1} → statement M
-signed-found-spec = tie.close (tie.spec mul-a sub-a mul-c mul-d sub-d mul-result mul-result-2 add-result returns)
+pub signed_found_spec : {M : Type 1} → statement M
+signed_found_spec = tie.close (tie.spec mul-a sub-a mul-c mul-d sub-d mul-result mul-result-2 add-result returns)

@@ -19,10 +19,10 @@ use Rattle.ints.proofs.signed_loop.Tie as tie
 abbrev term : List ℕ → ℤ → ℤ → ℕ → ℤ
 term a n s k = n *ℤ pos (get_or a k 0) -ℤ s
 
-abbrev invariant-loop : tie.invariant-loop
+abbrev invariant-loop : tie.invariant-loop-i
 invariant-loop a n s acc₀ i₀ acc i = (i ≤ length a) × (to_z w64 acc ≡ Σ i (term a (to_z w64 n) (to_z w64 s)))
 
-abbrev decreases-loop : tie.decreases-loop
+abbrev decreases-loop : tie.decreases-loop-i
 decreases-loop a n s acc₀ i₀ acc i = length a - i
 
 abbrev Start : Type 0
@@ -30,26 +30,26 @@ Start = tie.Start invariant-loop decreases-loop
 
 -- the place in the loop's body after the element is known, and what is known there
 abbrev Body : Type 0
-Body = tie.After-shared-slice-known invariant-loop decreases-loop
+Body = tie.After-shared_slice_known-1 invariant-loop decreases-loop
 
 abbrev start : Body → Start
 start c = c.before.before.before
 
 abbrev i : Body → ℕ
-i c = c.before.before.loop.i
+i c = c.loop-i.i
 
 abbrev total : Start → ℕ → ℤ
 total st i = Σ i (term st.args.a.now st.args.n st.args.s)
 
 byte : (c : Body) (k : ℕ) → get_or (start c).args.a.now k 0 ≤ 255
-byte c k = omega (arith, c.shared-slice-known.given k)
+byte c k = omega (arith, c.shared_slice_known-1.given k)
 
 -- the sum over the parameters' bits is that over the parameters
 given : (st : Start) (i : ℕ) → Σ i (term st.args.a.now (read_back w64 st.args.n) (read_back w64 st.args.s)) ≡ total st i
 given st i = ap₂ (λ (n s : ℤ). Σ i (term st.args.a.now n s)) (read w64 st.ranges.n) (read w64 st.ranges.s)
 
-acc-is : (c : Body) → to_z w64 c.before.before.loop.acc ≡ total (start c) (i c)
-acc-is c = c.before.before.loop.invariant.1 ∙ given (start c) (i c)
+acc-is : (c : Body) → to_z w64 c.loop-i.acc ≡ total (start c) (i c)
+acc-is c = c.loop-i.invariant.1 ∙ given (start c) (i c)
 
 acc-small : (c : Body) → nat_abs (total (start c) (i c)) ≤ 961 * 490110
 acc-small c =
@@ -59,7 +59,7 @@ acc-small c =
       arith,
       Σ-abs (i c) (term a st.args.n st.args.s) 490110
           (λ k h. eval-within (st.args.n ∷ pos (get_or a k 0) ∷ st.args.s ∷ []) (961 ∷ 255 ∷ 245055 ∷ []) (n ⊗ x ⊖ s)
-          (st.pre.1, (byte c k, (st.pre.2, tt)))),
+          (st.requires.1, (byte c k, (st.requires.2, tt)))),
     )
 
 abbrev env : Body → List Cell
@@ -67,34 +67,34 @@ env c =
     param_cell w64 (start c).args.n 961 (start c).requires.1 tt
     ∷ unsigned_cell w64 (get_or (start c).args.a.now (i c) 0) 255 (byte c (i c)) tt
     ∷ param_cell w64 (start c).args.s 245055 (start c).requires.2 tt
-    ∷ local_cell w64 c.before.before.loop.acc (total (start c) (i c)) (961 * 490110) (acc-is c) (acc-small c)
+    ∷ local_cell w64 c.loop-i.acc (total (start c) (i c)) (961 * 490110) (acc-is c) (acc-small c)
     ∷ []
 
-loop-holds : tie.Need-loop-init invariant-loop decreases-loop
+loop-holds : tie.Need-loop-i-init invariant-loop decreases-loop
 loop-holds c = (omega arith, sym (Σ-zero _))
 
-shared-slice-read-acc : tie.Need-shared-slice-read-acc invariant-loop decreases-loop
+shared-slice-read-acc : tie.Need-bounds-a-i invariant-loop decreases-loop
 shared-slice-read-acc c = omega arith
 
-cast-acc : tie.Need-overflow-cast-acc invariant-loop decreases-loop
+cast-acc : tie.Need-overflow_cast-acc invariant-loop decreases-loop
 cast-acc c = sfits_pos 255 (byte c (i c)) tt
 
-mul-acc : tie.Need-overflow-mul-acc invariant-loop decreases-loop
+mul-acc : tie.Need-overflow_mul-acc invariant-loop decreases-loop
 mul-acc c = need w64 (env c) (n ⊗ x) tt
 
-sub-acc : tie.Need-overflow-sub-acc invariant-loop decreases-loop
+sub-acc : tie.Need-overflow_sub-acc invariant-loop decreases-loop
 sub-acc c = need w64 (env c) (n ⊗ x ⊖ s) tt
 
-add-acc : tie.Need-overflow-add-acc invariant-loop decreases-loop
+add-acc : tie.Need-overflow_add-acc invariant-loop decreases-loop
 add-acc c = need w64 (env c) (acc ⊕ (n ⊗ x ⊖ s)) tt
 
-add-i : tie.Need-overflow-add-i invariant-loop decreases-loop
+add-i : tie.Need-overflow_add-i invariant-loop decreases-loop
 add-i c = omega arith
 
-loop-less : tie.Need-loop-smaller invariant-loop decreases-loop
+loop-less : tie.Need-loop-i-smaller invariant-loop decreases-loop
 loop-less c = omega arith
 
-loop-again : tie.Need-loop-preserved invariant-loop decreases-loop
+loop-again : tie.Need-loop-i-preserved invariant-loop decreases-loop
 loop-again c = (
   omega arith,
   computes w64 (env c) (acc ⊕ (n ⊗ x ⊖ s)) tt ∙ sym (Σ-more (i c) (term (start c).args.a.now (start c).args.n (start c).args.s)) ∙ sym
@@ -103,9 +103,8 @@ loop-again c = (
 
 returns : tie.Need-returns invariant-loop decreases-loop
 returns c =
-    let done : c.before.loop.i ≡ length c.before.before.args.a.now = omega arith in
-    c.before.loop.invariant.1 ∙ given c.before.before c.before.loop.i ∙ ap (total c.before.before) done
+    let done : c.loop-i.i ≡ length c.args.a.now = omega arith in
+    c.loop-i.invariant.1 ∙ given c.before.before c.loop-i.i ∙ ap (total c.before.before) done
 
-pub signed-loop-spec : {M : Type 1} → statement M
-signed-loop-spec =
-    tie.close (tie.spec invariant-loop decreases-loop loop-holds shared-slice-read-acc cast-acc mul-acc sub-acc add-acc add-i loop-less loop-again returns)
+pub signed_loop_spec : {M : Type 1} → statement M
+signed_loop_spec = tie.close (tie.spec invariant-loop decreases-loop loop-holds shared-slice-read-acc cast-acc mul-acc sub-acc add-acc add-i loop-less loop-again returns)

@@ -15,28 +15,28 @@ env c =
     ∷ param_cell w64 c.args.w 1000 (abs-le-nonneg c.requires.2 c.requires.3) tt
     ∷ []
 
-mul-if1 : tie.Need-overflow-mul-if1
+mul-if1 : tie.Need-overflow_mul-u
 mul-if1 c = need w64 (env c) (# 2 ⊗ u) tt
 
-sub-result : tie.Need-overflow-sub-result
+sub-result : tie.Need-overflow_sub-result
 sub-result c = need w64 (env c.before) (u ⊖ w) tt
 
-add-result : tie.Need-overflow-add-result
+add-result : tie.Need-overflow_add-result
 add-result c = need w64 (env c.before) (u ⊕ w) tt
 
-returns : tie.Need-returns
+returns : tie.Need-returns-then-t-u
 returns c = (
   λ h. computes w64 (env c.before) (u ⊖ w) tt,
   λ h. clash_ℤ h
-      (le-true (computes w64 (env c.before) t tt) (computes w64 (env c.before) (# 2 ⊗ u) tt) c.if1.true),
+      (le-true (computes w64 (env c.before) t tt) (computes w64 (env c.before) (# 2 ⊗ u) tt) c.if-t-u.true),
 )
 
-returns-2 : tie.Need-returns-2
+returns-2 : tie.Need-returns-else-t-u
 returns-2 c = (
-  λ h. clash_ℤ (le-false (computes w64 (env c.before) t tt) (computes w64 (env c.before) (# 2 ⊗ u) tt) c.if1.false) h,
+  λ h. clash_ℤ (le-false (computes w64 (env c.before) t tt) (computes w64 (env c.before) (# 2 ⊗ u) tt) c.if-t-u.false) h,
   λ h. computes w64
       (env c.before) (u ⊕ w) tt,
 )
 
-pub signed-test-spec : {M : Type 1} → statement M
-signed-test-spec = tie.close (tie.spec mul-if1 sub-result add-result returns returns-2)
+pub signed_test_spec : {M : Type 1} → statement M
+signed_test_spec = tie.close (tie.spec mul-if1 sub-result add-result returns returns-2)

@@ -11,20 +11,20 @@ use Rattle.ints.proofs.unsigned_operands.Tie as tie
 abbrev env : tie.Start → List Cell
 env c = unsigned_cell w64 c.args.n 961 c.requires.0 tt ∷ unsigned_cell w64 c.args.g 255 c.requires.1 tt ∷ []
 
-cast-result : tie.Need-overflow-cast-result
+cast-result : tie.Need-overflow_cast-result
 cast-result c = search rules
 
-cast-result-2 : tie.Need-overflow-cast-result-2
+cast-result-2 : tie.Need-overflow_cast-result-2
 cast-result-2 c = search rules
 
-mul-result : tie.Need-overflow-mul-result
+mul-result : tie.Need-overflow_mul-result
 mul-result c = need! w64 (env c) (search signed_code depth 12) tt
 
-sub-result : tie.Need-overflow-sub-result
+sub-result : tie.Need-overflow_sub-result
 sub-result c = need! w64 (env c) (search signed_code depth 12) tt
 
 returns : tie.Need-returns
 returns c = computes! w64 (env c) (search signed_code depth 12) (search quote depth 12) tt refl
 
-pub unsigned-operands-spec : {M : Type 1} → statement M
-unsigned-operands-spec = tie.close (tie.spec cast-result cast-result-2 mul-result sub-result returns)
+pub unsigned_operands_spec : {M : Type 1} → statement M
+unsigned_operands_spec = tie.close (tie.spec cast-result cast-result-2 mul-result sub-result returns)

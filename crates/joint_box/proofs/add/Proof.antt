@@ -10,7 +10,7 @@ use Rattle.joint_box.proofs.add.Tie as tie
 abbrev env : tie.Start → List Cell
 env c = param_cell w32 c.args.a 31490048 c.requires.0 tt ∷ param_cell w32 c.args.b 31490048 c.requires.1 tt ∷ []
 
-add-result : tie.Need-overflow-add-result
+add-result : tie.Need-overflow_add-result
 add-result c = need! w32 (env c) (search signed_code depth 12) tt
 
 returns : tie.Need-returns

@@ -24,17 +24,17 @@ env c = unsigned_cell w32 c.args.n 65535 (small c) tt ∷ []
 left : (c : tie.Start) → to_z w32 (of_z w32 (to_z w32 c.args.n -ℤ pos 32768)) ≡ centred c.args.n
 left c = computes! w32 (env c) (search signed_code depth 12) (search quote depth 12) tt refl
 
-cast-result : tie.Need-overflow-cast-result
+cast-result : tie.Need-overflow_cast-result
 cast-result c = sfits_pos 65535 (small c) tt
 
-sub-result : tie.Need-overflow-sub-result
+sub-result : tie.Need-overflow_sub-result
 sub-result c = need! w32 (env c) (search signed_code depth 12) tt
 
-cast-result-2 : tie.Need-overflow-cast-result-2
+cast-result-2 : tie.Need-overflow_cast-result-2
 cast-result-2 c = subst (λ (z : ℤ). SFits w16 z) (sym (left c)) (centred-fits c.args.n (small c))
 
 returns : tie.Need-returns
 returns c = ap (λ (z : ℤ). to_z w16 (of_z w16 z)) (left c) ∙ read w16 (centred-fits c.args.n (small c))
 
-pub centred-spec : {M : Type 1} → statement M
-centred-spec = tie.close (tie.spec cast-result sub-result cast-result-2 returns)
+pub centred_spec : {M : Type 1} → statement M
+centred_spec = tie.close (tie.spec cast-result sub-result cast-result-2 returns)

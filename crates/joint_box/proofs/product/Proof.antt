@@ -26,18 +26,18 @@ module _ (c : tie.Start) where
   weight-32 : to_z w32 (of_z w32 c.args.y) ≡ c.args.y
   weight-32 = read-bounded w32 {z = c.args.y} 32768 c.requires.1 tt
 
-cast-result : tie.Need-overflow-cast-result
+cast-result : tie.Need-overflow_cast-result
 cast-result c = rw (cell-16 c) (sfits-abs 961 c.requires.0 tt)
 
-cast-result-2 : tie.Need-overflow-cast-result-2
+cast-result-2 : tie.Need-overflow_cast-result-2
 cast-result-2 c = rw (weight-16 c) (sfits-abs 32768 c.requires.1 tt)
 
-mul-result : tie.Need-overflow-mul-result
+mul-result : tie.Need-overflow_mul-result
 mul-result c = rw (weight-16 c, weight-32 c, cell-16 c, cell-32 c) (sfits-abs 31490048 (product-low c) tt)
 
 returns : tie.Need-returns
 returns c =
     rw (weight-16 c, weight-32 c, cell-16 c, cell-32 c, read-bounded w32 {z = c.args.x *ℤ c.args.y} 31490048 (product-low c) tt) refl
 
-pub product-spec : {M : Type 1} → statement M
-product-spec = tie.close (tie.spec cast-result cast-result-2 mul-result returns)
+pub product_spec : {M : Type 1} → statement M
+product_spec = tie.close (tie.spec cast-result cast-result-2 mul-result returns)

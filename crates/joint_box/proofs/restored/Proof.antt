@@ -11,10 +11,10 @@ use Rattle.joint_box.proofs.restored.Tie as tie
 abbrev env : tie.Start → List Cell
 env c = param_cell w32 c.args.dot 31490048 c.requires.0 tt ∷ param_cell w32 c.args.all 961 c.requires.1 tt ∷ []
 
-mul-result : tie.Need-overflow-mul-result
+mul-result : tie.Need-overflow_mul-result
 mul-result c = need! w32 (env c) (search signed_code depth 12) tt
 
-add-result : tie.Need-overflow-add-result
+add-result : tie.Need-overflow_add-result
 add-result c = need! w32 (env c) (search signed_code depth 12) tt
 
 -- both operations in 32 bits
@@ -25,5 +25,5 @@ exact c = computes! w32 (env c) (search signed_code depth 12) (search quote dept
 returns : tie.Need-returns
 returns c = exact c
 
-pub restored-spec : {M : Type 1} → statement M
-restored-spec = tie.close (tie.spec mul-result add-result returns)
+pub restored_spec : {M : Type 1} → statement M
+restored_spec = tie.close (tie.spec mul-result add-result returns)

@@ -7,52 +7,50 @@ use Rattle.joint_search.proofs.SearchLaws.{box-bounds, raised}
 use Rattle.joint_cut.proofs.raise_to.Statement.{statement}
 use Rattle.joint_cut.proofs.raise_to.Tie as tie
 
-abbrev invariant-loop : tie.invariant-loop
+abbrev invariant-loop : tie.invariant-loop-i
 invariant-loop sizes cells₀ counts words last i₀ cells i =
     (i ≤ last) × (cells ≡ box_in sizes counts i)
 
-abbrev decreases-loop : tie.decreases-loop
+abbrev decreases-loop : tie.decreases-loop-i
 decreases-loop sizes cells₀ counts words last i₀ cells i = last - i
 
-abbrev start : tie.At-loop invariant-loop decreases-loop → tie.Start invariant-loop decreases-loop
+abbrev start : tie.At-loop-i invariant-loop decreases-loop → tie.Start invariant-loop decreases-loop
 start h = h.before.before.before
 
-loop-holds : tie.Need-loop-init invariant-loop decreases-loop
-loop-holds c = let at = c.before.before in (at.requires.1.0, at.requires.1.2)
+loop-holds : tie.Need-loop-i-init invariant-loop decreases-loop
+loop-holds c = let at = c.before.before in (at.requires.from_le_to.0, at.requires.from_le_to.2)
 
-add-i : tie.Need-overflow-add-i invariant-loop decreases-loop
-add-i c = let at = start c.before in omega (arith, at.pre.0.levels, at.pre.1.1, c.loop-test.true)
+add-i : tie.Need-overflow_add-i invariant-loop decreases-loop
+add-i c = let at = start c.before in omega (arith, at.requires.searchable.levels, at.requires.from_le_to.1, c.loop-i-test.true)
 
-shift-level-requires : tie.Need-shift-level-requires invariant-loop decreases-loop
+shift-level-requires : tie.Need-shift_level-requires invariant-loop decreases-loop
 shift-level-requires c κs =
     let h = c.before.before in
     let at = start h in
-    let q = at.pre.0 in (
-      q.marked _ (omega (arith, at.pre.1.1, c.before.loop-test.true)),
-      (omega arith, box-bounds q h.loop.i _ (omega (arith, at.pre.1.1, c.before.loop-test.true)) h.loop.invariant.1),
+    let q = at.requires.searchable in (
+      q.marked _ (omega (arith, at.requires.from_le_to.1, c.loop-i-test.true)),
+      (omega arith, box-bounds q h.loop-i.i _ (omega (arith, at.requires.from_le_to.1, c.loop-i-test.true)) h.loop-i.invariant.1),
     )
 
-loop-less : tie.Need-loop-smaller invariant-loop decreases-loop
-loop-less c = omega (arith, c.before.before.loop-test.true)
+loop-less : tie.Need-loop-i-smaller invariant-loop decreases-loop
+loop-less c = omega (arith, c.loop-i-test.true)
 
-loop-again : tie.Need-loop-preserved invariant-loop decreases-loop
+loop-again : tie.Need-loop-i-preserved invariant-loop decreases-loop
 loop-again c =
     let t = c.before.before in
     let h = t.before in
     let at = start h in (
-      omega (arith, t.loop-test.true),
-      raised at.args.sizes at.args.counts.now h.loop.i _ _ h.loop.balance-box
-          c.shift-level.new.1.1.1.0 h.loop.invariant.1 c.shift-level.ensures (omega arith) refl,
+      omega (arith, t.loop-i-test.true),
+      raised at.args.sizes at.args.counts.now h.loop-i.i _ _ h.loop-i.balance-box
+          c.shift_level.new.1.1.1.0 h.loop-i.invariant.1 c.shift_level.ensures (omega arith) refl,
     )
 
 returns : tie.Need-returns invariant-loop decreases-loop
 returns c =
     let h = c.before in
     let at = start h in
-    let done : h.loop.i ≡ at.args.to.0 = omega (arith, h.loop.invariant.0, c.loop-test.false) in
-    h.loop.invariant.1 ∙ ap (box_in at.args.sizes at.args.counts.now) done
+    let done : h.loop-i.i ≡ at.args.to.0 = omega (arith, h.loop-i.invariant.0, c.loop-i-test.false) in
+    h.loop-i.invariant.1 ∙ ap (box_in at.args.sizes at.args.counts.now) done
 
-pub raise-to-spec : {M : Type 1} → statement M
-raise-to-spec =
-    tie.close
-    (tie.spec invariant-loop decreases-loop loop-holds add-i shift-level-requires loop-less loop-again returns)
+pub raise_to_spec : {M : Type 1} → statement M
+raise_to_spec = tie.close (tie.spec invariant-loop decreases-loop loop-holds add-i shift-level-requires loop-less loop-again returns)

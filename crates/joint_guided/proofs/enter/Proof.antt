@@ -10,23 +10,23 @@ use Rattle.joint_guided.proofs.GuidedLaws.{numbers_long, profiled}
 use Rattle.joint_guided.proofs.enter.Statement.{statement}
 use Rattle.joint_guided.proofs.enter.Tie as tie
 
-abbrev begin : tie.After-start → tie.Start
+abbrev begin : tie.After-start → tie.start
 begin h = h.before.before.before.before.before.before
 
 start-requires : tie.Need-start-requires
 start-requires c κs =
     let at = c.before.before.before.before.before in
-    let k = at.requires.0.0 in
-    ((k.pictured, k.column, k.row), at.requires.0.2)
+    let k = at.requires.counted.0 in
+    ((k.pictured, k.column, k.row), at.requires.counted.2)
 
-start-requires-2 : tie.Need-start-requires-2
-start-requires-2 c κs = let k = (begin c.before.before).pre.0.0 in (k.pictured, (k.column, k.row))
+start-requires-2 : tie.Need-start-a-requires
+start-requires-2 c κs = let k = (begin c.before.before).requires.counted.0 in (k.pictured, (k.column, k.row))
 
-tally-below-requires : tie.Need-tally-below-requires
+tally-below-requires : tie.Need-tally_below-below-requires
 tally-below-requires c κs =
     let h = c.before.before.before.before in
     let at = begin h in
-    let k = at.pre.0.0 in
+    let k = at.requires.counted.0 in
     let v = h.start.ensures in (
       numbers_long k.pictured v refl refl,
       level-cells (pixel-of k.pictured k.column k.row) (profiled k.pictured v refl refl),
@@ -34,22 +34,22 @@ tally-below-requires c κs =
           k.pictured,
     )
 
-sub-arrive : tie.Need-overflow-sub-arrive
+sub-arrive : tie.Need-slice_bounds-arrive-count
 sub-arrive c = search rules
 
-part-arrive-start : tie.Need-slice-bounds-arrive-start
+part-arrive-start : tie.Need-slice_bounds-arrive-start
 part-arrive-start c = search rules
 
-part-arrive-end : tie.Need-slice-bounds-arrive-end
+part-arrive-end : tie.Need-slice_bounds-arrive-end
 part-arrive-end c = search rules
 
-sub-arrive-2 : tie.Need-overflow-sub-arrive-2
+sub-arrive-2 : tie.Need-slice_bounds-arrive-count-2
 sub-arrive-2 c = search rules
 
-part-arrive-start-2 : tie.Need-slice-bounds-arrive-start-2
+part-arrive-start-2 : tie.Need-slice_bounds-arrive-start-2
 part-arrive-start-2 c = search rules
 
-part-arrive-end-2 : tie.Need-slice-bounds-arrive-end-2
+part-arrive-end-2 : tie.Need-slice_bounds-arrive-end-2
 part-arrive-end-2 c = search rules
 
 arrive-requires : tie.Need-arrive-requires
@@ -58,38 +58,24 @@ arrive-requires c κs =
     let a = w.before.before in
     let h = a.before.before.before in
     let at = begin h in
-    let k = at.pre.0.0 in (
-      (k, at.pre.0.1, h.start.ensures),
+    let k = at.requires.counted.0 in (
+      (k, at.requires.counted.1, h.start.ensures),
       (
         (
-          a.start2.ensures,
+          a.start-a.ensures,
           carries-still (pixel-of k.pictured k.column k.row)
               (gathered k.pictured k.column k.row (profiled k.pictured h.start.ensures refl refl) (levels-some k.pictured)
-              w.tally-below.ensures) refl refl,
+              w.tally_below-below.ensures) refl refl,
         ),
-        (levels-some k.pictured, omega arith, at.pre.1),
+        (levels-some k.pictured, omega arith, at.requires.balance_box_value),
       ),
     )
 
-same_length : tie.Need-same-length
-same_length c = c.before.before.before.before.before.before.before.before.before.before.before.before.start.auto.1.1.1.1.0
+same_length : tie.Need-shape_of-histogram
+same_length c = c.start.auto.1.1.1.1.0
 
 returns : tie.Need-returns
 returns c = c.arrive.ensures
 
 pub enter_spec : {M : Type 1} → statement M
-enter_spec =
-    tie.close
-    (tie.spec
-    start-requires
-    start-requires-2
-    tally-below-requires
-    sub-arrive
-    part-arrive-start
-    part-arrive-end
-    sub-arrive-2
-    part-arrive-start-2
-    part-arrive-end-2
-    arrive-requires
-    same_length
-    returns)
+enter_spec = tie.close (tie.spec start-requires start-requires-2 tally-below-requires sub-arrive part-arrive-start part-arrive-end sub-arrive-2 part-arrive-start-2 part-arrive-end-2 arrive-requires same_length returns)

@@ -10,29 +10,29 @@ use Rattle.joint_guided.proofs.tally_below.Tie as tie
 few : (at : tie.Start) → at.args.levels ≤ 1024
 few at = omega (arith, counts-long at.args.levels at.args.histogram.now at.requires.0, at.requires.1.levels)
 
-add-last : tie.Need-overflow-add-last
+add-last : tie.Need-overflow_add-last
 add-last c = omega (arith, few c.before)
 
-sub-gather : tie.Need-overflow-sub-gather
+sub-gather : tie.Need-slice_bounds-gather-count
 sub-gather c = search rules
 
-part-gather-start : tie.Need-slice-bounds-gather-start
+part-gather-start : tie.Need-slice_bounds-gather-start
 part-gather-start c = search rules
 
-part-gather-end : tie.Need-slice-bounds-gather-end
-part-gather-end c = omega (arith, c.before.requires.0)
+part-gather-end : tie.Need-slice_bounds-gather-end
+part-gather-end c = omega (arith, c.requires.0)
 
-mul-gather : tie.Need-overflow-mul-gather
+mul-gather : tie.Need-offset_bounds-histogram-levels
 mul-gather c = omega (arith, few c.before.before)
 
-sub-gather-2 : tie.Need-overflow-sub-gather-2
+sub-gather-2 : tie.Need-slice_bounds-gather-count-2
 sub-gather-2 c = search rules
 
-part-gather-start-2 : tie.Need-slice-bounds-gather-start-2
+part-gather-start-2 : tie.Need-slice_bounds-gather-start-2
 part-gather-start-2 c = search rules
 
-part-gather-end-2 : tie.Need-slice-bounds-gather-end-2
-part-gather-end-2 c = c.before.before.requires.0
+part-gather-end-2 : tie.Need-slice_bounds-gather-end-2
+part-gather-end-2 c = c.requires.0
 
 gather-requires : tie.Need-gather-requires
 gather-requires c κs =
@@ -48,17 +48,5 @@ returns c =
     let ns = at.args.histogram.now in
     rw (first_part l ns, second-part l _ ns refl) at c.gather.ensures
 
-pub tally-below-spec : {M : Type 1} → statement M
-tally-below-spec =
-    tie.close
-    (tie.spec
-    add-last
-    sub-gather
-    part-gather-start
-    part-gather-end
-    mul-gather
-    sub-gather-2
-    part-gather-start-2
-    part-gather-end-2
-    gather-requires
-    returns)
+pub tally_below_spec : {M : Type 1} → statement M
+tally_below_spec = tie.close (tie.spec add-last sub-gather part-gather-start part-gather-end mul-gather sub-gather-2 part-gather-start-2 part-gather-end-2 gather-requires returns)

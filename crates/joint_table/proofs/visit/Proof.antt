@@ -20,37 +20,37 @@ counted n = record { sums = record { count = n; sum = 0; squares = 0 }; below = 
 unread-requires : tie.Need-unread-requires
 unread-requires c κs = search rules
 
-returns : tie.Need-returns
+returns : tie.Need-returns-then-count-eq0
 returns c =
     let at = c.before.before.before.before.before.before.before in
     let p = frame_with at.args.file.now at.args.plane.now in
-    let none = count-empty p at.args.column at.args.row (omega (arith, at.requires.0.3, c.before.if1.true)) in
+    let none = count-empty p at.args.column at.args.row (omega (arith, at.requires.counted.3, c.if-count-eq0.true)) in
     rw c.unread.ensures (
       unread-state at.args.way p at.args.column at.args.row at.args.cut at.args.shifts
           (record { count = at.args.count; sum = 0; squares = 0 }) (record { head = 0; count = 0 }) none,
-      at.requires.1.2,
+      at.requires.cut_lt_levels.2,
       refl,
     )
 
 -- there is a reading
-abbrev start : tie.Else1 → tie.Start
+abbrev start : tie.Else-count-eq0 → tie.Start
 start e = e.before.before.before.before.before.before
 
-read : (e : tie.Else1) → let at = start e in empty (frame_with at.args.file.now at.args.plane.now) at.args.column at.args.row ≡ false
+read : (e : tie.Else-count-eq0) → let at = start e in empty (frame_with at.args.file.now at.args.plane.now) at.args.column at.args.row ≡ false
 read e =
     let at = start e in
     count-read (frame_with at.args.file.now at.args.plane.now) at.args.column at.args.row
-    (omega (arith, at.pre.0.3, e.if1.false))
+    (omega (arith, at.requires.counted.3, e.if-count-eq0.false))
 
-arrive-requires : tie.Need-arrive-requires
+arrive-requires : tie.Need-arrive-r-requires
 arrive-requires c κs =
     let at = start c.before in
-    ((at.pre.0.0, at.pre.0.1, at.pre.0.2, read c.before), (at.pre.1.0, omega (arith, at.pre.1.1), at.pre.1.2))
+    ((at.requires.counted.0, at.requires.counted.1, at.requires.counted.2, read c.before), (at.requires.cut_lt_levels.0, omega (arith, at.requires.cut_lt_levels.1), at.requires.cut_lt_levels.2))
 
 answered-requires : tie.Need-answered-requires
 answered-requires c κs = search rules
 
-returns-2 : tie.Need-returns-2
+returns-2 : tie.Need-returns
 returns-2 c =
     let r = c.before in
     let e = r.before.before in
@@ -58,15 +58,14 @@ returns-2 c =
     let p = frame_with at.args.file.now at.args.plane.now in
     let s = at.args.column in
     let t = at.args.row in
-    let v = r.arrive.ensures in
+    let v = r.arrive-r.ensures in
     rw c.answered.ensures (
-      state-is at.args.way p s t at.args.cut.0 at.args.shifts r.arrive.result.level r.arrive.result.shifts
-          r.arrive.result.level (counted at.args.count) v.level v.shifts
+      state-is at.args.way p s t at.args.cut.0 at.args.shifts r.arrive-r.result.level r.arrive-r.result.shifts
+          r.arrive-r.result.level (counted at.args.count) v.level v.shifts
           (v.level ∙ cut-answer at.args.way p s t at.args.cut.0 at.args.shifts (read e)),
       v.box,
       refl,
     )
 
-pub visit-spec : {M : Type 1} → statement M
-visit-spec =
-    tie.close (tie.spec unread-requires returns arrive-requires answered-requires returns-2)
+pub visit_spec : {M : Type 1} → statement M
+visit_spec = tie.close (tie.spec unread-requires returns arrive-requires answered-requires returns-2)

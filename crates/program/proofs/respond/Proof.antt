@@ -18,57 +18,48 @@ use Rattle.program.proofs.respond.Statement.{statement}
 use Rattle.program.proofs.respond.Tie as tie
 
 -- past the checks, none fired
-outcome : (d : tie.Else1) → program_outcome d.before.before.before.before.args.input.now ≡ accepted
-outcome d = quiet d.before.before.judge.ensures d.before.stops.ensures d.if1.false
+outcome : (d : tie.Else-stops) → program_outcome d.args.input.now ≡ accepted
+outcome d = quiet d.judge-v.ensures d.stops.ensures d.if-stops.false
 
-admits : (d : tie.Else1) →
-    Admitted d.before.before.before.before.args.input.now (plan_of d.before.before.before.before.args.input.now)
-admits d = admitted d.before.before.before.before.args.input.now refl (outcome d)
+admits : (d : tie.Else-stops) →
+    Admitted d.args.input.now (plan_of d.args.input.now)
+admits d = admitted d.args.input.now refl (outcome d)
 
-judge-requires : tie.Need-judge-requires
+judge-requires : tie.Need-judge-v-requires
 judge-requires c κs = search rules
 
 stops-requires : tie.Need-stops-requires
 stops-requires c κs = search rules
 
-put-verdict-requires : tie.Need-put-verdict-requires
+put-verdict-requires : tie.Need-put_verdict-requires
 put-verdict-requires c κs = search rules
 
-returns : tie.Need-returns
+returns : tie.Need-returns-then-stops
 returns c =
     let s = c.before.before.before.before.before.before in
     let b = s.args.input.now in
-    let v = c.before.before.before.before.judge in
-    let f = refusal-fits b v.result v.ensures (sym c.before.before.before.stops.ensures ∙ c.before.before.if1.true) in
-    from_start (omega (arith, f)) (called (printed-as b v.ensures) (c.put-verdict.ensures b))
+    let v = c.judge-v in
+    let f = refusal-fits b v.result v.ensures (sym c.stops.ensures ∙ c.if-stops.true) in
+    from_start (omega (arith, f)) (called (printed-as b v.ensures) (c.put_verdict.ensures b))
 
-open-plan-requires : tie.Need-open-plan-requires
+open-plan-requires : tie.Need-open_plan-requires
 open-plan-requires c κs = search rules
 
-put-answer-requires : tie.Need-put-answer-requires
+put-answer-requires : tie.Need-put_answer-requires
 put-answer-requires c κs =
     let o = c.before.before in
-    let b = o.before.before.before.before.before.args.input.now in
+    let b = o.args.input.now in
     let a = admits o.before in
-    (subst (Admitted b) (sym (o.open-plan.ensures.1 ∙ plan-opened b a.planned.accepts)) a, search rules)
+    (subst (Admitted b) (sym (o.open_plan.ensures.1 ∙ plan-opened b a.planned.accepts)) a, search rules)
 
-returns-2 : tie.Need-returns-2
+returns-2 : tie.Need-returns
 returns-2 c =
     let d = c.before.before.before.before in
-    let b = d.before.before.before.before.args.input.now in
+    let b = d.args.input.now in
     let e = outcome d in
     let t = printed-as b (sym e) in
     let f : length (printed b) ≤ 49280 = rw t at (text-short (admits d)) in
-    from_start (omega (arith, f)) (called t c.put-answer.ensures)
+    from_start (omega (arith, f)) (called t c.put_answer.ensures)
 
-pub respond-spec : {M : Type 1} → statement M
-respond-spec =
-    tie.close
-    (tie.spec
-    judge-requires
-    stops-requires
-    put-verdict-requires
-    returns
-    open-plan-requires
-    put-answer-requires
-    returns-2)
+pub respond_spec : {M : Type 1} → statement M
+respond_spec = tie.close (tie.spec judge-requires stops-requires put-verdict-requires returns open-plan-requires put-answer-requires returns-2)

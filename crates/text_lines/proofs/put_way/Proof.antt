@@ -7,34 +7,32 @@ use borrow.Author.Rules.{rules}
 use Rattle.text_lines.proofs.put_way.Statement.{statement}
 use Rattle.text_lines.proofs.put_way.Tie as tie
 
-put-word-requires : tie.Need-put-word-requires
+put-word-requires : tie.Need-put_word-second-requires
 unfolding way_text
 put-word-requires c κs = let s =
-    c.before.before.before in room-line s.args.out.now s.args.at s.args.word.now (decimal s.args.shifts) s.pre
+    c.before.before.before in room-line s.args.out-1.now s.args.at s.args.word.now (decimal s.args.shifts) s.requires
 
-put-decimal-requires : tie.Need-put-decimal-requires
+put-decimal-requires : tie.Need-put_decimal-end-requires
 unfolding way_text
 put-decimal-requires c κs =
-    room-second (decimal c.before.before.before.before.before.before.before.args.shifts)
-    c.before.before.before.before.before.before.before.requires c.before.before.before.put_word.ensures
+    room-second (decimal c.args.shifts)
+    c.requires c.put_word-second.ensures
 
-put-byte-requires : tie.Need-put-byte-requires
+put-byte-requires : tie.Need-put_byte-requires
 unfolding way_text
 put-byte-requires c κs =
-    room-end c.before.before.before.before.before.before.before.before.before.before.before.requires
-    c.before.before.before.before.before.before.before.put_word.ensures c.before.before.before.put-decimal.ensures
+    room-end c.requires
+    c.put_word-second.ensures c.put_decimal-end.ensures
 
-same_length : tie.Need-same-length
+same_length : tie.Need-shape_of-out
 same_length c = search rules
 
 returns : tie.Need-returns
 unfolding way_text
 returns c =
     joined
-    (joined c.before.before.before.before.before.before.before.before.before.before.put_word.ensures
-    c.before.before.before.before.before.before.put-decimal.ensures) c.before.before.put_byte.ensures
+    (joined c.put_word-second.ensures
+    c.put_decimal-end.ensures) c.put_byte.ensures
 
-pub put-way-spec : {M : Type 1} → statement M
-put-way-spec =
-    tie.close
-    (tie.spec put-word-requires put-decimal-requires put-byte-requires same_length returns)
+pub put_way_spec : {M : Type 1} → statement M
+put_way_spec = tie.close (tie.spec put-word-requires put-decimal-requires put-byte-requires same_length returns)

@@ -6,6 +6,9 @@ use native.Mathlib.Omega.{arith}
 use borrow.Author.Rules.{rules}
 use Rattle.chain_search.specs.Climb.{Climbs}
 use Rattle.chain_search.proofs.ClimbLaws.{
+use Rattle.chain_search.proofs.climb.climb.Statement.{statement}
+use Rattle.chain_search.proofs.climb.climb.Tie as tie
+
   ahead,
   AtNode,
   node-start,
@@ -21,172 +24,135 @@ use Rattle.chain_search.proofs.ClimbLaws.{
   node-next,
   node-less,
 }
-use Rattle.chain_search.proofs.climb.climb.Statement.{statement}
-use Rattle.chain_search.proofs.climb.climb.Tie as tie
 
-abbrev invariant-loop : tie.invariant-loop
+abbrev invariant-loop : tie.invariant-loop-next
 invariant-loop nodes k count₀ sum₀ at₀ next₀ count sum at next =
     (l : ℕ) → l ≤ 1024 → (a : Climbs l k nodes) → AtNode l nodes k a count sum at next
 
-abbrev decreases-loop : tie.decreases-loop
+abbrev decreases-loop : tie.decreases-loop-next
 decreases-loop nodes k count₀ sum₀ at₀ next₀ count sum at next = ahead 1024 nodes next
 
 -- the start, from the loop's head
-abbrev start : tie.At-loop invariant-loop decreases-loop → tie.Start invariant-loop decreases-loop
+abbrev start : tie.At-loop-next invariant-loop decreases-loop → tie.Start invariant-loop decreases-loop
 start h = h.before.before.before.before.before
 
 -- the state there, at the list of the `requires`
-state : (h : tie.At-loop invariant-loop decreases-loop) →
-    AtNode (start h).requires.0.0 (start h).args.nodes.now (start h).args.coefficients (start h).requires.0.2 h.loop.count h.loop.sum
-    h.loop.at h.loop.next
-state h = h.loop.invariant _ (start h).requires.0.1 (start h).requires.0.2
+state : (h : tie.At-loop-next invariant-loop decreases-loop) →
+    AtNode (start h).requires.by_index.0 (start h).args.nodes.now (start h).args.coefficients (start h).requires.by_index.2 h.loop-next.count h.loop-next.sum
+    h.loop-next.at h.loop-next.next
+state h = h.loop-next.invariant _ (start h).requires.by_index.1 (start h).requires.by_index.2
 
-shared-slice-read-place : tie.Need-shared-slice-read-place invariant-loop decreases-loop
-shared-slice-read-place c = omega (arith, c.before.before.requires.0.2.chain.shape.size)
+shared-slice-read-place : tie.Need-bounds-nodes-0 invariant-loop decreases-loop
+shared-slice-read-place c = omega (arith, c.requires.by_index.2.chain.shape.size)
 
-place-requires : tie.Need-place-requires invariant-loop decreases-loop
+place-requires : tie.Need-place-at-requires invariant-loop decreases-loop
 place-requires c κs = search rules
 
-mul_next : tie.Need-overflow-mul-next invariant-loop decreases-loop
-mul_next c = let st = c.before.before.before in omega (arith, c.place.ensures, first-in st.requires.0.2 st.requires.1.1, st.well-formed)
+mul_next : tie.Need-offset_bounds-nodes-at invariant-loop decreases-loop
+mul_next c = let st = c.before.before.before in omega (arith, c.place-at.ensures, first-in st.requires.by_index.2 st.requires.coefficients_small.1, st.well_formed)
 
-shared-slice-read-next : tie.Need-shared-slice-read-next invariant-loop decreases-loop
+shared-slice-read-next : tie.Need-bounds-nodes-at invariant-loop decreases-loop
 shared-slice-read-next c = let st =
-    c.before.before.before.before in omega (arith, c.before.place.ensures, first-in st.pre.0.2 st.pre.1.1)
+    c.before.before.before.before in omega (arith, c.place-at.ensures, first-in st.requires.by_index.2 st.requires.coefficients_small.1)
 
-loop-holds : tie.Need-loop-init invariant-loop decreases-loop
-loop-holds c = let st = c.before.before.before.before in λ l h a. node-start st.requires.1.1 c.before.place.ensures
+loop-holds : tie.Need-loop-next-init invariant-loop decreases-loop
+loop-holds c = let st = c.before.before.before.before in λ l h a. node-start st.requires.coefficients_small.1 c.place-at.ensures
 
-sub-count : tie.Need-overflow-sub-count invariant-loop decreases-loop
+sub-count : tie.Need-overflow_sub-count invariant-loop decreases-loop
 sub-count c = omega (arith, node-from (state c.before))
 
-mul-count : tie.Need-overflow-mul-count invariant-loop decreases-loop
+mul-count : tie.Need-offset_bounds-nodes-at-in-loop-next invariant-loop decreases-loop
 mul-count c = omega (arith, node_in (state c.before), (start c.before).good)
 
-shared-slice-read-count : tie.Need-shared-slice-read-count invariant-loop decreases-loop
+shared-slice-read-count : tie.Need-bounds-nodes-at-in-loop-next invariant-loop decreases-loop
 shared-slice-read-count c = omega (arith, node_in (state c.before.before))
 
-add-count : tie.Need-overflow-add-count invariant-loop decreases-loop
+add-count : tie.Need-overflow_add-count invariant-loop decreases-loop
 add-count c = let s = state c.before.before in omega (arith, node-count s, node-sum s)
 
-sub-sum : tie.Need-overflow-sub-sum invariant-loop decreases-loop
+sub-sum : tie.Need-overflow_sub-sum invariant-loop decreases-loop
 sub-sum c = omega (arith, node-from (state c.before.before))
 
-mul-sum : tie.Need-overflow-mul-sum invariant-loop decreases-loop
-mul-sum c = let h = c.before.before in omega (arith, node_in (state h), (start h).well-formed)
+mul-sum : tie.Need-offset_bounds-nodes-at-in-loop-next-2 invariant-loop decreases-loop
+mul-sum c = let h = c.before.before in omega (arith, node_in (state h), (start h).well_formed)
 
-shared-slice-read-sum : tie.Need-shared-slice-read-sum invariant-loop decreases-loop
+shared-slice-read-sum : tie.Need-bounds-nodes-at-in-loop-next-2 invariant-loop decreases-loop
 shared-slice-read-sum c = omega (arith, node_in (state c.before.before.before))
 
-add-sum : tie.Need-overflow-add-sum invariant-loop decreases-loop
+add-sum : tie.Need-overflow_add-sum invariant-loop decreases-loop
 add-sum c = omega (arith, node-sum (state c.before.before.before))
 
-cast-reached : tie.Need-overflow-cast-reached invariant-loop decreases-loop
+cast-reached : tie.Need-overflow_cast-count invariant-loop decreases-loop
 cast-reached c = let s = state c.before.before.before in omega (arith, node-count s, node-sum s)
 
-cast-reached-2 : tie.Need-overflow-cast-reached-2 invariant-loop decreases-loop
+cast-reached-2 : tie.Need-overflow_cast-sum invariant-loop decreases-loop
 cast-reached-2 c = let s = state c.before.before.before in omega (arith, node-count s, node-sum s)
 
 reached-requires : tie.Need-reached-requires invariant-loop decreases-loop
 reached-requires c κs =
     let h = c.before.before.before in
     let s = state h in
-    ((start h).requires.1.0, (omega (arith, node-count s, node-sum s), omega (arith, node-count s, node-sum s)))
+    ((start h).requires.coefficients_small.0, (omega (arith, node-count s, node-sum s), omega (arith, node-count s, node-sum s)))
 
-sub-t18 : tie.Need-overflow-sub-t18 invariant-loop decreases-loop
+sub-t18 : tie.Need-overflow_sub-result invariant-loop decreases-loop
 sub-t18 c = omega (arith, node-from (state c.before.before.before.before.before))
 
-mul-t19 : tie.Need-overflow-mul-t19 invariant-loop decreases-loop
-mul-t19 c = let h = c.before.before.before.before.before in omega (arith, node_in (state h), (start h).well-formed)
+mul-t19 : tie.Need-offset_bounds-nodes-at-then-reached invariant-loop decreases-loop
+mul-t19 c = let h = c.before.before.before.before.before in omega (arith, node_in (state h), (start h).well_formed)
 
-shared-slice-read-t21 : tie.Need-shared-slice-read-t21 invariant-loop decreases-loop
+shared-slice-read-t21 : tie.Need-bounds-nodes-at-then-reached invariant-loop decreases-loop
 shared-slice-read-t21 c = omega (arith, node_in (state c.before.before.before.before.before.before))
 
-cast-t22 : tie.Need-overflow-cast-t22 invariant-loop decreases-loop
-cast-t22 c = let h = c.before.before.before.before.before.before in omega (arith, node-level (state h), (start h).requires.0.1)
+cast-t22 : tie.Need-overflow_cast-result invariant-loop decreases-loop
+cast-t22 c = let h = c.before.before.before.before.before.before in omega (arith, node-level (state h), (start h).requires.by_index.1)
 
-returns : tie.Need-returns invariant-loop decreases-loop
+returns : tie.Need-returns-then-reached invariant-loop decreases-loop
 returns c =
     let r = c.before.before in
     let h = r.before.before.before.before in
-    λ l q a. node-here (h.loop.invariant l q a) (sym r.reached.ensures) c.before.if1.true
+    λ l q a. node-here (h.loop-next.invariant l q a) (sym r.reached.ensures) c.if-reached.true
 
-place-requires-2 : tie.Need-place-requires-2 invariant-loop decreases-loop
+place-requires-2 : tie.Need-place-at-requires-in-loop-next invariant-loop decreases-loop
 place-requires-2 c κs = search rules
 
-mul-next-2 : tie.Need-overflow-mul-next-2 invariant-loop decreases-loop
+mul-next-2 : tie.Need-offset_bounds-nodes-at-in-loop-next-3 invariant-loop decreases-loop
 mul-next-2 c =
     let e = c.before in
     let h = e.before.before.before.before.before in
-    omega (arith, c.place2.ensures, next-in (state h) (sym e.before.reached.ensures) e.if1.false, (start h).well-formed)
+    omega (arith, c.place-at-in-loop-next.ensures, next-in (state h) (sym e.reached.ensures) e.if-reached.false, (start h).well_formed)
 
-shared-slice-read-next-2 : tie.Need-shared-slice-read-next-2 invariant-loop decreases-loop
+shared-slice-read-next-2 : tie.Need-bounds-nodes-at-in-loop-next-3 invariant-loop decreases-loop
 shared-slice-read-next-2 c =
     let e = c.before.before in
     let h = e.before.before.before.before.before in
-    omega (arith, c.before.place2.ensures, next-in (state h) (sym e.before.reached.ensures) e.if1.false)
+    omega (arith, c.place-at-in-loop-next.ensures, next-in (state h) (sym e.reached.ensures) e.if-reached.false)
 
-loop-less : tie.Need-loop-smaller invariant-loop decreases-loop
+loop-less : tie.Need-loop-next-smaller invariant-loop decreases-loop
 loop-less c =
     let e = c.before.before in
     let h = e.before.before.before.before.before in
-    node-less (state h) (sym e.before.reached.ensures) e.if1.false c.before.place2.ensures 1024 (start h).requires.0.1
+    node-less (state h) (sym e.reached.ensures) e.if-reached.false c.place-at-in-loop-next.ensures 1024 (start h).requires.by_index.1
 
-loop-again : tie.Need-loop-preserved invariant-loop decreases-loop
+loop-again : tie.Need-loop-next-preserved invariant-loop decreases-loop
 loop-again c =
     let e = c.before.before in
     let h = e.before.before.before.before.before in
-    λ l q a. node-next (h.loop.invariant l q a) (sym e.before.reached.ensures) e.if1.false c.before.place2.ensures
+    λ l q a. node-next (h.loop-next.invariant l q a) (sym e.reached.ensures) e.if-reached.false c.place-at-in-loop-next.ensures
 
-sub-t9 : tie.Need-overflow-sub-t9 invariant-loop decreases-loop
+sub-t9 : tie.Need-overflow_sub-result-2 invariant-loop decreases-loop
 sub-t9 c = omega (arith, node-from (state c.before))
 
-mul-t24 : tie.Need-overflow-mul-t24 invariant-loop decreases-loop
+mul-t24 : tie.Need-offset_bounds-nodes-at-2 invariant-loop decreases-loop
 mul-t24 c = omega (arith, node_in (state c.before), (start c.before).good)
 
-shared-slice-read-t8 : tie.Need-shared-slice-read-t8 invariant-loop decreases-loop
+shared-slice-read-t8 : tie.Need-bounds-nodes-at-2 invariant-loop decreases-loop
 shared-slice-read-t8 c = omega (arith, node_in (state c.before.before))
 
-cast-t26 : tie.Need-overflow-cast-t26 invariant-loop decreases-loop
-cast-t26 c = let h = c.before.before in omega (arith, node-level (state h), (start h).requires.0.1)
+cast-t26 : tie.Need-overflow_cast-result-2 invariant-loop decreases-loop
+cast-t26 c = let h = c.before.before in omega (arith, node-level (state h), (start h).requires.by_index.1)
 
-returns-2 : tie.Need-returns-2 invariant-loop decreases-loop
-returns-2 c = λ l q a. node-last (c.before.before.loop.invariant l q a) c.before.loop-test.false
+returns-2 : tie.Need-returns invariant-loop decreases-loop
+returns-2 c = λ l q a. node-last (c.loop-next.invariant l q a) c.loop-next-test.false
 
-pub climb-spec : {M : Type 1} → statement M
-climb-spec =
-    tie.close
-    (tie.spec
-    invariant-loop
-    decreases-loop
-    shared-slice-read-place
-    place-requires
-    mul_next
-    shared-slice-read-next
-    loop-holds
-    sub-count
-    mul-count
-    shared-slice-read-count
-    add-count
-    sub-sum
-    mul-sum
-    shared-slice-read-sum
-    add-sum
-    cast-reached
-    cast-reached-2
-    reached-requires
-    sub-t18
-    mul-t19
-    shared-slice-read-t21
-    cast-t22
-    returns
-    place-requires-2
-    mul-next-2
-    shared-slice-read-next-2
-    loop-less
-    loop-again
-    sub-t9
-    mul-t24
-    shared-slice-read-t8
-    cast-t26
-    returns-2)
+pub climb_spec : {M : Type 1} → statement M
+climb_spec = tie.close (tie.spec invariant-loop decreases-loop shared-slice-read-place place-requires mul_next shared-slice-read-next loop-holds sub-count mul-count shared-slice-read-count add-count sub-sum mul-sum shared-slice-read-sum add-sum cast-reached cast-reached-2 reached-requires sub-t18 mul-t19 shared-slice-read-t21 cast-t22 returns place-requires-2 mul-next-2 shared-slice-read-next-2 loop-less loop-again sub-t9 mul-t24 shared-slice-read-t8 cast-t26 returns-2)

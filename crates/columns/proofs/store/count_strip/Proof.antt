@@ -8,93 +8,78 @@ use Rattle.columns.proofs.BlockLaws.{Piled, pile-start, pile-next, pile-able, pi
 use Rattle.columns.proofs.store.count_strip.Statement.{statement}
 use Rattle.columns.proofs.store.count_strip.Tie as tie
 
-abbrev invariant-loop : tie.invariant-loop
+abbrev invariant-loop : tie.invariant-loop-k
 invariant-loop file z blocks₀ y a b apart first count add k₀ blocks k =
     Piled add z.levels (λ x. pixel_d (frame_of file) (a + x * apart) (b + x * apart) x y) first count blocks₀ blocks k
 
-abbrev decreases-loop : tie.decreases-loop
+abbrev decreases-loop : tie.decreases-loop-k
 decreases-loop file z blocks₀ y a b apart first count add k₀ blocks k = count - k
 
-in-width : (c : tie.In-loop invariant-loop decreases-loop) →
-    c.before.before.before.before.args.first + c.before.loop.k < c.before.before.before.before.args.plan.width
-in-width c = omega (arith, c.loop-test.true, c.before.before.before.before.requires.1.0.1)
+in-width : (c : tie.In-loop-k invariant-loop decreases-loop) →
+    c.args.first + c.loop-k.k < c.args.plan.width
+in-width c = omega (arith, c.loop-k-test.true, c.requires.y_lt_height.0.1)
 
-places : (c : tie.In-loop invariant-loop decreases-loop)
+places : (c : tie.In-loop-k invariant-loop decreases-loop)
     →
-    (c.before.before.before.before.args.a + (c.before.before.before.before.args.first + c.before.loop.k) * c.before.before.before.before.args.apart < 2 * c.before.before.before.before.args.plan.width + 2)
+    (c.args.a + (c.args.first + c.loop-k.k) * c.args.apart < 2 * c.args.plan.width + 2)
     ×
-    (c.before.before.before.before.args.b + (c.before.before.before.before.args.first + c.before.loop.k) * c.before.before.before.before.args.apart < 2 * c.before.before.before.before.args.plan.width + 2)
-places c = c.before.before.before.before.requires.1.1.0 (c.before.before.before.before.args.first + c.before.loop.k) (in-width c)
+    (c.args.b + (c.args.first + c.loop-k.k) * c.args.apart < 2 * c.args.plan.width + 2)
+places c = c.requires.y_lt_height.1.0 (c.args.first + c.loop-k.k) (in-width c)
 
-loop-holds : tie.Need-loop-init invariant-loop decreases-loop
+loop-holds : tie.Need-loop-k-init invariant-loop decreases-loop
 loop-holds c = pile-start _ _ _ _ _ _
 
-add-x : tie.Need-overflow-add-x invariant-loop decreases-loop
-add-x c = omega (arith, in-width c, (plan-limits c.before.before.before.before.requires.0).width)
+add-x : tie.Need-overflow_add-x invariant-loop decreases-loop
+add-x c = omega (arith, in-width c, (plan-limits c.requires.planned).width)
 
-mul-step : tie.Need-overflow-mul-step invariant-loop decreases-loop
-mul-step c = omega (arith, places c, (plan-limits c.before.before.before.before.requires.0).width)
+mul-step : tie.Need-overflow_mul-step invariant-loop decreases-loop
+mul-step c = omega (arith, places c, (plan-limits c.requires.planned).width)
 
-add-count-pixel : tie.Need-overflow-add-count-pixel invariant-loop decreases-loop
-add-count-pixel c = omega (arith, places c.before, (plan-limits c.before.before.before.before.before.requires.0).width)
+add-count-pixel : tie.Need-overflow_add-a invariant-loop decreases-loop
+add-count-pixel c = omega (arith, places c.before, (plan-limits c.requires.planned).width)
 
-add-count-pixel-2 : tie.Need-overflow-add-count-pixel-2 invariant-loop decreases-loop
-add-count-pixel-2 c = omega (arith, places c.before, (plan-limits c.before.before.before.before.before.requires.0).width)
+add-count-pixel-2 : tie.Need-overflow_add-b invariant-loop decreases-loop
+add-count-pixel-2 c = omega (arith, places c.before, (plan-limits c.requires.planned).width)
 
-count-pixel-requires : tie.Need-count-pixel-requires invariant-loop decreases-loop
+count-pixel-requires : tie.Need-count_pixel-requires invariant-loop decreases-loop
 count-pixel-requires c κs = let st = c.before.before.before.before.before in let v =
-    c.before.before.loop.invariant in (
-      st.requires.0,
+    c.loop-k.invariant in (
+      st.requires.planned,
       (
-        (in-width c.before, st.requires.1.0.0),
+        (in-width c.before, st.requires.y_lt_height.0.0),
         (
-          ((places c.before).0, (places c.before).1, omega (arith, v.put.len, st.requires.1.0.2)),
-          pile-able v c.before.loop-test.true
+          ((places c.before).0, (places c.before).1, omega (arith, v.put.len, st.requires.y_lt_height.0.2)),
+          pile-able v c.loop-k-test.true
               (strip-able (frame_of st.args.file.now) st.args.add st.args.y st.args.a st.args.b st.args.apart
-              st.args.first st.args.count st.requires.1.1.1),
+              st.args.first st.args.count st.requires.y_lt_height.1.1),
         ),
       ),
     )
 
-add-k : tie.Need-overflow-add-k invariant-loop decreases-loop
+add-k : tie.Need-overflow_add-k invariant-loop decreases-loop
 add-k c =
     omega (
       arith,
-      c.before.before.before.before.loop-test.true,
-      c.before.before.before.before.before.before.before.before.requires.1.0.1,
-      (plan-limits c.before.before.before.before.before.before.before.before.requires.0).width,
+      c.loop-k-test.true,
+      c.requires.y_lt_height.0.1,
+      (plan-limits c.requires.planned).width,
     )
 
-loop-less : tie.Need-loop-smaller invariant-loop decreases-loop
-loop-less c = omega (arith, c.before.before.before.before.loop-test.true)
+loop-less : tie.Need-loop-k-smaller invariant-loop decreases-loop
+loop-less c = omega (arith, c.loop-k-test.true)
 
-loop-again : tie.Need-loop-preserved invariant-loop decreases-loop
+loop-again : tie.Need-loop-k-preserved invariant-loop decreases-loop
 loop-again c =
-    pile-next c.before.before.before.before.before.loop.invariant c.before.before.before.before.loop-test.true
-    c.before.before.count-pixel.ensures
+    pile-next c.loop-k.invariant c.loop-k-test.true
+    c.count_pixel.ensures
 
-same_length : tie.Need-same-length invariant-loop decreases-loop
-same_length c = c.before.loop.invariant.put.len
+same_length : tie.Need-shape_of-blocks invariant-loop decreases-loop
+same_length c = c.loop-k.invariant.put.len
 
 returns : tie.Need-returns invariant-loop decreases-loop
 returns c = let st =
     c.before.before.before.before in strip-put (frame_of st.args.file.now) st.args.add st.args.y st.args.a st.args.b
-    st.args.apart st.args.first st.args.count (pile-end c.before.loop.invariant c.loop-test.false)
+    st.args.apart st.args.first st.args.count (pile-end c.loop-k.invariant c.loop-k-test.false)
 
-pub count-strip-spec : {M : Type 1} → statement M
-count-strip-spec =
-    tie.close
-    (tie.spec
-    invariant-loop
-    decreases-loop
-    loop-holds
-    add-x
-    mul-step
-    add-count-pixel
-    add-count-pixel-2
-    count-pixel-requires
-    add-k
-    loop-less
-    loop-again
-    same_length
-    returns)
+pub count_strip_spec : {M : Type 1} → statement M
+count_strip_spec = tie.close (tie.spec invariant-loop decreases-loop loop-holds add-x mul-step add-count-pixel add-count-pixel-2 count-pixel-requires add-k loop-less loop-again same_length returns)

@@ -1,3 +1,4 @@
+
 use mathlib.Core.Path.{◌≡◌, sym, ◌∙◌}
 use lib.ListN.{length}
 use Rattle.spec.specs.declared.Settings.{Settings}
@@ -12,8 +13,6 @@ use Rattle.ice_step.proofs.Laws.{settings-limits-in}
 use Rattle.frame.proofs.Planning.{planned-of}
 use Rattle.ice.proofs.CallLaws.{file-decides, own-decides, walks-refused, walks-done, granted}
 use borrow.Author.Rules.{rules}
-use Rattle.ice.proofs.calls.walk.Statement.{statement}
-use Rattle.ice.proofs.calls.walk.Tie as tie
 use Rattle.ice.proofs.calls.walk.Reads as reads
 use Rattle.ice.proofs.calls.walk.Lts as lts
 use Rattle.spec.proofs.stops.Reads as stops-reads
@@ -22,16 +21,18 @@ use Rattle.ice.proofs.calls.refused.Reads as refused-reads
 use Rattle.ice_walk.proofs.travel.Reads as travel-reads
 use Rattle.checks.proofs.walk_verdict.Reads as walk-verdict-reads
 use Rattle.checks_room.proofs.way_of.Reads as way-of-reads
+use Rattle.ice.proofs.calls.walk.Statement.{statement}
+use Rattle.ice.proofs.calls.walk.Tie as tie
 
 abbrev held : tie.Start → Lent
-held at = lent at.args.counts.now at.args.words.now at.args.numbers.now at.args.summary.now
+held at = lent at.args.counts-1.now at.args.words-1.now at.args.numbers-1.now at.args.summary-1.now
 
 abbrev own : tie.Start → Settings → Outcome
 own at k =
     walk_checks k at.args.way at.args.column at.args.row (length at.args.moves.now) (room_in (held at))
-    (length at.args.answers.now)
+    (length at.args.answers-1.now)
 
-open-plan-requires : tie.Need-open-plan-requires
+open-plan-requires : tie.Need-open_plan-opened-requires
 open-plan-requires c κs = search rules
 
 stops-requires : tie.Need-stops-requires
@@ -40,119 +41,101 @@ stops-requires c κs = search rules
 refused-requires : tie.Need-refused-requires
 refused-requires c κs = search rules
 
-returns : tie.Need-returns
+returns : tie.Need-returns-then-stops
 unfolding walk_outcome
 returns c =
     let at = c.before.before.before.before.before.before.before.before.before.before in
-    let f = known c.before.before.stops.ensures c.before.if1.true in
-    walks-refused _ _ c.refused.ensures f (held at) at.args.answers.now _ _ _ _ at.args.moves.now
-    (file-decides at.args.file.now (own at (settings_of at.args.file.now)) c.before.before.before.open-plan.result.verdict
-    c.before.before.before.open-plan.ensures.0 f)
+    let f = known c.stops.ensures c.if-stops.true in
+    walks-refused _ _ c.refused.ensures f (held at) at.args.answers-1.now _ _ _ _ at.args.moves.now
+    (file-decides at.args.file.now (own at (settings_of at.args.file.now)) c.open_plan-opened.result.verdict
+    c.open_plan-opened.ensures.0 f)
 
-walk-verdict-requires : tie.Need-walk-verdict-requires
+walk-verdict-requires : tie.Need-walk_verdict-w-requires
 walk-verdict-requires c κs =
     settings-limits-in
-    (planned-of c.before.before.before.open-plan.result c.before.before.before.open-plan.ensures
-    (known c.before.before.stops.ensures c.before.if1.false))
+    (planned-of c.open_plan-opened.result c.open_plan-opened.ensures
+    (known c.stops.ensures c.if-stops.false))
 
 stops-requires-2 : tie.Need-stops-requires-2
 stops-requires-2 c κs = search rules
 
-refused-requires-2 : tie.Need-refused-requires-2
+refused-requires-2 : tie.Need-refused-requires-then-stops-2
 refused-requires-2 c κs = search rules
 
-returns-2 : tie.Need-returns-2
+returns-2 : tie.Need-returns-then-stops-2
 unfolding walk_outcome
 returns-2 c =
     let at = c.before.before.before.before.before.before.before.before.before.before.before.before.before.before in
     let k =
-    planned-of c.before.before.before.before.before.before.before.open-plan.result
-    c.before.before.before.before.before.before.before.open-plan.ensures
-    (known c.before.before.before.before.before.before.stops.ensures c.before.before.before.before.before.if1.false) in
-    let f = known c.before.before.stops2.ensures c.before.if2.true in
-    walks-refused _ _ c.refused2.ensures f (held at) at.args.answers.now _ _ _ _ at.args.moves.now
-    (c.before.before.before.walk-verdict.ensures ∙ own-decides k (own at))
+    planned-of c.open_plan-opened.result
+    c.open_plan-opened.ensures
+    (known c.stops.ensures c.if-stops.false) in
+    let f = known c.stops-2.ensures c.if-stops-2.true in
+    walks-refused _ _ c.refused-then-stops-2.ensures f (held at) at.args.answers-1.now _ _ _ _ at.args.moves.now
+    (c.walk_verdict-w.ensures ∙ own-decides k (own at))
 
-way-of-requires : tie.Need-way-of-requires
+way-of-requires : tie.Need-way_of-by-requires
 way-of-requires c κs = search rules
 
 -- from the call back to the start
-abbrev start_of : tie.After-travel-arg4 → tie.Start
+abbrev start_of : tie.After-travel-arg-4-1 → tie.Start
 start_of c =
     let arg = c.before.before.before.before.before.before.before.before.before in
     arg.before.before.before.before.before.before.before.before.before
 
 -- where all checks have passed: the plan is the file's, and the outcome is accepted
-plan-at : (c : tie.After-travel-arg4) →
+plan-at : (c : tie.After-travel-arg-4-1) →
     Planned
-    c.before.before.before.before.before.before.before.before.before.before.before.before.before.before.before.before.before.before.args.file.now c.before.before.before.before.before.before.before.before.before.before.before.open-plan.result.plan
+    c.args.file.now c.open_plan-opened.result.plan-1
 plan-at c =
-    planned-of c.before.before.before.before.before.before.before.before.before.before.before.open-plan.result
-    c.before.before.before.before.before.before.before.before.before.before.before.open-plan.ensures
-    (known c.before.before.before.before.before.before.before.before.before.before.stops.ensures
-    c.before.before.before.before.before.before.before.before.before.if1.false)
+    planned-of c.open_plan-opened.result
+    c.open_plan-opened.ensures
+    (known c.stops.ensures
+    c.if-stops.false)
 
-outcome-at : (c : tie.After-travel-arg4) → let at =
+outcome-at : (c : tie.After-travel-arg-4-1) → let at =
     c.before.before.before.before.before.before.before.before.before.before.before.before.before.before.before.before.before.before
     in walk_outcome at.args.file.now at.args.way at.args.column at.args.row (length at.args.moves.now) (room_in (held at))
-    (length at.args.answers.now) ≡ accepted
+    (length at.args.answers-1.now) ≡ accepted
 unfolding walk_outcome
 outcome-at c =
     sym
     (own-decides (plan-at c)
     (own
-    c.before.before.before.before.before.before.before.before.before.before.before.before.before.before.before.before.before.before)) ∙ sym c.before.before.before.before.before.before.before.walk-verdict.ensures
-    ∙ quiet (numbered c.before.before.before.before.before.before.before.walk-verdict.result)
-    (known c.before.before.before.before.before.before.stops2.ensures c.before.before.before.before.before.if2.false)
+    c.before.before.before.before.before.before.before.before.before.before.before.before.before.before.before.before.before.before)) ∙ sym c.walk_verdict-w.ensures
+    ∙ quiet (numbered c.walk_verdict-w.result)
+    (known c.stops-2.ensures c.if-stops-2.false)
 
 travel-requires : tie.Need-travel-requires
 travel-requires c κs =
     let d = c.before in
     let at = start_of d in
     let k = plan-at d in
-    let g = granted k _ _ d.before.before.before.before.Way-of.ensures _ _ _ (held at) _ (outcome-at d) in
-    ((k, g.serves), (g.pixel, (g.moves, (g.fit, g.answers))))
+    let g = granted k _ _ d.way_of-by.ensures _ _ _ (held at) _ (outcome-at d) in
+    ((k, g.serves), (g.pixel, (g.moves, (g.fit, g.answers-1))))
 
-same_length : tie.Need-same-length
+same_length : tie.Need-shape_of-counts
 same_length c = search rules
 
-same-length-2 : tie.Need-same-length-2
+same-length-2 : tie.Need-shape_of-words
 same-length-2 c = search rules
 
-same-length-3 : tie.Need-same-length-3
+same-length-3 : tie.Need-shape_of-numbers
 same-length-3 c = search rules
 
-same-length-4 : tie.Need-same-length-4
+same-length-4 : tie.Need-shape_of-summary
 same-length-4 c = search rules
 
-same-length-5 : tie.Need-same-length-5
+same-length-5 : tie.Need-shape_of-answers
 same-length-5 c = search rules
 
-returns-3 : tie.Need-returns-3
+returns-3 : tie.Need-returns
 returns-3 c =
     let t = c.before.before.before.before.before.before.before.before.before in
     let d = t.before.before in
     let at = start_of d in
-    walks-done _ _ _ d.before.before.before.before.Way-of.ensures (held at) _ at.args.answers.now _ _ _ _ at.args.moves.now
+    walks-done _ _ _ d.way_of-by.ensures (held at) _ at.args.answers-1.now _ _ _ _ at.args.moves.now
     (outcome-at d) t.travel.ensures.0 t.travel.ensures.1
 
-pub walk-spec : {M : Type 1} → statement M
-walk-spec =
-    tie.close
-    (tie.spec
-    open-plan-requires
-    stops-requires
-    refused-requires
-    returns
-    walk-verdict-requires
-    stops-requires-2
-    refused-requires-2
-    returns-2
-    way-of-requires
-    travel-requires
-    same_length
-    same-length-2
-    same-length-3
-    same-length-4
-    same-length-5
-    returns-3)
+pub walk_spec : {M : Type 1} → statement M
+walk_spec = tie.close (tie.spec open-plan-requires stops-requires refused-requires returns walk-verdict-requires stops-requires-2 refused-requires-2 returns-2 way-of-requires travel-requires same_length same-length-2 same-length-3 same-length-4 same-length-5 returns-3)

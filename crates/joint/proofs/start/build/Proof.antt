@@ -7,28 +7,28 @@ use Rattle.joint.proofs.StartLaws.{cells-small, words_small, build-asks, built}
 use Rattle.joint.proofs.start.build.Statement.{statement}
 use Rattle.joint.proofs.start.build.Tie as tie
 
-mul-clear-counts : tie.Need-overflow-mul-clear-counts
+mul-clear-counts : tie.Need-overflow_mul-l
 mul-clear-counts c = let at = c.before.before.before.before.before in omega (arith, cells-small at.requires.pictured)
 
-clear-counts-requires : tie.Need-clear-counts-requires
+clear-counts-requires : tie.Need-clear_counts-requires
 clear-counts-requires c κs = let at = c.before.before.before.before.before in omega (arith, plan-cells at.requires.pictured, at.requires.cells)
 
-add-clear-words : tie.Need-overflow-add-clear-words
+add-clear-words : tie.Need-overflow_add-m
 add-clear-words c = let at = c.before.before.before.before.before.before.before.before.before in omega
     (arith, guides_high at.requires.pictured)
 
-mul-clear-words : tie.Need-overflow-mul-clear-words
+mul-clear-words : tie.Need-overflow_mul-l-2
 mul-clear-words c = let at = c.before.before.before.before.before.before.before.before.before in omega
     (arith, words_small at.requires.pictured)
 
-clear-words-requires : tie.Need-clear-words-requires
+clear-words-requires : tie.Need-clear_words-requires
 clear-words-requires c κs = let at =
-    c.before.before.before.before.before.before.before.before.before in omega (arith, plan-words at.pre.pictured, at.pre.words)
+    c.before.before.before.before.before.before.before.before.before in omega (arith, plan-words at.requires.pictured, at.requires.words-1)
 
-low-requires : tie.Need-low-requires
+low-requires : tie.Need-low-x-requires
 low-requires c κs = search rules
 
-span-of-requires : tie.Need-span-of-requires
+span-of-requires : tie.Need-span_of-n-requires
 span-of-requires c κs =
     let at = c.before.before.before.before.before.before.before.before.before.before.before.before.before.before in
     let l = plan-limits at.requires.pictured in
@@ -39,13 +39,13 @@ fill-requires c κs =
     let n = c.before.before.before in
     let w = n.before.before.before.before.before in
     let k = w.before.before.before.before in
-    build-asks k.before.before.before.before.before.before.requires k.clear-counts.ensures w.clear-words.ensures n.before.low.ensures
-    n.Span-of.ensures
+    build-asks k.requires k.clear_counts.ensures w.clear_words.ensures n.low-x.ensures
+    n.span_of-n.ensures
 
-same_length : tie.Need-same-length
+same_length : tie.Need-shape_of-counts
 same_length c = search rules
 
-same-length-2 : tie.Need-same-length-2
+same-length-2 : tie.Need-shape_of-words
 same-length-2 c = search rules
 
 returns : tie.Need-returns
@@ -54,21 +54,8 @@ returns c =
     let n = e.before.before.before.before in
     let w = n.before.before.before.before.before in
     let k = w.before.before.before.before in
-    built k.before.before.before.before.before.before.requires k.clear-counts.ensures w.clear-words.ensures n.before.low.ensures
-    n.Span-of.ensures (λ j. (c.slice-known6.given j).fits) e.fill.ensures
+    built k.requires k.clear_counts.ensures w.clear_words.ensures n.low-x.ensures
+    n.span_of-n.ensures (λ j. (c.slice_known-6-1.given j).fits) e.fill.ensures
 
-pub build-spec : {M : Type 1} → statement M
-build-spec =
-    tie.close
-    (tie.spec
-    mul-clear-counts
-    clear-counts-requires
-    add-clear-words
-    mul-clear-words
-    clear-words-requires
-    low-requires
-    span-of-requires
-    fill-requires
-    same_length
-    same-length-2
-    returns)
+pub build_spec : {M : Type 1} → statement M
+build_spec = tie.close (tie.spec mul-clear-counts clear-counts-requires add-clear-words mul-clear-words clear-words-requires low-requires span-of-requires fill-requires same_length same-length-2 returns)

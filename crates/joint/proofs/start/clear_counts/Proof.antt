@@ -8,58 +8,46 @@ use Rattle.joint.proofs.StartLaws.{clear_next, clear-long}
 use Rattle.joint.proofs.start.clear_counts.Statement.{statement}
 use Rattle.joint.proofs.start.clear_counts.Tie as tie
 
-abbrev invariant-loop : tie.invariant-loop
+abbrev invariant-loop : tie.invariant-loop-k
 invariant-loop s₀ n k₀ s k = (k ≤ n) × (s ≡ replicate k 0 ++ drop k s₀)
 
-abbrev decreases-loop : tie.decreases-loop
+abbrev decreases-loop : tie.decreases-loop-k
 decreases-loop s₀ n k₀ s k = n - k
 
-long : (h : tie.At-loop invariant-loop decreases-loop) → length h.loop.s ≡ length h.before.args.s.now
-long h = ap length h.loop.invariant.1 ∙ clear-long h.before.args.s.now h.loop.k (omega (arith, h.loop.invariant.0, h.before.requires))
+long : (h : tie.At-loop-k invariant-loop decreases-loop) → length h.loop-k.s ≡ length h.args.s.now
+long h = ap length h.loop-k.invariant.1 ∙ clear-long h.args.s.now h.loop-k.k (omega (arith, h.loop-k.invariant.0, h.requires))
 
-loop-holds : tie.Need-loop-init invariant-loop decreases-loop
+loop-holds : tie.Need-loop-k-init invariant-loop decreases-loop
 loop-holds c = (omega arith, refl)
 
-mul-s : tie.Need-overflow-mul-s invariant-loop decreases-loop
-mul-s c = omega (arith, long c.before, c.before.before.well-formed, c.before.before.requires)
+mul-s : tie.Need-offset_bounds-s-k invariant-loop decreases-loop
+mul-s c = omega (arith, long c.before, c.well_formed, c.requires)
 
-slice-write-s : tie.Need-slice-write-s invariant-loop decreases-loop
-slice-write-s c = omega (arith, long c.before, c.before.before.requires)
+slice-write-s : tie.Need-bounds-s-k invariant-loop decreases-loop
+slice-write-s c = omega (arith, long c.before, c.requires)
 
-add-k : tie.Need-overflow-add-k invariant-loop decreases-loop
+add-k : tie.Need-overflow_add-k invariant-loop decreases-loop
 add-k c = omega arith
 
-loop-less : tie.Need-loop-smaller invariant-loop decreases-loop
+loop-less : tie.Need-loop-k-smaller invariant-loop decreases-loop
 loop-less c = omega arith
 
-loop-again : tie.Need-loop-preserved invariant-loop decreases-loop
+loop-again : tie.Need-loop-k-preserved invariant-loop decreases-loop
 loop-again c =
     let h = c.before in (
       omega arith,
-      ap (λ (q : List ℕ). set q h.loop.k 0) h.loop.invariant.1 ∙ clear_next h.before.args.s.now h.loop.k
-          (omega (arith, h.before.requires)),
+      ap (λ (q : List ℕ). set q h.loop-k.k 0) h.loop-k.invariant.1 ∙ clear_next h.args.s.now h.loop-k.k
+          (omega (arith, h.requires)),
     )
 
-same_length : tie.Need-same-length invariant-loop decreases-loop
+same_length : tie.Need-shape_of-s invariant-loop decreases-loop
 same_length c = long c.before
 
 returns : tie.Need-returns invariant-loop decreases-loop
 returns c =
     let h = c.before in
-    let done : h.loop.k ≡ h.before.args.n = omega (arith, h.loop.invariant.0, c.loop-test.false) in
-    rw done at h.loop.invariant.1
+    let done : h.loop-k.k ≡ h.args.n = omega (arith, h.loop-k.invariant.0, c.loop-k-test.false) in
+    rw done at h.loop-k.invariant.1
 
-pub clear-counts-spec : {M : Type 1} → statement M
-clear-counts-spec =
-    tie.close
-    (tie.spec
-    invariant-loop
-    decreases-loop
-    loop-holds
-    mul-s
-    slice-write-s
-    add-k
-    loop-less
-    loop-again
-    same_length
-    returns)
+pub clear_counts_spec : {M : Type 1} → statement M
+clear_counts_spec = tie.close (tie.spec invariant-loop decreases-loop loop-holds mul-s slice-write-s add-k loop-less loop-again same_length returns)

@@ -11,20 +11,20 @@ use Rattle.joint_cells.proofs.scan.guide.Tie as tie
 is : (c : tie.Start) → place_of c.args.c ≡ c.args.c.word * 64 + count_trailing_zeros 64 c.args.c.rest
 is c = place-some c.args.c (place_rest c.args.c c.requires)
 
-mul-t2 : tie.Need-overflow-mul-t2
-mul-t2 c = omega (arith, c.before.requires, is c.before)
+mul-t2 : tie.Need-overflow_mul-result
+mul-t2 c = omega (arith, c.requires, is c.before)
 
-cast-t3 : tie.Need-overflow-cast-t3
-cast-t3 c = omega (arith, c.before.requires, is c.before)
+cast-t3 : tie.Need-overflow_cast-result
+cast-t3 c = omega (arith, c.requires, is c.before)
 
-cast-t5 : tie.Need-overflow-cast-t5
-cast-t5 c = omega (arith, c.before.before.requires, is c.before.before)
+cast-t5 : tie.Need-overflow_cast-result-2
+cast-t5 c = omega (arith, c.requires, is c.before.before)
 
-add-t6 : tie.Need-overflow-add-t6
-add-t6 c = omega (arith, c.before.before.requires, is c.before.before)
+add-t6 : tie.Need-overflow_add-result
+add-t6 c = omega (arith, c.requires, is c.before.before)
 
 returns : tie.Need-returns
 returns c = sym (is c.before.before)
 
-pub guide-spec : {M : Type 1} → statement M
-guide-spec = tie.close (tie.spec mul-t2 cast-t3 cast-t5 add-t6 returns)
+pub guide_spec : {M : Type 1} → statement M
+guide_spec = tie.close (tie.spec mul-t2 cast-t3 cast-t5 add-t6 returns)

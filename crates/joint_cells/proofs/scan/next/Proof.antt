@@ -4,35 +4,35 @@ use Rattle.joint_cells.proofs.ScanLaws.{word_in, rest-pos, goes_on, goes_over}
 use Rattle.joint_cells.proofs.scan.next.Statement.{statement}
 use Rattle.joint_cells.proofs.scan.next.Tie as tie
 
-sub-rest : tie.Need-overflow-sub-rest
+sub-rest : tie.Need-overflow_sub-rest
 sub-rest c = let at =
     c.before.before in omega
-    (arith, rest-pos at.args.words.now at.args.first at.args.k at.pre.1 at.args.c at.pre.3 at.pre.4)
+    (arith, rest-pos at.args.words.now at.args.first at.args.k at.requires.1 at.args.c at.requires.3 at.requires.4)
 
-returns : tie.Need-returns
+returns : tie.Need-returns-then-rest-ne0
 returns c = let at =
-    c.before.before.before.before in goes_on at.args.words.now at.args.first at.args.k at.pre.1 at.args.c at.pre.3
-    at.pre.4 c.if1.true
+    c.before.before.before.before in goes_on at.args.words.now at.args.first at.args.k at.requires.1 at.args.c at.requires.3
+    at.requires.4 c.if-rest-ne0.true
 
-add_begin : tie.Need-overflow-add-begin
+add_begin : tie.Need-overflow_add-c
 add_begin c = let at =
     c.before.before.before.before.before in omega
-    (arith, word_in at.args.words.now at.args.first at.args.k at.pre.1 at.args.c at.pre.3 at.pre.4, at.pre.1)
+    (arith, word_in at.args.words.now at.args.first at.args.k at.requires.1 at.args.c at.requires.3 at.requires.4, at.requires.1)
 
 begin-requires : tie.Need-begin-requires
 begin-requires c κs = let at =
     c.before.before.before.before.before in (
-      at.pre.0,
-      at.pre.1,
+      at.requires.0,
+      at.requires.1,
       omega
-          (arith, word_in at.args.words.now at.args.first at.args.k at.pre.1 at.args.c at.pre.3 at.pre.4, at.pre.1),
-      at.pre.2,
+          (arith, word_in at.args.words.now at.args.first at.args.k at.requires.1 at.args.c at.requires.3 at.requires.4, at.requires.1),
+      at.requires.2,
     )
 
-returns-2 : tie.Need-returns-2
+returns-2 : tie.Need-returns
 returns-2 c = let at =
-    c.before.before.before.before.before.before in goes_over at.args.words.now at.args.first at.args.k at.pre.1 at.args.c
-    at.pre.3 at.pre.4 _ c.before.before.if1.false c.begin.ensures
+    c.before.before.before.before.before.before in goes_over at.args.words.now at.args.first at.args.k at.requires.1 at.args.c
+    at.requires.3 at.requires.4 _ c.if-rest-ne0.false c.begin.ensures
 
-pub next-spec : {M : Type 1} → statement M
-next-spec = tie.close (tie.spec sub-rest returns add_begin begin-requires returns-2)
+pub next_spec : {M : Type 1} → statement M
+next_spec = tie.close (tie.spec sub-rest returns add_begin begin-requires returns-2)

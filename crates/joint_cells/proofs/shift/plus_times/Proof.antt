@@ -13,17 +13,17 @@ env c =
     param_cell w16 c.args.x 961 c.requires.0 tt ∷ param_cell w16 c.args.by 2 c.requires.1 tt ∷ unsigned_cell w16 c.args.n 961 c.requires.2 tt ∷
     []
 
-cast-result : tie.Need-overflow-cast-result
+cast-result : tie.Need-overflow_cast-result
 cast-result c = search rules
 
-mul-result : tie.Need-overflow-mul-result
+mul-result : tie.Need-overflow_mul-result
 mul-result c = need! w16 (env c) (search signed_code depth 12) tt
 
-add-result : tie.Need-overflow-add-result
+add-result : tie.Need-overflow_add-result
 add-result c = need! w16 (env c) (search signed_code depth 12) tt
 
 returns : tie.Need-returns
 returns c = computes! w16 (env c) (search signed_code depth 12) (search quote depth 12) tt refl
 
-pub plus-times-spec : {M : Type 1} → statement M
-plus-times-spec = tie.close (tie.spec cast-result mul-result add-result returns)
+pub plus_times_spec : {M : Type 1} → statement M
+plus_times_spec = tie.close (tie.spec cast-result mul-result add-result returns)

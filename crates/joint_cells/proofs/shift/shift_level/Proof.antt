@@ -14,119 +14,119 @@ use Rattle.joint_cells.proofs.ShiftLaws.{shift-asks, shift-stored, shift-low, sh
 use Rattle.joint_cells.proofs.shift.shift_level.Statement.{statement}
 use Rattle.joint_cells.proofs.shift.shift_level.Tie as tie
 
-abbrev invariant-loop : tie.invariant-loop
+abbrev invariant-loop : tie.invariant-loop-c
 invariant-loop m by cells₀ counts words i k first base c₀ cells c =
     (place_of c ≤ 256) × Scans words first k c × CountsAdded m i (to_z w16 by) counts (min (place_of c) m) cells₀ cells
 
-abbrev decreases-loop : tie.decreases-loop
+abbrev decreases-loop : tie.decreases-loop-c
 decreases-loop m by cells₀ counts words i k first base c₀ cells c = 256 - place_of c
 
-abbrev start : tie.At-loop invariant-loop decreases-loop → tie.Start invariant-loop decreases-loop
+abbrev start : tie.At-loop-c invariant-loop decreases-loop → tie.Start invariant-loop decreases-loop
 start h = h.before.before.before.before.before
 
-abbrev head : tie.After-guide invariant-loop decreases-loop → tie.At-loop invariant-loop decreases-loop
+abbrev head : tie.After-guide-g invariant-loop decreases-loop → tie.At-loop-c invariant-loop decreases-loop
 head g = g.before.before.before
 
 -- a guide is left, and it is one of the m
-low : (t : tie.Then1 invariant-loop decreases-loop) → place_of t.before.before.loop.c < (start t.before.before).args.m
-low t = let h = t.before.before in place-low (start h).pre.0 h.loop.invariant.1 t.if1.true
+low : (t : tie.In-loop-c invariant-loop decreases-loop) → place_of t.loop-c.c < (start t.before.before).args.m
+low t = let h = t.before.before in place-low (start h).requires.marked h.loop-c.invariant.1 t.loop-c-test.true
 
-guide-low : (g : tie.After-guide invariant-loop decreases-loop) → g.guide.result.0 < (start (head g)).args.m
-guide-low g = omega (arith, g.guide.ensures, low g.before)
+guide-low : (g : tie.After-guide-g invariant-loop decreases-loop) → g.guide-g.result.0 < (start (head g)).args.m
+guide-low g = omega (arith, g.guide-g.ensures, low g.before)
 
 -- what is moved, at that guide
-moved : (g : tie.After-guide invariant-loop decreases-loop) →
+moved : (g : tie.After-guide-g invariant-loop decreases-loop) →
     CountsAdded (start (head g)).args.m (start (head g)).args.level.0 (to_z w16 (of_z w16 (start (head g)).args.by))
-    (start (head g)).args.counts.now (min g.guide.result.0 (start (head g)).args.m) (start (head g)).args.balance-box.now
-    (head g).loop.balance-box
+    (start (head g)).args.counts.now (min g.guide-g.result.0 (start (head g)).args.m) (start (head g)).args.balance_box.now
+    (head g).loop-c.balance-box
 moved g =
     let at = start (head g) in
     subst
     (λ (q : ℕ). CountsAdded at.args.m at.args.level.0 (to_z w16 (of_z w16 at.args.by)) at.args.counts.now (min q at.args.m)
-    at.args.balance-box.now (head g).loop.balance-box) (sym g.guide.ensures)
-    (head g).loop.invariant.2
+    at.args.balance_box.now (head g).loop-c.balance-box) (sym g.guide-g.ensures)
+    (head g).loop-c.invariant.2
 
-cast-i : tie.Need-overflow-cast-i invariant-loop decreases-loop
+cast-i : tie.Need-overflow_cast-i invariant-loop decreases-loop
 cast-i c = omega arith
 
-add-k : tie.Need-overflow-add-k invariant-loop decreases-loop
-add-k c = let at = c.before.before.before in omega (arith, at.requires.0.guides)
+add-k : tie.Need-overflow_add-k invariant-loop decreases-loop
+add-k c = let at = c.before.before.before in omega (arith, at.requires.marked.guides)
 
-mul-first : tie.Need-overflow-mul-first invariant-loop decreases-loop
-mul-first c = let at = c.before.before.before in omega (arith, first-low at.requires.0)
+mul-first : tie.Need-overflow_mul-first invariant-loop decreases-loop
+mul-first c = let at = c.before.before.before in omega (arith, first-low at.requires.marked)
 
-mul-base : tie.Need-overflow-mul-base invariant-loop decreases-loop
-mul-base c = let at = c.before.before.before in omega (arith, base-low at.requires.0)
+mul-base : tie.Need-overflow_mul-base invariant-loop decreases-loop
+mul-base c = let at = c.before.before.before in omega (arith, base-low at.requires.marked)
 
-begin-requires : tie.Need-begin-requires invariant-loop decreases-loop
-begin-requires c κs = let at = c.before.before.before in scan-asks at.requires.0
+begin-requires : tie.Need-begin-c-requires invariant-loop decreases-loop
+begin-requires c κs = let at = c.before.before.before in scan-asks at.requires.marked
 
-loop-holds : tie.Need-loop-init invariant-loop decreases-loop
+loop-holds : tie.Need-loop-c-init invariant-loop decreases-loop
 loop-holds c =
-    let f = c.begin.ensures in
+    let f = c.begin-c.ensures in
     let at = c.before.before.before.before in
-    (f.next.most, f.scans, shift-start at.requires.0 _ _ _ f.next)
+    (f.next-c.most, f.scans, shift-start at.requires.marked _ _ _ f.next-c)
 
-guide-requires : tie.Need-guide-requires invariant-loop decreases-loop
-guide-requires c κs = omega (arith, low c, (start c.before.before).pre.0.guides)
+guide-requires : tie.Need-guide-g-requires invariant-loop decreases-loop
+guide-requires c κs = omega (arith, low c, (start c.before.before).requires.marked.guides)
 
-cast-g : tie.Need-overflow-cast-g invariant-loop decreases-loop
-cast-g c = let g = c.before in omega (arith, guide-low g, (start (head g)).pre.0.guides)
+cast-g : tie.Need-overflow_cast-g invariant-loop decreases-loop
+cast-g c = let g = c.before in omega (arith, guide-low g, (start (head g)).requires.marked.guides)
 
-mul-plus-times : tie.Need-overflow-mul-plus-times invariant-loop decreases-loop
-mul-plus-times c = let g = c.before in omega (arith, guide-low g, (start (head g)).pre.0.guides)
+mul-plus-times : tie.Need-offset_bounds-balance_box-g invariant-loop decreases-loop
+mul-plus-times c = let g = c.before in omega (arith, guide-low g, (start (head g)).requires.marked.guides)
 
-element-copy-out-plus-times : tie.Need-element-copy-out-plus-times invariant-loop decreases-loop
-element-copy-out-plus-times c = let g = c.before in omega (arith, guide-low g, (start (head g)).pre.0.guides)
+element-copy-out-plus-times : tie.Need-bounds-balance_box-g invariant-loop decreases-loop
+element-copy-out-plus-times c = let g = c.before in omega (arith, guide-low g, (start (head g)).requires.marked.guides)
 
-add-plus-times : tie.Need-overflow-add-plus-times invariant-loop decreases-loop
-add-plus-times c = let g = c.before.before in let at = start (head g) in omega (arith, base-low at.pre.0, guide-low g, at.pre.0.guides)
+add-plus-times : tie.Need-overflow_add-base invariant-loop decreases-loop
+add-plus-times c = let g = c.before.before in let at = start (head g) in omega (arith, base-low at.requires.marked, guide-low g, at.requires.marked.guides)
 
-mul-plus-times-2 : tie.Need-overflow-mul-plus-times-2 invariant-loop decreases-loop
-mul-plus-times-2 c = let g = c.before.before in let at = start (head g) in omega (arith, base-low at.pre.0, guide-low g, at.pre.0.guides)
+mul-plus-times-2 : tie.Need-offset_bounds-counts-base invariant-loop decreases-loop
+mul-plus-times-2 c = let g = c.before.before in let at = start (head g) in omega (arith, base-low at.requires.marked, guide-low g, at.requires.marked.guides)
 
-shared-slice-read-plus-times : tie.Need-shared-slice-read-plus-times invariant-loop decreases-loop
-shared-slice-read-plus-times c = let g = c.before.before.before in let at = start (head g) in omega (arith, at.pre.0.cells, guide-low g)
+shared-slice-read-plus-times : tie.Need-bounds-counts-base invariant-loop decreases-loop
+shared-slice-read-plus-times c = let g = c.before.before.before in let at = start (head g) in omega (arith, at.requires.marked.cells, guide-low g)
 
-plus-times-requires : tie.Need-plus-times-requires invariant-loop decreases-loop
+plus-times-requires : tie.Need-plus_times-requires invariant-loop decreases-loop
 plus-times-requires c κs =
     let g = c.before.before.before in
     let at = start (head g) in
-    shift-asks at.pre.0 at.args.by _ _ _ g.guide.result.0 at.pre.1.0 at.pre.1.1 (guide-low g) (moved g)
+    shift-asks at.requires.marked at.args.by _ _ _ g.guide-g.result.0 at.requires.by_bound.0 at.requires.by_bound.1 (guide-low g) (moved g)
 
-mul-t25 : tie.Need-overflow-mul-t25 invariant-loop decreases-loop
-mul-t25 c = let g = c.before.before.before.before in omega (arith, guide-low g, (start (head g)).pre.0.guides)
+mul-t25 : tie.Need-offset_bounds-balance_box-g-in-loop-c invariant-loop decreases-loop
+mul-t25 c = let g = c.before.before.before.before in omega (arith, guide-low g, (start (head g)).requires.marked.guides)
 
-element-set-from-cells : tie.Need-element-set-from-balance-box invariant-loop decreases-loop
-element-set-from-cells c = let g = c.before.before.before.before in omega (arith, guide-low g, (start (head g)).pre.0.guides)
+element-set-from-cells : tie.Need-bounds-balance_box-g-in-loop-c invariant-loop decreases-loop
+element-set-from-cells c = let g = c.before.before.before.before in omega (arith, guide-low g, (start (head g)).requires.marked.guides)
 
-next-requires : tie.Need-next-requires invariant-loop decreases-loop
+next-requires : tie.Need-next-c-requires invariant-loop decreases-loop
 next-requires c κs =
     let g = c.before.before.before.before in
     let h = head g in
     let at = start h in
-    let q = scan-asks at.pre.0 in
-    (q.0, q.1, q.3, h.loop.inv.1, omega (arith, low g.before, at.pre.0.guides))
+    let q = scan-asks at.requires.marked in
+    (q.0, q.1, q.3, h.loop-c.inv.1, omega (arith, low g.before, at.requires.marked.guides))
 
-loop-less : tie.Need-loop-smaller invariant-loop decreases-loop
+loop-less : tie.Need-loop-c-smaller invariant-loop decreases-loop
 loop-less c =
     let g = c.before.before.before.before.before in
-    omega (arith, c.next.ensures.next.from, low g.before, (start (head g)).pre.0.guides)
+    omega (arith, c.next-c.ensures.next-c.from, low g.before, (start (head g)).requires.marked.guides)
 
-loop-again : tie.Need-loop-preserved invariant-loop decreases-loop
+loop-again : tie.Need-loop-c-preserved invariant-loop decreases-loop
 loop-again c =
     let e = c.before in
     let g = e.before.before.before.before in
     let h = head g in
     let at = start h in
-    let r = g.guide.result.0 in
-    let n = rw (sym g.guide.ensures) at c.next.ensures.next in (
+    let r = g.guide-g.result.0 in
+    let n = rw (sym g.guide-g.ensures) at c.next-c.ensures.next-c in (
       n.most,
-      c.next.ensures.scans,
-      shift-again at.pre.0 _ _ r _ _ _ (guide-low g) at.pre.1.1.long n (moved g)
-          (shift-stored (get_or h.loop.balance-box r (pos 0)) (to_z w16 (of_z w16 at.args.by)) e.plus_times.result
+      c.next-c.ensures.scans,
+      shift-again at.requires.marked _ _ r _ _ _ (guide-low g) at.requires.by_bound.1.long n (moved g)
+          (shift-stored (get_or h.loop-c.balance-box r (pos 0)) (to_z w16 (of_z w16 at.args.by)) e.plus_times.result
           (get_or at.args.counts.now (at.args.level.0 * at.args.m + r) 0)
-          (shift-low _ at.args.level.0 _ _ _ _ r at.pre.1.1 (guide-low g) (moved g)) e.plus_times.type-inv e.plus_times.ensures),
+          (shift-low _ at.args.level.0 _ _ _ _ r at.requires.by_bound.1 (guide-low g) (moved g)) e.plus_times.type_inv e.plus_times.ensures),
     )
 
 returns : tie.Need-returns invariant-loop decreases-loop
@@ -134,33 +134,9 @@ returns c =
     let h = c.before.before in
     let at = start h in
     subst
-    (λ (q : ℤ). CountsAdded at.args.m at.args.level.0 q at.args.counts.now at.args.m at.args.balance-box.now
-    h.loop.balance-box) (read-bounded w16 2 at.pre.1.0 tt)
-    (shift-done at.pre.0 _ _ (place_of h.loop.c) _ (place-ended at.pre.0 h.loop.c c.if1.false) h.loop.invariant.2)
+    (λ (q : ℤ). CountsAdded at.args.m at.args.level.0 q at.args.counts.now at.args.m at.args.balance_box.now
+    h.loop-c.balance-box) (read-bounded w16 2 at.requires.by_bound.0 tt)
+    (shift-done at.requires.marked _ _ (place_of h.loop-c.c) _ (place-ended at.requires.marked h.loop-c.c c.loop-c-test.false) h.loop-c.invariant.2)
 
-pub shift-level-spec : {M : Type 1} → statement M
-shift-level-spec =
-    tie.close
-    (tie.spec
-    invariant-loop
-    decreases-loop
-    cast-i
-    add-k
-    mul-first
-    mul-base
-    begin-requires
-    loop-holds
-    guide-requires
-    cast-g
-    mul-plus-times
-    element-copy-out-plus-times
-    add-plus-times
-    mul-plus-times-2
-    shared-slice-read-plus-times
-    plus-times-requires
-    mul-t25
-    element-set-from-cells
-    next-requires
-    loop-less
-    loop-again
-    returns)
+pub shift_level_spec : {M : Type 1} → statement M
+shift_level_spec = tie.close (tie.spec invariant-loop decreases-loop cast-i add-k mul-first mul-base begin-requires loop-holds guide-requires cast-g mul-plus-times element-copy-out-plus-times add-plus-times mul-plus-times-2 shared-slice-read-plus-times plus-times-requires mul-t25 element-set-from-cells next-requires loop-less loop-again returns)

@@ -16,23 +16,23 @@ inside at =
     let most = mul-le-mul {n₁ = at.args.from} {m₁ = k} {n₂ = 1024} {m₂ = 4} (omega (arith, at.requires.1, at.requires.0.levels)) four in
     (omega (arith, all, add-mul at.args.from 16 k), omega (arith, most), four)
 
-add-k : tie.Need-overflow-add-k
+add-k : tie.Need-overflow_add-k
 add-k c = search rules
 
-mul-first : tie.Need-overflow-mul-first
+mul-first : tie.Need-overflow_mul-first
 mul-first c = omega (arith, (inside c.before).1)
 
-cast-clear : tie.Need-overflow-cast-clear
+cast-clear : tie.Need-overflow_cast-clear
 cast-clear c = search rules
 
-mul-clear : tie.Need-overflow-mul-clear
+mul-clear : tie.Need-overflow_mul-k
 mul-clear c = search rules
 
 clear-requires : tie.Need-clear-requires
-clear-requires c κs = let q = inside c.before in (omega (arith, q.0, c.before.requires.0.words), omega (arith, q.2), q.1)
+clear-requires c κs = let q = inside c.before in (omega (arith, q.0, c.requires.0.words), omega (arith, q.2), q.1)
 
 returns : tie.Need-returns
-returns c = λ e. record { whole = c.before.before.requires.1; clear = c.clear.ensures e }
+returns c = λ e. record { whole = c.requires.1; clear = c.clear.ensures e }
 
-pub vacant-spec : {M : Type 1} → statement M
-vacant-spec = tie.close (tie.spec add-k mul-first cast-clear mul-clear clear-requires returns)
+pub vacant_spec : {M : Type 1} → statement M
+vacant_spec = tie.close (tie.spec add-k mul-first cast-clear mul-clear clear-requires returns)

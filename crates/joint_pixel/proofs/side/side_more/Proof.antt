@@ -12,23 +12,23 @@ use Rattle.joint_pixel.proofs.side.side_more.Tie as tie
 abbrev env : tie.Start → List Cell
 env c = param_cell w16 c.args.x 32766 c.requires tt ∷ []
 
-add-result : tie.Need-overflow-add-result
+add-result : tie.Need-overflow_add-result
 add-result c = need! w16 (env c.before.before.before) (search signed_code depth 6) tt
 
-returns : tie.Need-returns
+returns : tie.Need-returns-then-level-cut
 returns c =
     let at = c.before.before.before in
     computes! w16 (env at) (search signed_code depth 6) (search quote depth 6) tt refl ∙ ap (λ (q : ℤ). at.args.x +ℤ q)
-    (sym (side-low at.args.cut.0 at.args.level.0 c.if1.true))
+    (sym (side-low at.args.cut.0 at.args.level.0 c.if-level-cut.true))
 
-sub-result : tie.Need-overflow-sub-result
+sub-result : tie.Need-overflow_sub-result
 sub-result c = need! w16 (env c.before.before.before) (search signed_code depth 6) tt
 
-returns-2 : tie.Need-returns-2
+returns-2 : tie.Need-returns
 returns-2 c =
     let at = c.before.before.before in
     computes! w16 (env at) (search signed_code depth 6) (search quote depth 6) tt refl ∙ ap (λ (q : ℤ). at.args.x +ℤ q)
-    (sym (side-high at.args.cut.0 at.args.level.0 c.if1.false))
+    (sym (side-high at.args.cut.0 at.args.level.0 c.if-level-cut.false))
 
-pub side-more-spec : {M : Type 1} → statement M
-side-more-spec = tie.close (tie.spec add-result returns sub-result returns-2)
+pub side_more_spec : {M : Type 1} → statement M
+side_more_spec = tie.close (tie.spec add-result returns sub-result returns-2)

@@ -12,98 +12,83 @@ use Rattle.joint_rows.proofs.table.weight_at.Statement.{statement}
 use Rattle.joint_rows.proofs.table.weight_at.Tie as tie
 
 -- without a table of its own
-abbrev start : tie.Then1 → tie.Start
+abbrev start : tie.Then-plan-eq0 → tie.Start
 start d = d.before.before.before
 
 apart-requires : tie.Need-apart-requires
 apart-requires c κs = search rules
 
-cast-result : tie.Need-overflow-cast-result
+cast-result : tie.Need-overflow_cast-result
 cast-result c = search rules
 
-mul-result : tie.Need-overflow-mul-result
+mul-result : tie.Need-offset_bounds-built-apart
 mul-result c = search rules
 
-element-copy-out-result : tie.Need-element-copy-out-result
+element-copy-out-result : tie.Need-bounds-built-apart
 element-copy-out-result c = let h = (start c.before).requires in omega (arith, apart_low h.1 h.2 h.3 c.apart.ensures)
 
-returns : tie.Need-returns
+returns : tie.Need-returns-then-plan-eq0
 returns c =
     let e = c.before in
     let h = (start e.before).requires in
     let is = built-entry _ _ _ h.0 (apart_low h.1 h.2 h.3 e.apart.ensures) e.apart.ensures in
-    (is ∙ sym (table-built h.1 e.before.if1.true _ _), subst (λ (n : ℕ). n ≤ heaviest) (sym is) (built-in-low _ _))
+    (is ∙ sym (table-built h.1 e.if-plan-eq0.true _ _), subst (λ (n : ℕ). n ≤ heaviest) (sym is) (built-in-low _ _))
 
-cast-k : tie.Need-overflow-cast-k
+cast-k : tie.Need-overflow_cast-k
 cast-k c = search rules
 
-mul-k : tie.Need-overflow-mul-k
+mul-k : tie.Need-overflow_mul-k
 mul-k c = let h =
-    c.before.before.before.before.before.requires in omega (
+    c.requires in omega (
       arith,
-      weight-place h.1 c.before.before.if1.false _ _ h.2 h.3,
-      weight-place h.1 c.before.before.if1.false _ _ h.3
+      weight-place h.1 c.if-plan-eq0.false _ _ h.2 h.3,
+      weight-place h.1 c.if-plan-eq0.false _ _ h.3
           h.2,
     )
 
-cast-k-2 : tie.Need-overflow-cast-k-2
+cast-k-2 : tie.Need-overflow_cast-k-2
 cast-k-2 c = search rules
 
-add-k : tie.Need-overflow-add-k
+add-k : tie.Need-overflow_add-k
 add-k c = let h =
-    c.before.before.before.before.before.before.requires in omega (
+    c.requires in omega (
       arith,
-      weight-place h.1 c.before.before.before.if1.false _ _ h.2 h.3,
-      weight-place h.1 c.before.before.before.if1.false
+      weight-place h.1 c.if-plan-eq0.false _ _ h.2 h.3,
+      weight-place h.1 c.if-plan-eq0.false
           _ _ h.3 h.2,
     )
 
-mul-be16 : tie.Need-overflow-mul-be16
+mul-be16 : tie.Need-overflow_mul-k-2
 mul-be16 c = let h =
-    c.before.before.before.before.before.before.requires in omega (
+    c.requires in omega (
       arith,
-      weight-place h.1 c.before.before.before.if1.false _ _ h.2 h.3,
-      weight-place h.1 c.before.before.before.if1.false
+      weight-place h.1 c.if-plan-eq0.false _ _ h.2 h.3,
+      weight-place h.1 c.if-plan-eq0.false
           _ _ h.3 h.2,
     )
 
-add-be16 : tie.Need-overflow-add-be16
+add-be16 : tie.Need-overflow_add-plan
 add-be16 c = let h =
-    c.before.before.before.before.before.before.before.requires in omega (
+    c.requires in omega (
       arith,
-      weight-place h.1 c.before.before.before.before.if1.false _ _ h.2 h.3,
+      weight-place h.1 c.if-plan-eq0.false _ _ h.2 h.3,
       weight-place h.1
-          c.before.before.before.before.if1.false _ _ h.3 h.2,
+          c.if-plan-eq0.false _ _ h.3 h.2,
     )
 
 be16-requires : tie.Need-be16-requires
 be16-requires c κs = let h =
-    c.before.before.before.before.before.before.before.requires in omega (
+    c.requires in omega (
       arith,
-      weight-place h.1 c.before.before.before.before.if1.false _ _ h.2 h.3,
+      weight-place h.1 c.if-plan-eq0.false _ _ h.2 h.3,
       weight-place h.1
-          c.before.before.before.before.if1.false _ _ h.3 h.2,
+          c.if-plan-eq0.false _ _ h.3 h.2,
     )
 
-returns-2 : tie.Need-returns-2
+returns-2 : tie.Need-returns
 returns-2 c =
-    let h = c.before.before.before.before.before.before.before.before.requires in
-    (c.be16.ensures ∙ sym (table-own h.1 c.before.before.before.before.before.if1.false _ _), omega (arith, c.be16.type-inv))
+    let h = c.requires in
+    (c.be16.ensures ∙ sym (table-own h.1 c.if-plan-eq0.false _ _), omega (arith, c.be16.type_inv))
 
-pub weight-at-spec : {M : Type 1} → statement M
-weight-at-spec =
-    tie.close
-    (tie.spec
-    apart-requires
-    cast-result
-    mul-result
-    element-copy-out-result
-    returns
-    cast-k
-    mul-k
-    cast-k-2
-    add-k
-    mul-be16
-    add-be16
-    be16-requires
-    returns-2)
+pub weight_at_spec : {M : Type 1} → statement M
+weight_at_spec = tie.close (tie.spec apart-requires cast-result mul-result element-copy-out-result returns cast-k mul-k cast-k-2 add-k mul-be16 add-be16 be16-requires returns-2)

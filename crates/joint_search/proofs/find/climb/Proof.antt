@@ -15,15 +15,15 @@ use Rattle.joint_search.proofs.SearchLaws.{balance-back, room, step-asks, step-u
 use Rattle.joint_search.proofs.find.climb.Statement.{statement}
 use Rattle.joint_search.proofs.find.climb.Tie as tie
 
-abbrev invariant-loop : tie.invariant-loop
+abbrev invariant-loop : tie.invariant-loop-b
 invariant-loop sizes row bal shifts cells₀ counts words i₀ b₀ n₀ cells i b n =
     (i₀ ≤ i) × (i < sizes.levels) × (to_z w32 b ≡ balance_in sizes counts row i) × ((j : ℕ) → i₀ ≤ j → j < i →
     balance_in sizes counts row j <ℤ pos 0) × (n + i₀ ≡ n₀ + i) × (cells ≡ box_in sizes counts i)
 
-abbrev decreases-loop : tie.decreases-loop
+abbrev decreases-loop : tie.decreases-loop-b
 decreases-loop sizes row bal shifts cells₀ counts words i₀ b₀ n₀ cells i b n = sizes.levels - i
 
-abbrev start : tie.At-loop invariant-loop decreases-loop → tie.Start invariant-loop decreases-loop
+abbrev start : tie.At-loop-b invariant-loop decreases-loop → tie.Start invariant-loop decreases-loop
 start h = h.before.before.before.before
 
 -- the balance at level j, by the call's lists
@@ -31,88 +31,76 @@ abbrev bal : tie.Start invariant-loop decreases-loop → ℕ → ℤ
 bal at j = balance_in at.args.sizes at.args.counts.now at.args.row.now j
 
 -- a level that is passed falls short
-below : (c : tie.In-loop invariant-loop decreases-loop) → bal (start c.before) c.before.loop.i <ℤ pos 0
-below c = let short = lt-true c.before.loop.invariant.2 refl c.loop-test.true in omega (arith, ints, short)
+below : (c : tie.In-loop-b invariant-loop decreases-loop) → bal (start c.before) c.loop-b.i <ℤ pos 0
+below c = let short = lt-true c.loop-b.invariant.2 refl c.loop-b-test.true in omega (arith, ints, short)
 
-next : (c : tie.In-loop invariant-loop decreases-loop) → c.before.loop.i + 1 < (start c.before).args.sizes.levels
-next c = let at = start c.before in room at.pre.0.0 at.pre.0.1 c.before.loop.i c.before.loop.invariant.1 (below c)
+next : (c : tie.In-loop-b invariant-loop decreases-loop) → c.loop-b.i + 1 < (start c.before).args.sizes.levels
+next c = let at = start c.before in room at.requires.searchable.0 at.requires.searchable.1 c.loop-b.i c.loop-b.invariant.1 (below c)
 
-loop-holds : tie.Need-loop-init invariant-loop decreases-loop
+loop-holds : tie.Need-loop-b-init invariant-loop decreases-loop
 loop-holds c =
     let at = c.before.before.before in (
       omega arith,
-      at.requires.1.0,
-      balance-back at.requires.0.0 at.requires.0.1 at.args.from.0 at.args.bal at.requires.1.0 at.requires.1.1,
+      at.requires.from_lt_levels.0,
+      balance-back at.requires.searchable.0 at.requires.searchable.1 at.args.from.0 at.args.bal at.requires.from_lt_levels.0 at.requires.from_lt_levels.1,
       λ
           j u v. absurd (omega arith),
       refl,
-      at.requires.1.3,
+      at.requires.from_lt_levels.3,
     )
 
-add-i : tie.Need-overflow-add-i invariant-loop decreases-loop
-add-i c = omega (arith, (start c.before).pre.0.0.levels, c.before.loop.invariant.1)
+add-i : tie.Need-overflow_add-i invariant-loop decreases-loop
+add-i c = omega (arith, (start c.before).requires.searchable.0.levels, c.loop-b.invariant.1)
 
-add-n : tie.Need-overflow-add-n invariant-loop decreases-loop
+add-n : tie.Need-overflow_add-n invariant-loop decreases-loop
 add-n c =
     let h = c.before in
     let at = start h in
-    omega (arith, at.pre.0.0.levels, h.loop.invariant.1, h.loop.invariant.4, at.pre.1.2)
+    omega (arith, at.requires.searchable.0.levels, h.loop-b.invariant.1, h.loop-b.invariant.4, at.requires.from_lt_levels.2)
 
-raise-level-requires : tie.Need-raise-level-requires invariant-loop decreases-loop
+raise-level-requires : tie.Need-raise_level-requires invariant-loop decreases-loop
 raise-level-requires c κs =
     let t = c.before in
     let h = t.before in
-    let p = (start h).requires.0 in
-    (p.0.marked (h.loop.i + 1) (next t), p.1, box-bounds p.0 h.loop.i _ h.loop.invariant.1 h.loop.invariant.5)
+    let p = (start h).requires.searchable in
+    (p.0.marked (h.loop-b.i + 1) (next t), p.1, box-bounds p.0 h.loop-b.i _ h.loop-b.invariant.1 h.loop-b.invariant.5)
 
-step-balance-requires : tie.Need-step-balance-requires invariant-loop decreases-loop
+step-balance-requires : tie.Need-step_balance-b-requires invariant-loop decreases-loop
 step-balance-requires c κs =
     let t = c.before.before in
     let h = t.before in
     let at = start h in
-    step-asks at.pre.0.0 at.pre.0.1 h.loop.i (h.loop.i + 1) (to_z w32 h.loop.b) c.raise-level.result (pos 2)
-    h.loop.invariant.1 (next t) h.loop.invariant.2 c.raise-level.ensures.0 (omega arith)
+    step-asks at.requires.searchable.0 at.requires.searchable.1 h.loop-b.i (h.loop-b.i + 1) (to_z w32 h.loop-b.b) c.raise_level.result (pos 2)
+    h.loop-b.invariant.1 (next t) h.loop-b.invariant.2 c.raise_level.ensures.0 (omega arith)
 
-loop-less : tie.Need-loop-smaller invariant-loop decreases-loop
-loop-less c = omega (arith, c.before.before.before.before.loop.invariant.1)
+loop-less : tie.Need-loop-b-smaller invariant-loop decreases-loop
+loop-less c = omega (arith, c.loop-b.invariant.1)
 
-loop-again : tie.Need-loop-preserved invariant-loop decreases-loop
+loop-again : tie.Need-loop-b-preserved invariant-loop decreases-loop
 loop-again c =
     let e = c.before in
     let t = e.before.before in
     let h = t.before in
     let at = start h in (
-      omega (arith, h.loop.invariant.0),
+      omega (arith, h.loop-b.invariant.0),
       next t,
-      step-up at.pre.0.0 at.pre.0.1 h.loop.i (to_z w32 h.loop.b) e.raise-level.result c.step-balance.result
-          (next t) h.loop.invariant.2 e.raise-level.ensures.0 c.step-balance.type-inv c.step-balance.ensures,
-      λ j u v. ⊎_elim (λ x. h.loop.invariant.3 j u x) (λ x. let d : j ≡ h.loop.i =
-          omega arith in subst (λ (q : ℕ). bal at q <ℤ pos 0) (sym d) (below t)) (lt-or-le j h.loop.i),
-      omega (arith, h.loop.invariant.4),
-      raised at.args.sizes at.args.counts.now h.loop.i _ _ h.loop.balance-box _ h.loop.invariant.5 e.raise-level.ensures.1
+      step-up at.requires.searchable.0 at.requires.searchable.1 h.loop-b.i (to_z w32 h.loop-b.b) e.raise_level.result c.step_balance-b.result
+          (next t) h.loop-b.invariant.2 e.raise_level.ensures.0 c.step_balance-b.type_inv c.step_balance-b.ensures,
+      λ j u v. ⊎_elim (λ x. h.loop-b.invariant.3 j u x) (λ x. let d : j ≡ h.loop-b.i =
+          omega arith in subst (λ (q : ℕ). bal at q <ℤ pos 0) (sym d) (below t)) (lt-or-le j h.loop-b.i),
+      omega (arith, h.loop-b.invariant.4),
+      raised at.args.sizes at.args.counts.now h.loop-b.i _ _ h.loop-b.balance-box _ h.loop-b.invariant.5 e.raise_level.ensures.1
           (omega arith) refl,
     )
 
 -- the level where the loop ends reaches half
-reached : (c : tie.After-loop invariant-loop decreases-loop) → pos 0 ≤ℤ bal (start c.before) c.before.loop.i
-reached c = let enough = lt-false c.before.loop.invariant.2 refl c.loop-test.false in omega (arith, ints, enough)
+reached : (c : tie.After-loop-b invariant-loop decreases-loop) → pos 0 ≤ℤ bal (start c.before) c.loop-b.i
+reached c = let enough = lt-false c.loop-b.invariant.2 refl c.loop-b-test.false in omega (arith, ints, enough)
 
 returns : tie.Need-returns invariant-loop decreases-loop
 returns c =
-    let v = c.before.loop.invariant in
+    let v = c.loop-b.invariant in
     (record { level = v.1; from = v.0; here = reached c; before = v.3 }, v.4, v.5)
 
-pub climb-spec : {M : Type 1} → statement M
-climb-spec =
-    tie.close
-    (tie.spec
-    invariant-loop
-    decreases-loop
-    loop-holds
-    add-i
-    add-n
-    raise-level-requires
-    step-balance-requires
-    loop-less
-    loop-again
-    returns)
+pub climb_spec : {M : Type 1} → statement M
+climb_spec = tie.close (tie.spec invariant-loop decreases-loop loop-holds add-i add-n raise-level-requires step-balance-requires loop-less loop-again returns)

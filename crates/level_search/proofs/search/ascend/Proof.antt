@@ -13,286 +13,241 @@ use Rattle.level_search.proofs.BlockLaws.{tally-block, fail-block}
 use Rattle.level_search.proofs.search.ascend.Statement.{statement}
 use Rattle.level_search.proofs.search.ascend.Tie as tie
 
-abbrev invariant-loop : tie.invariant-loop
+abbrev invariant-loop : tie.invariant-loop-i
 invariant-loop counts sums k heaviest shifts last first count₀ sum₀ i₀ count sum i = Ascending k counts sums first count sum i
 
-abbrev decreases-loop : tie.decreases-loop
+abbrev decreases-loop : tie.decreases-loop-i
 decreases-loop counts sums k heaviest shifts last first count₀ sum₀ i₀ count sum i = last - i
 
 heaviest-is : (c : tie.Start invariant-loop decreases-loop) → read_back w64 c.args.heaviest ≡ c.args.heaviest
-heaviest-is c = read-bounded w64 240207812100 c.requires.0.1.small tt
+heaviest-is c = read-bounded w64 240207812100 c.requires.lists_searchable.1.small tt
 
 -- a tally is small
 small : (c : tie.Start invariant-loop decreases-loop) (i n s : ℕ) → i ≤ length c.args.counts.now →
     TallyTo c.args.counts.now c.args.sums.now i (tally n s) → (n ≤ 961) × (s ≤ 245055)
-small c i n s h a = let q = c.requires.0.0.cells in (omega (arith, a.count, q.count_high i h), omega (arith, a.sum, q.sum_high i h))
+small c i n s h a = let q = c.requires.lists_searchable.0.cells in (omega (arith, a.count, q.count_high i h), omega (arith, a.sum, q.sum_high i h))
 
-abbrev start : tie.At-loop invariant-loop decreases-loop → tie.Start invariant-loop decreases-loop
+abbrev start : tie.At-loop-i invariant-loop decreases-loop → tie.Start invariant-loop decreases-loop
 start h = h.before.before.before.before
 
 -- ---- a block that is passed over
-abbrev head : tie.Then2 invariant-loop decreases-loop → tie.At-loop invariant-loop decreases-loop
+abbrev head : tie.Then-light invariant-loop decreases-loop → tie.At-loop-i invariant-loop decreases-loop
 head c = c.before.before.before.before
 
-is-light : (c : tie.Then2 invariant-loop decreases-loop) →
-    Light (start (head c)).args.coefficients (start (head c)).args.heaviest (start (head c)).args.counts.now (head c).loop.i
-    (head c).loop.count (head c).loop.sum
+is-light : (c : tie.Then-light invariant-loop decreases-loop) →
+    Light (start (head c)).args.coefficients (start (head c)).args.heaviest (start (head c)).args.counts.now (head c).loop-i.i
+    (head c).loop-i.count (head c).loop-i.sum
 is-light c =
     let st = start (head c) in
-    let v = (head c).loop in
+    let v = (head c).loop-i in
     subst (λ (w : ℤ). Light st.args.coefficients w st.args.counts.now v.i v.count v.sum) (heaviest-is st)
-    (c.before.light.ensures c.if2.true)
+    (c.light.ensures c.if-light.true)
 
-after_block : (c : tie.After-total2 invariant-loop decreases-loop)
+after_block : (c : tie.After-total-sum invariant-loop decreases-loop)
     →
     TallyTo (start (head c.before.before)).args.counts.now (start (head c.before.before)).args.sums.now
-    ((head c.before.before).loop.i + 16)
-    (tally ((head c.before.before).loop.count + c.before.total.result) ((head c.before.before).loop.sum + c.total2.result))
+    ((head c.before.before).loop-i.i + 16)
+    (tally ((head c.before.before).loop-i.count + c.total-count.result) ((head c.before.before).loop-i.sum + c.total-sum.result))
 after_block c =
-    tally-block c.before.total.result c.total2.result (head c.before.before).loop.inv.tally c.before.total.ensures
-    c.total2.ensures
+    tally-block c.total-count.result c.total-sum.result (head c.before.before).loop-i.inv.tally c.total-count.ensures
+    c.total-sum.ensures
 
 -- ---- a level
-after-level : (h : tie.At-loop invariant-loop decreases-loop)
+after-level : (h : tie.At-loop-i invariant-loop decreases-loop)
     →
-    TallyTo (start h).args.counts.now (start h).args.sums.now (h.loop.i + 1)
-    (tally (h.loop.count + get_or (start h).args.counts.now h.loop.i 0) (h.loop.sum + get_or (start h).args.sums.now h.loop.i 0))
-after-level h = tally-next h.loop.invariant.tally
+    TallyTo (start h).args.counts.now (start h).args.sums.now (h.loop-i.i + 1)
+    (tally (h.loop-i.count + get_or (start h).args.counts.now h.loop-i.i 0) (h.loop-i.sum + get_or (start h).args.sums.now h.loop-i.i 0))
+after-level h = tally-next h.loop-i.invariant.tally
 
-level-small : (h : tie.At-loop invariant-loop decreases-loop)
+level-small : (h : tie.At-loop-i invariant-loop decreases-loop)
     →
-    (h.loop.count + get_or (start h).args.counts.now h.loop.i 0 ≤ 961) ×
-    (h.loop.sum + get_or (start h).args.sums.now h.loop.i 0 ≤ 245055)
-level-small h = small (start h) (h.loop.i + 1) _ _ (omega (arith, h.loop.invariant.to)) (after-level h)
+    (h.loop-i.count + get_or (start h).args.counts.now h.loop-i.i 0 ≤ 961) ×
+    (h.loop-i.sum + get_or (start h).args.sums.now h.loop-i.i 0 ≤ 245055)
+level-small h = small (start h) (h.loop-i.i + 1) _ _ (omega (arith, h.loop-i.invariant.to)) (after-level h)
 
-sub-last : tie.Need-overflow-sub-last invariant-loop decreases-loop
-sub-last c = omega (arith, c.before.before.requires.1.0.0)
+sub-last : tie.Need-overflow_sub-last invariant-loop decreases-loop
+sub-last c = omega (arith, c.requires.from_in_bounds.0.0)
 
-cast-first : tie.Need-overflow-cast-first invariant-loop decreases-loop
-cast-first c = let st = c.before.before.before in omega (arith, st.requires.1.0.0, st.requires.0.0.cells.levels)
+cast-first : tie.Need-overflow_cast-first invariant-loop decreases-loop
+cast-first c = let st = c.before.before.before in omega (arith, st.requires.from_in_bounds.0.0, st.requires.lists_searchable.0.cells.levels)
 
-loop-holds : tie.Need-loop-init invariant-loop decreases-loop
+loop-holds : tie.Need-loop-i-init invariant-loop decreases-loop
 loop-holds c = let st =
-    c.before.before.before in record { from_low = omega arith; to = st.pre.1.0.0; tally = st.pre.1.1.0; fails = st.pre.1.1.1 }
+    c.before.before.before in record { from_low = omega arith; to = st.requires.from_in_bounds.0.0; tally = st.requires.from_in_bounds.1.0; fails = st.requires.from_in_bounds.1.1 }
 
-cast-t16 : tie.Need-overflow-cast-t16 invariant-loop decreases-loop
-cast-t16 c = omega (arith, c.before.loop.invariant.to, (start c.before).pre.0.0.cells.levels)
+cast-t16 : tie.Need-overflow_cast-level invariant-loop decreases-loop
+cast-t16 c = omega (arith, c.loop-i.invariant.to, (start c.before).requires.lists_searchable.0.cells.levels)
 
 light-requires : tie.Need-light-requires invariant-loop decreases-loop
 light-requires c κs =
     let h = c.before.before in
     let st = start h in
-    let v = h.loop in
-    let q = st.pre.0.0 in
+    let v = h.loop-i in
+    let q = st.requires.lists_searchable.0 in
     let l = small st v.i v.count v.sum (omega (arith, v.invariant.to)) v.invariant.tally in (
-      (q.small, subst (λ (w : ℤ). nat_abs w ≤ 240207812100) (sym (heaviest-is st)) st.pre.0.1.small, l.0, l.1),
+      (q.small, subst (λ (w : ℤ). nat_abs w ≤ 240207812100) (sym (heaviest-is st)) st.requires.lists_searchable.1.small, l.0, l.1),
       (v.invariant.to, q.cells.levels, q.cells.count_high),
     )
 
-total-requires : tie.Need-total-requires invariant-loop decreases-loop
+total-requires : tie.Need-total-count-requires invariant-loop decreases-loop
 total-requires c κs =
-    let q = (start (head c)).pre.0.0.cells in
+    let q = (start (head c)).requires.lists_searchable.0.cells in
     let h = (is-light c).whole in
-    (h, q.levels, omega (arith, q.count_high ((head c).loop.i + 16) h))
+    (h, q.levels, omega (arith, q.count_high ((head c).loop-i.i + 16) h))
 
-add-count : tie.Need-overflow-add-count invariant-loop decreases-loop
+add-count : tie.Need-overflow_add-count invariant-loop decreases-loop
 add-count c =
     let h = head c.before in
     omega
-    (arith, c.total.ensures, h.loop.inv.tally.count, (start h).pre.0.0.cells.count_high (h.loop.i + 16) (is-light c.before).whole)
+    (arith, c.total-count.ensures, h.loop-i.inv.tally.count, (start h).requires.lists_searchable.0.cells.count_high (h.loop-i.i + 16) (is-light c.before).whole)
 
-total-requires-2 : tie.Need-total-requires-2 invariant-loop decreases-loop
+total-requires-2 : tie.Need-total-sum-requires invariant-loop decreases-loop
 total-requires-2 c κs =
     let h = head c.before in
-    let q = (start h).pre.0.0.cells in
+    let q = (start h).requires.lists_searchable.0.cells in
     let l = (is-light c.before).whole in
-    (omega (arith, q.long), omega (arith, q.long, q.levels), q.sum_high (h.loop.i + 16) l)
+    (omega (arith, q.long), omega (arith, q.long, q.levels), q.sum_high (h.loop-i.i + 16) l)
 
-add-sum : tie.Need-overflow-add-sum invariant-loop decreases-loop
+add-sum : tie.Need-overflow_add-sum invariant-loop decreases-loop
 add-sum c =
     let h = head c.before.before in
     omega (
       arith,
-      c.total2.ensures,
-      h.loop.inv.tally.sum,
-      (start h).pre.0.0.cells.sum_high (h.loop.i + 16)
+      c.total-sum.ensures,
+      h.loop-i.inv.tally.sum,
+      (start h).requires.lists_searchable.0.cells.sum_high (h.loop-i.i + 16)
           (is-light c.before.before).whole,
     )
 
-add-i : tie.Need-overflow-add-i invariant-loop decreases-loop
-add-i c = let t = c.before.before in omega (arith, (is-light t).whole, (start (head t)).pre.0.0.cells.levels)
+add-i : tie.Need-overflow_add-i invariant-loop decreases-loop
+add-i c = let t = c.before.before in omega (arith, (is-light t).whole, (start (head t)).requires.lists_searchable.0.cells.levels)
 
-loop-less : tie.Need-loop-smaller invariant-loop decreases-loop
-loop-less c = omega (arith, c.before.before.before.before.before.loop-test.true)
+loop-less : tie.Need-loop-i-smaller-then-light invariant-loop decreases-loop
+loop-less c = omega (arith, c.loop-i-test.true)
 
-loop-again : tie.Need-loop-preserved invariant-loop decreases-loop
+loop-again : tie.Need-loop-i-preserved-then-light invariant-loop decreases-loop
 loop-again c =
     let t = c.before.before in
     let st = start (head t) in
-    let v = (head t).loop.invariant in
+    let v = (head t).loop-i.invariant in
     let l = is-light t in
-    let f = fail-block st.pre.0.1 v.tally l v.fails in
-    record { from_low = omega (arith, v.from_low); to = omega (arith, fail-inside st.pre.0.0 f); tally = after_block c; fails = f }
+    let f = fail-block st.requires.lists_searchable.1 v.tally l v.fails in
+    record { from_low = omega (arith, v.from_low); to = omega (arith, fail-inside st.requires.lists_searchable.0 f); tally = after_block c; fails = f }
 
-mul-count : tie.Need-overflow-mul-count invariant-loop decreases-loop
-mul-count c = let h = c.before.before in omega (arith, h.loop.invariant.to, (start h).well-formed)
+mul-count : tie.Need-offset_bounds-counts-i invariant-loop decreases-loop
+mul-count c = let h = c.before.before in omega (arith, h.loop-i.invariant.to, (start h).well_formed)
 
-shared-slice-read-count : tie.Need-shared-slice-read-count invariant-loop decreases-loop
-shared-slice-read-count c = c.before.before.before.loop.invariant.to
+shared-slice-read-count : tie.Need-bounds-counts-i invariant-loop decreases-loop
+shared-slice-read-count c = c.loop-i.invariant.to
 
-cast-count : tie.Need-overflow-cast-count invariant-loop decreases-loop
-cast-count c = omega (arith, c.shared-slice-known3.given c.before.before.before.loop.i)
+cast-count : tie.Need-overflow_cast-count invariant-loop decreases-loop
+cast-count c = omega (arith, c.shared_slice_known-else-i-eq0-1.given c.loop-i.i)
 
-add-count-2 : tie.Need-overflow-add-count-2 invariant-loop decreases-loop
+add-count-2 : tie.Need-overflow_add-count-else-i-eq0 invariant-loop decreases-loop
 add-count-2 c = omega (arith, (level-small c.before.before.before).0)
 
-mul-sum : tie.Need-overflow-mul-sum invariant-loop decreases-loop
-mul-sum c = let h = c.before.before.before in omega (arith, h.loop.invariant.to, (start h).requires.0.0.cells.long, (start h).well-formed)
+mul-sum : tie.Need-offset_bounds-sums-i invariant-loop decreases-loop
+mul-sum c = let h = c.before.before.before in omega (arith, h.loop-i.invariant.to, (start h).requires.lists_searchable.0.cells.long, (start h).well_formed)
 
-shared-slice-read-sum : tie.Need-shared-slice-read-sum invariant-loop decreases-loop
-shared-slice-read-sum c = let h = c.before.before.before.before in omega (arith, h.loop.invariant.to, (start h).requires.0.0.cells.long)
+shared-slice-read-sum : tie.Need-bounds-sums-i invariant-loop decreases-loop
+shared-slice-read-sum c = let h = c.before.before.before.before in omega (arith, h.loop-i.invariant.to, (start h).requires.lists_searchable.0.cells.long)
 
-cast-sum : tie.Need-overflow-cast-sum invariant-loop decreases-loop
-cast-sum c = omega (arith, c.shared-slice-known4.given c.before.before.before.before.loop.i)
+cast-sum : tie.Need-overflow_cast-sum invariant-loop decreases-loop
+cast-sum c = omega (arith, c.shared_slice_known-else-i-eq0-2-1.given c.loop-i.i)
 
-add-sum-2 : tie.Need-overflow-add-sum-2 invariant-loop decreases-loop
+add-sum-2 : tie.Need-overflow_add-sum-else-i-eq0 invariant-loop decreases-loop
 add-sum-2 c = omega (arith, (level-small c.before.before.before.before).1)
 
 reached-requires : tie.Need-reached-requires invariant-loop decreases-loop
-reached-requires c κs = let h = c.before.before.before.before in ((start h).requires.0.0.small, level-small h)
+reached-requires c κs = let h = c.before.before.before.before in ((start h).requires.lists_searchable.0.small, level-small h)
 
 passes-is : (c : tie.After-reached invariant-loop decreases-loop) →
     c.reached.result ≡ passes (start c.before.before.before.before.before).args.coefficients
     (start c.before.before.before.before.before).args.counts.now (start c.before.before.before.before.before).args.sums.now
-    c.before.before.before.before.before.loop.i
+    c.loop-i.i
 passes-is c = let h =
-    c.before.before.before.before.before in c.reached.ensures ∙ half_at (start h).args.coefficients h.loop.i (after-level h)
+    c.before.before.before.before.before in c.reached.ensures ∙ half_at (start h).args.coefficients h.loop-i.i (after-level h)
 
-sub-ended : tie.Need-overflow-sub-ended invariant-loop decreases-loop
-sub-ended c = c.before.before.before.before.before.before.loop.invariant.from_low
+sub-ended : tie.Need-overflow_sub-i invariant-loop decreases-loop
+sub-ended c = c.loop-i.invariant.from_low
 
-add-ended : tie.Need-overflow-add-ended invariant-loop decreases-loop
+add-ended : tie.Need-overflow_add-shifts invariant-loop decreases-loop
 add-ended c = let h =
-    c.before.before.before.before.before.before in omega (arith, h.loop.inv.to, (start h).pre.0.0.cells.levels, (start h).pre.1.0.1)
+    c.before.before.before.before.before.before in omega (arith, h.loop-i.inv.to, (start h).requires.lists_searchable.0.cells.levels, (start h).requires.from_in_bounds.0.1)
 
 ended-requires : tie.Need-ended-requires invariant-loop decreases-loop
 ended-requires c κs = tt
 
-returns : tie.Need-returns invariant-loop decreases-loop
+returns : tie.Need-returns-then-reached invariant-loop decreases-loop
 returns c =
     let r = c.before.before in
     let h = r.before.before.before.before.before in
-    let v = h.loop.invariant in
+    let v = h.loop-i.invariant in
     let m = shifted (start h).args.shifts (start h).args.from.0 c.ended.ensures (omega (arith, v.from_low)) v.from_low in
-    (found-at c.ended.ensures v.fails v.to (sym (passes-is r) ∙ c.before.if3.true) (after-level h), m.0, m.1)
+    (found-at c.ended.ensures v.fails v.to (sym (passes-is r) ∙ c.if-reached.true) (after-level h), m.0, m.1)
 
-add-i-2 : tie.Need-overflow-add-i-2 invariant-loop decreases-loop
-add-i-2 c = let h = c.before.before.before.before.before.before in omega (arith, h.loop.invariant.to, (start h).requires.0.0.cells.levels)
+add-i-2 : tie.Need-overflow_add-i-else-i-eq0 invariant-loop decreases-loop
+add-i-2 c = let h = c.before.before.before.before.before.before in omega (arith, h.loop-i.invariant.to, (start h).requires.lists_searchable.0.cells.levels)
 
-loop-less-2 : tie.Need-loop-smaller-2 invariant-loop decreases-loop
-loop-less-2 c = omega (arith, c.before.before.before.before.before.loop-test.true)
+loop-less-2 : tie.Need-loop-i-smaller invariant-loop decreases-loop
+loop-less-2 c = omega (arith, c.loop-i-test.true)
 
-loop-again-2 : tie.Need-loop-preserved-2 invariant-loop decreases-loop
+loop-again-2 : tie.Need-loop-i-preserved invariant-loop decreases-loop
 loop-again-2 c =
     let h = c.before.before.before.before.before.before in
-    let v = h.loop.invariant in
+    let v = h.loop-i.invariant in
     record {
       from_low = omega (arith, v.from_low);
-      to = omega (arith, c.before.before.before.before.before.loop-test.true);
+      to = omega (arith, c.loop-i-test.true);
       tally =
           after-level h;
-      fails = fail-next v.fails (sym (passes-is c.before) ∙ c.if3.false);
+      fails = fail-next v.fails (sym (passes-is c.before) ∙ c.if-reached.false);
     }
 
 -- ---- the last level: none below it passes, so it does
-mul-count-2 : tie.Need-overflow-mul-count-2 invariant-loop decreases-loop
-mul-count-2 c = omega (arith, c.before.loop.invariant.to, (start c.before).good)
+mul-count-2 : tie.Need-offset_bounds-counts-i-2 invariant-loop decreases-loop
+mul-count-2 c = omega (arith, c.loop-i.invariant.to, (start c.before).good)
 
-shared-slice-read-count-2 : tie.Need-shared-slice-read-count-2 invariant-loop decreases-loop
-shared-slice-read-count-2 c = c.before.before.loop.invariant.to
+shared-slice-read-count-2 : tie.Need-bounds-counts-i-2 invariant-loop decreases-loop
+shared-slice-read-count-2 c = c.loop-i.invariant.to
 
-cast-count-2 : tie.Need-overflow-cast-count-2 invariant-loop decreases-loop
-cast-count-2 c = omega (arith, c.shared-slice-known5.given c.before.before.loop.i)
+cast-count-2 : tie.Need-overflow_cast-count-2 invariant-loop decreases-loop
+cast-count-2 c = omega (arith, c.shared_slice_known-3-1.given c.loop-i.i)
 
-add-count-3 : tie.Need-overflow-add-count-3 invariant-loop decreases-loop
+add-count-3 : tie.Need-overflow_add-count-2 invariant-loop decreases-loop
 add-count-3 c = omega (arith, (level-small c.before.before).0)
 
-mul-sum-2 : tie.Need-overflow-mul-sum-2 invariant-loop decreases-loop
-mul-sum-2 c = let h = c.before.before in omega (arith, h.loop.invariant.to, (start h).requires.0.0.cells.long, (start h).well-formed)
+mul-sum-2 : tie.Need-offset_bounds-sums-i-2 invariant-loop decreases-loop
+mul-sum-2 c = let h = c.before.before in omega (arith, h.loop-i.invariant.to, (start h).requires.lists_searchable.0.cells.long, (start h).well_formed)
 
-shared-slice-read-sum-2 : tie.Need-shared-slice-read-sum-2 invariant-loop decreases-loop
-shared-slice-read-sum-2 c = let h = c.before.before.before in omega (arith, h.loop.invariant.to, (start h).requires.0.0.cells.long)
+shared-slice-read-sum-2 : tie.Need-bounds-sums-i-2 invariant-loop decreases-loop
+shared-slice-read-sum-2 c = let h = c.before.before.before in omega (arith, h.loop-i.invariant.to, (start h).requires.lists_searchable.0.cells.long)
 
-cast-sum-2 : tie.Need-overflow-cast-sum-2 invariant-loop decreases-loop
-cast-sum-2 c = omega (arith, c.shared-slice-known6.given c.before.before.before.loop.i)
+cast-sum-2 : tie.Need-overflow_cast-sum-2 invariant-loop decreases-loop
+cast-sum-2 c = omega (arith, c.shared_slice_known-4-1.given c.loop-i.i)
 
-add-sum-3 : tie.Need-overflow-add-sum-3 invariant-loop decreases-loop
+add-sum-3 : tie.Need-overflow_add-sum-2 invariant-loop decreases-loop
 add-sum-3 c = omega (arith, (level-small c.before.before.before).1)
 
-cast-t34 : tie.Need-overflow-cast-t34 invariant-loop decreases-loop
-cast-t34 c = let h = c.before.before.before in omega (arith, h.loop.invariant.to, (start h).requires.0.0.cells.levels)
+cast-t34 : tie.Need-overflow_cast-i invariant-loop decreases-loop
+cast-t34 c = let h = c.before.before.before in omega (arith, h.loop-i.invariant.to, (start h).requires.lists_searchable.0.cells.levels)
 
-sub-ended-2 : tie.Need-overflow-sub-ended-2 invariant-loop decreases-loop
-sub-ended-2 c = c.before.before.before.loop.invariant.from_low
+sub-ended-2 : tie.Need-overflow_sub-i-2 invariant-loop decreases-loop
+sub-ended-2 c = c.loop-i.invariant.from_low
 
-add-ended-2 : tie.Need-overflow-add-ended-2 invariant-loop decreases-loop
-add-ended-2 c = let h = c.before.before.before in omega (arith, h.loop.invariant.to, (start h).requires.0.0.cells.levels, (start h).requires.1.0.1)
+add-ended-2 : tie.Need-overflow_add-shifts-2 invariant-loop decreases-loop
+add-ended-2 c = let h = c.before.before.before in omega (arith, h.loop-i.invariant.to, (start h).requires.lists_searchable.0.cells.levels, (start h).requires.from_in_bounds.0.1)
 
 ended-requires-2 : tie.Need-ended-requires-2 invariant-loop decreases-loop
 ended-requires-2 c κs = tt
 
-returns-2 : tie.Need-returns-2 invariant-loop decreases-loop
+returns-2 : tie.Need-returns invariant-loop decreases-loop
 returns-2 c =
     let h = c.before.before.before.before in
-    let v = h.loop.invariant in
-    let m = shifted (start h).args.shifts (start h).args.from.0 c.ended2.ensures (omega (arith, v.from_low)) v.from_low in
-    let p = pass-last (start h).requires.0.0 (omega (arith, c.before.before.before.loop-test.false)) v.fails in
-    (found-at c.ended2.ensures v.fails v.to p (after-level h), m.0, m.1)
+    let v = h.loop-i.invariant in
+    let m = shifted (start h).args.shifts (start h).args.from.0 c.ended-2.ensures (omega (arith, v.from_low)) v.from_low in
+    let p = pass-last (start h).requires.lists_searchable.0 (omega (arith, c.loop-i-test.false)) v.fails in
+    (found-at c.ended-2.ensures v.fails v.to p (after-level h), m.0, m.1)
 
-pub ascend-spec : {M : Type 1} → statement M
-ascend-spec =
-    tie.close
-    (tie.spec
-    invariant-loop
-    decreases-loop
-    sub-last
-    cast-first
-    loop-holds
-    cast-t16
-    light-requires
-    total-requires
-    add-count
-    total-requires-2
-    add-sum
-    add-i
-    loop-less
-    loop-again
-    mul-count
-    shared-slice-read-count
-    cast-count
-    add-count-2
-    mul-sum
-    shared-slice-read-sum
-    cast-sum
-    add-sum-2
-    reached-requires
-    sub-ended
-    add-ended
-    ended-requires
-    returns
-    add-i-2
-    loop-less-2
-    loop-again-2
-    mul-count-2
-    shared-slice-read-count-2
-    cast-count-2
-    add-count-3
-    mul-sum-2
-    shared-slice-read-sum-2
-    cast-sum-2
-    add-sum-3
-    cast-t34
-    sub-ended-2
-    add-ended-2
-    ended-requires-2
-    returns-2)
+pub ascend_spec : {M : Type 1} → statement M
+ascend_spec = tie.close (tie.spec invariant-loop decreases-loop sub-last cast-first loop-holds cast-t16 light-requires total-requires add-count total-requires-2 add-sum add-i loop-less loop-again mul-count shared-slice-read-count cast-count add-count-2 mul-sum shared-slice-read-sum cast-sum add-sum-2 reached-requires sub-ended add-ended ended-requires returns add-i-2 loop-less-2 loop-again-2 mul-count-2 shared-slice-read-count-2 cast-count-2 add-count-3 mul-sum-2 shared-slice-read-sum-2 cast-sum-2 add-sum-3 cast-t34 sub-ended-2 add-ended-2 ended-requires-2 returns-2)

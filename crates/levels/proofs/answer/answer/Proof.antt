@@ -5,32 +5,32 @@ use Rattle.level_search.proofs.BlockLaws.{handed-on}
 use Rattle.levels.proofs.answer.answer.Statement.{statement}
 use Rattle.levels.proofs.answer.answer.Tie as tie
 
-abbrev start : tie.After-heaviest → tie.Start
+abbrev start : tie.After-heaviest-heaviest → tie.Start
 start h = h.before.before.before
 
-heaviest-requires : tie.Need-heaviest-requires
-heaviest-requires c κs = let p = c.before.before.requires.0 in (p.search.small, (p.guides_some, p.guides_high))
+heaviest-requires : tie.Need-heaviest-heaviest-requires
+heaviest-requires c κs = let p = c.requires.0 in (p.search.small, (p.guides_some, p.guides_high))
 
-from-cut-requires : tie.Need-from-cut-requires
+from-cut-requires : tie.Need-from_cut-requires
 from-cut-requires c κs =
     let h = c.before in
     let p = (start h).requires.0 in
     let from = (start h).requires.1 in
-    let m = c.if1.true in
-    ((p.search, handed-on (p.heaviest _ h.heaviest.ensures)), ((from.cut, p.shifts), (from.tally m, p.rising m)))
+    let m = c.if-monotone.true in
+    ((p.search, handed-on (p.heaviest-heaviest _ h.heaviest-heaviest.ensures)), ((from.cut, p.shifts), (from.tally m, p.rising m)))
 
-returns : tie.Need-returns
-returns c = rw c.before.if1.true c.from_cut.ensures
+returns : tie.Need-returns-then-monotone
+returns c = rw c.if-monotone.true c.from_cut.ensures
 
 ascend-requires : tie.Need-ascend-requires
 ascend-requires c κs =
     let h = c.before in
     let p = (start h).requires.0 in
     let from = (start h).requires.1 in
-    ((p.search, handed-on (p.heaviest _ h.heaviest.ensures)), ((omega (arith, from.cut), omega (arith, p.shifts)), (tally-none, fail-none)))
+    ((p.search, handed-on (p.heaviest-heaviest _ h.heaviest-heaviest.ensures)), ((omega (arith, from.cut), omega (arith, p.shifts)), (tally-none, fail-none)))
 
-returns-2 : tie.Need-returns-2
-returns-2 c = rw c.before.if1.false ((c.ascend.ensures.0, omega (arith, c.ascend.ensures.1)))
+returns-2 : tie.Need-returns
+returns-2 c = rw c.if-monotone.false ((c.ascend.ensures.0, omega (arith, c.ascend.ensures.1)))
 
-pub answer-spec : {M : Type 1} → statement M
-answer-spec = tie.close (tie.spec heaviest-requires from-cut-requires returns ascend-requires returns-2)
+pub answer_spec : {M : Type 1} → statement M
+answer_spec = tie.close (tie.spec heaviest-requires from-cut-requires returns ascend-requires returns-2)

@@ -15,18 +15,18 @@ use Rattle.program.proofs.answer.put_guided.Statement.{statement}
 use Rattle.program.proofs.answer.put_guided.Tie as tie
 
 -- where the call began
-abbrev begun : tie.Else1 → tie.Start
+abbrev begun : tie.Else-plan-ne2 → tie.Start
 begun d = d.before.before.before.before
 
 -- the two shift counts
-columns-count : (e : tie.After-filter-by) → e.filter-by.result ≡ shift_count Joint (begun e.before.before).args.input.now
+columns-count : (e : tie.After-filter_by-columns) → e.filter_by-columns.result ≡ shift_count Joint (begun e.before.before).args.input.now
 unfolding way_of
-columns-count e = by-levels e.filter-by.ensures refl
+columns-count e = by-levels e.filter_by-columns.ensures refl
 
-chain-count : (e : tie.After-filter-by2) →
-    e.filter-by2.result ≡ shift_count Joint (begun e.before.before.before.before.before.before.before.before.before).args.input.now
+chain-count : (e : tie.After-filter_by-chain) →
+    e.filter_by-chain.result ≡ shift_count Joint (begun e.before.before.before.before.before.before.before.before.before).args.input.now
 unfolding way_of
-chain-count e = by-levels e.filter-by2.ensures refl
+chain-count e = by-levels e.filter_by-chain.ensures refl
 
 -- the two lines, the room for both, and the first of them
 abbrev first : tie.Start → List ℕ
@@ -35,68 +35,51 @@ first s = way_text columns_word (shift_count Joint s.args.input.now)
 abbrev second : tie.Start → List ℕ
 second s = way_text chain_word (shift_count Joint s.args.input.now)
 
-both : (d : tie.Else1) → TextRoom (begun d).args.out.now (begun d).args.at (first (begun d) ++ second (begun d))
-both d = let s = begun d in rw (guided-both s.args.plan.kind (shift_count Joint s.args.input.now) d.if1.false) at s.pre.1
+both : (d : tie.Else-plan-ne2) → TextRoom (begun d).args.out-1.now (begun d).args.at (first (begun d) ++ second (begun d))
+both d = let s = begun d in rw (guided-both s.args.plan.kind (shift_count Joint s.args.input.now) d.if-plan-ne2.false) at s.requires.text_room
 
-columns : (e : tie.After-put-way) →
+columns : (e : tie.After-put_way-next) →
     let s = begun e.before.before.before.before.before in
-    Puts s.args.out.now e.put-way.new.0 s.args.at e.put-way.result (first s)
-columns e = called (ap (way_text columns_word) (columns-count e.before.before.before)) e.put-way.ensures
+    Puts s.args.out-1.now e.put_way-next.new.0 s.args.at e.put_way-next.result (first s)
+columns e = called (ap (way_text columns_word) (columns-count e.before.before.before)) e.put_way-next.ensures
 
-returns : tie.Need-returns
+returns : tie.Need-returns-then-plan-ne2
 returns c =
     let s = c.before.before.before.before in
-    called (sym (guided-none s.args.plan.kind (shift_count Joint s.args.input.now) c.if1.true)) (none s.args.out.now s.args.at)
+    called (sym (guided-none s.args.plan.kind (shift_count Joint s.args.input.now) c.if-plan-ne2.true)) (none s.args.out-1.now s.args.at)
 
-filter-by-requires : tie.Need-filter-by-requires
+filter-by-requires : tie.Need-filter_by-columns-requires
 filter-by-requires c κs =
     let d = c.before in
-    record { plan = _; admitted = (begun d).requires.0; serving = inr (inl refl, d.if1.false) }
+    record { plan = _; admitted = (begun d).requires.admitted; serving = inr (inl refl, d.if-plan-ne2.false) }
 
-slice-aggregate-put-way : tie.Need-slice-aggregate-put-way
-slice-aggregate-put-way c = search rules
-
-put-way-requires : tie.Need-put-way-requires
+put-way-requires : tie.Need-put_way-next-requires
 put-way-requires c κs =
     let d = c.before.before.before.before in
     let s = begun d in
-    rw (columns-count c.before.before) (room-first s.args.out.now s.args.at (first s) (second s) (both d))
+    rw (columns-count c.before.before) (room-first s.args.out-1.now s.args.at (first s) (second s) (both d))
 
-filter-by-requires-2 : tie.Need-filter-by-requires-2
+filter-by-requires-2 : tie.Need-filter_by-chain-requires
 filter-by-requires-2 c κs =
     let d = c.before.before.before.before.before.before.before.before in
-    record { plan = _; admitted = (begun d).requires.0; serving = inr (inr refl, d.if1.false) }
+    record { plan = _; admitted = (begun d).requires.admitted; serving = inr (inr refl, d.if-plan-ne2.false) }
 
-slice-aggregate-put-way-2 : tie.Need-slice-aggregate-put-way-2
-slice-aggregate-put-way-2 c = search rules
-
-put-way-requires-2 : tie.Need-put-way-requires-2
+put-way-requires-2 : tie.Need-put_way-requires
 put-way-requires-2 c κs =
     let d = c.before.before.before.before.before.before.before.before.before.before.before in
     let s = begun d in
     rw (chain-count c.before.before) (room_next (second s) (both d) (columns c.before.before.before.before.before.before))
 
-same_length : tie.Need-same-length
+same_length : tie.Need-shape_of-out
 same_length c = search rules
 
-returns-2 : tie.Need-returns-2
+returns-2 : tie.Need-returns
 returns-2 c =
     let d = c.before.before.before.before.before.before.before.before.before.before.before.before.before.before in
     let s = begun d in
-    called (sym (guided-both s.args.plan.kind (shift_count Joint s.args.input.now) d.if1.false))
+    called (sym (guided-both s.args.plan.kind (shift_count Joint s.args.input.now) d.if-plan-ne2.false))
     (joined (columns c.before.before.before.before.before.before.before.before.before)
-    (called (ap (way_text chain_word) (chain-count c.before.before.before.before.before)) c.before.before.put-way2.ensures))
+    (called (ap (way_text chain_word) (chain-count c.before.before.before.before.before)) c.put_way.ensures))
 
-pub put-guided-spec : {M : Type 1} → statement M
-put-guided-spec =
-    tie.close
-    (tie.spec
-    returns
-    filter-by-requires
-    slice-aggregate-put-way
-    put-way-requires
-    filter-by-requires-2
-    slice-aggregate-put-way-2
-    put-way-requires-2
-    same_length
-    returns-2)
+pub put_guided_spec : {M : Type 1} → statement M
+put_guided_spec = tie.close (tie.spec returns filter-by-requires put-way-requires filter-by-requires-2 put-way-requires-2 same_length returns-2)

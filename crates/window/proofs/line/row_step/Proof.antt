@@ -8,13 +8,13 @@ use borrow.Author.Rules.{rules}
 use Rattle.window.proofs.line.row_step.Statement.{statement}
 use Rattle.window.proofs.line.row_step.Tie as tie
 
-row-line-requires : tie.Need-row-line-requires
+row-line-requires : tie.Need-row_line-d-requires
 row-line-requires c κs = search rules
 
 forward-requires : tie.Need-forward-requires
 forward-requires c κs = let s =
     c.before in (
-      rw c.row_Line.ensures (row_low s.args.plan s.pre.0 s.args.s 0 (omega arith) s.pre.1.0),
+      rw c.row_line-d.ensures (row_low s.args.plan s.requires.plan_limits s.args.s 0 (omega arith) s.requires.s_lt_width.0),
       omega arith,
       omega arith,
       omega
@@ -25,8 +25,8 @@ forward-requires c κs = let s =
 returns : tie.Need-returns
 unfolding row_step
 returns c = let a =
-    c.before.before.args in c.forward.ensures ∙ ap (λ (d : Line). advance d a.plan.width a.c a.plan.radius a.plan.height)
-    c.before.row_Line.ensures
+    c.args in c.forward.ensures ∙ ap (λ (d : Line). advance d a.plan.width a.c a.plan.radius a.plan.height)
+    c.row_line-d.ensures
 
-pub row-step-spec : {M : Type 1} → statement M
-row-step-spec = tie.close (tie.spec row-line-requires forward-requires returns)
+pub row_step_spec : {M : Type 1} → statement M
+row_step_spec = tie.close (tie.spec row-line-requires forward-requires returns)

@@ -17,47 +17,46 @@ use Rattle.window_weights.proofs.coefficients.monotone.Statement.{statement}
 use Rattle.window_weights.proofs.coefficients.monotone.Tie as tie
 
 guides_low : (c : tie.Start) → c.args.plan.guides - 1 ≤ 255
-guides_low c = omega (arith, c.requires.0)
+guides_low c = omega (arith, c.requires.le_guides)
 
 abbrev env : tie.Start → List Cell
 env c =
-    param_cell w64 c.args.coefficients.slope 235497855 c.requires.1.slope tt
-    ∷ param_cell w64 c.args.coefficients.offset 180155859075 c.requires.1.offset tt
+    param_cell w64 c.args.coefficients.slope 235497855 c.requires.coefficients_small.slope tt
+    ∷ param_cell w64 c.args.coefficients.offset 180155859075 c.requires.coefficients_small.offset tt
     ∷ unsigned_cell w64 (c.args.plan.guides - 1) 255 (guides_low c) tt
     ∷ []
 
-sub-high : tie.Need-overflow-sub-high
+sub-high : tie.Need-overflow_sub-high
 sub-high c = search rules
 
-cast-high : tie.Need-overflow-cast-high
+cast-high : tie.Need-overflow_cast-high
 cast-high c = search rules
 
-mul-high : tie.Need-overflow-mul-high
+mul-high : tie.Need-overflow_mul-high
 mul-high c = need! w64 (env c.before.before.before.before) (search signed_code depth 12) tt
 
-add-high : tie.Need-overflow-add-high
+add-high : tie.Need-overflow_add-high
 add-high c = need! w64 (env c.before.before.before.before.before.before) (search signed_code depth 12) tt
 
-returns : tie.Need-returns
+returns : tie.Need-returns-then-low-lt0
 unfolding ends_not_negative
 returns c = let st = c.before.before.before.before.before.before.before in let k =
     st.args.coefficients in sym
     (ap (λ (b : Bool). b && non_neg (k.slope *ℤ pos (st.args.plan.guides - 1) +ℤ k.offset))
-    (is-neg k.offset (lt-true (computes w64 (env st) x₁ tt) refl c.if1.true)))
+    (is-neg k.offset (lt-true (computes w64 (env st) x₁ tt) refl c.if-low-lt0.true)))
 
-returns-2 : tie.Need-returns-2
+returns-2 : tie.Need-returns-then-high-lt0
 unfolding ends_not_negative
 returns-2 c = let st =
     c.before.before.before.before.before.before.before.before in sym
-    (both_false (non_neg st.args.coefficients.offset) (is-neg _ (lt-true (computes w64 (env st) (x₀ ⊗ x₂ ⊕ x₁) tt) refl c.if2.true)))
+    (both_false (non_neg st.args.coefficients.offset) (is-neg _ (lt-true (computes w64 (env st) (x₀ ⊗ x₂ ⊕ x₁) tt) refl c.if-high-lt0.true)))
 
-returns-3 : tie.Need-returns-3
+returns-3 : tie.Need-returns
 unfolding ends_not_negative
 returns-3 c = let st =
     c.before.before.before.before.before.before.before.before in sym
-    (ap₂ (λ (x y : Bool). x && y) (not_neg _ (lt-false (computes w64 (env st) x₁ tt) refl c.before.if1.false))
-    (not_neg _ (lt-false (computes w64 (env st) (x₀ ⊗ x₂ ⊕ x₁) tt) refl c.if2.false)))
+    (ap₂ (λ (x y : Bool). x && y) (not_neg _ (lt-false (computes w64 (env st) x₁ tt) refl c.if-low-lt0.false))
+    (not_neg _ (lt-false (computes w64 (env st) (x₀ ⊗ x₂ ⊕ x₁) tt) refl c.if-high-lt0.false)))
 
-pub monotone-spec : {M : Type 1} → statement M
-monotone-spec =
-    tie.close (tie.spec sub-high cast-high mul-high add-high returns returns-2 returns-3)
+pub monotone_spec : {M : Type 1} → statement M
+monotone_spec = tie.close (tie.spec sub-high cast-high mul-high add-high returns returns-2 returns-3)

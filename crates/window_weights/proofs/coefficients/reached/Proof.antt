@@ -13,29 +13,29 @@ use Rattle.window_weights.proofs.coefficients.reached.Tie as tie
 
 abbrev env : tie.Start → List Cell
 env c =
-    param_cell w64 c.args.coefficients.slope 235497855 c.requires.0.slope tt
-    ∷ param_cell w64 c.args.coefficients.offset 180155859075 c.requires.0.offset tt
-    ∷ param_cell w64 c.args.coefficients.total 173129780571075 c.requires.0.total tt
-    ∷ unsigned_cell w64 c.args.count 961 c.requires.1.0 tt
-    ∷ unsigned_cell w64 c.args.sum 245055 c.requires.1.1 tt
+    param_cell w64 c.args.coefficients.slope 235497855 c.requires.coefficients_small.slope tt
+    ∷ param_cell w64 c.args.coefficients.offset 180155859075 c.requires.coefficients_small.offset tt
+    ∷ param_cell w64 c.args.coefficients.total 173129780571075 c.requires.coefficients_small.total tt
+    ∷ unsigned_cell w64 c.args.count 961 c.requires.count_bound.0 tt
+    ∷ unsigned_cell w64 c.args.sum 245055 c.requires.count_bound.1 tt
     ∷ []
 
-cast-result : tie.Need-overflow-cast-result
+cast-result : tie.Need-overflow_cast-result
 cast-result c = search rules
 
-mul-result : tie.Need-overflow-mul-result
+mul-result : tie.Need-overflow_mul-result
 mul-result c = need! w64 (env c.before.before) (search signed_code depth 12) tt
 
-cast-result-2 : tie.Need-overflow-cast-result-2
+cast-result-2 : tie.Need-overflow_cast-result-2
 cast-result-2 c = search rules
 
-mul-result-2 : tie.Need-overflow-mul-result-2
+mul-result-2 : tie.Need-overflow_mul-result-2
 mul-result-2 c = need! w64 (env c.before.before.before.before) (search signed_code depth 12) tt
 
-add-result : tie.Need-overflow-add-result
+add-result : tie.Need-overflow_add-result
 add-result c = need! w64 (env c.before.before.before.before) (search signed_code depth 12) tt
 
-mul-result-3 : tie.Need-overflow-mul-result-3
+mul-result-3 : tie.Need-overflow_mul-result-3
 mul-result-3 c = need! w64 (env c.before.before.before.before) (search signed_code depth 12) tt
 
 returns : tie.Need-returns
@@ -44,7 +44,5 @@ returns c =
     let st = c.before.before.before.before.before.before in
     ap₂ le_z (computes w64 (env st) x₂ tt) (computes w64 (env st) (# 2 ⊗ (x₀ ⊗ x₄ ⊕ x₁ ⊗ x₃)) tt)
 
-pub reached-spec : {M : Type 1} → statement M
-reached-spec =
-    tie.close
-    (tie.spec cast-result mul-result cast-result-2 mul-result-2 add-result mul-result-3 returns)
+pub reached_spec : {M : Type 1} → statement M
+reached_spec = tie.close (tie.spec cast-result mul-result cast-result-2 mul-result-2 add-result mul-result-3 returns)

@@ -1,0 +1,20 @@
+-- `exchange` meets its contract. Assumes nothing.
+use native.Mathlib.Omega.{arith}
+use borrow.Author.Rules.{rules}
+use Rattle.pixels.proofs.AdditiveLaws.{leave_fits, exchanged}
+use Rattle.histogram.specs.Places.{share_at}
+use Rattle.histogram.proofs.exchange.Goals as goal
+
+pub change_pixels-requires-2 : goal.change_pixels-requires-2
+change_pixels-requires-2 c =
+    (
+      (c.requires.l_bound.0, omega (arith, c.requires.l_bound.1, c.change_pixels.auto.1.1.1.0), c.requires.l_bound.3),
+      record {
+        fits =
+            leave_fits (share_at c.args.l) c.requires.shares_exchangeable c.change_pixels.ensures;
+      },
+    )
+
+pub returns : goal.returns
+returns c =
+    exchanged (share_at c.args.l) c.requires.shares_exchangeable c.change_pixels.ensures c.change_pixels-2.ensures

@@ -1,0 +1,17 @@
+
+use native.Mathlib.Omega.{arith}
+use Rattle.icemedian_c.proofs.ExportLaws.{writes-narrowed, write-passed, write-stopped}
+use borrow.Author.Rules.{rules}
+use Rattle.icemedian_c.proofs.icemedian_write.Goals as goal
+
+pub returns-in-Length : goal.returns-in-Length
+returns-in-Length c =
+    write-passed
+    (writes-narrowed c.settings_from-settings.ensures
+    c.write-w.ensures) c.w-1.given.1 (omega arith)
+
+pub returns-in-Refused : goal.returns-in-Refused
+returns-in-Refused c =
+    write-stopped
+    (writes-narrowed c.settings_from-settings.ensures
+    c.write-w.ensures) c.w-in-Refused-1.given.1 c.report.ensures
