@@ -190,7 +190,7 @@ bounded-step {p} {x} {n} h b = go (move p.set x.column x.row b) refl (move-fine 
 pub bounded-after : {p : Frame} {x : State} {n : ℕ} → StateBounded p x n → (bs : List ℕ) → StateBounded p (after p x bs) (n + length bs)
 unfolding after
 bounded-after {p} {x} {n} h [] = let e : n + 0 ≡ n = omega arith in rw e h
-bounded-after {p} {x} {n} h (b ∷ bs) = let e : n + suc (length bs) ≡ suc n + length bs = omega arith in rw e (bounded-after (bounded-step h b) bs)
+bounded-after {p} {x} {n} h (b ∷ bs) = let e : n + suc (length bs) ≡ suc n + length bs = omega arith in rw e (bounded-after {x = step p x b} {n = suc n} (bounded-step h b) bs)
 
 -- ---- what a byte's answer says
 pub step-level : (p : Frame) (x : State) (b s t : ℕ) → move p.set x.column x.row b ≡ To s t → (step p x b).answer ≡ answer p s t

@@ -48,7 +48,7 @@ byte c k = omega (arith, c.shared_slice_known-1.given k)
 given : (st : Start) (i : ℕ) → Σ i (term st.args.a.now (read_back w64 st.args.n) (read_back w64 st.args.s)) ≡ total st i
 given st i = ap₂ (λ (n s : ℤ). Σ i (term st.args.a.now n s)) (read w64 st.ranges.n) (read w64 st.ranges.s)
 
-acc-is : (c : Body) → to_z w64 c.loop-i.acc ≡ total (start c) (i c)
+acc-is : (c : Body) → to_z w64 c.loop-i.acc-bits ≡ total (start c) (i c)
 acc-is c = c.loop-i.invariant.1 ∙ given (start c) (i c)
 
 acc-small : (c : Body) → nat_abs (total (start c) (i c)) ≤ 961 * 490110
@@ -67,7 +67,7 @@ env c =
     param_cell w64 (start c).args.n 961 (start c).requires.1 tt
     ∷ unsigned_cell w64 (get_or (start c).args.a.now (i c) 0) 255 (byte c (i c)) tt
     ∷ param_cell w64 (start c).args.s 245055 (start c).requires.2 tt
-    ∷ local_cell w64 c.loop-i.acc (total (start c) (i c)) (961 * 490110) (acc-is c) (acc-small c)
+    ∷ local_cell w64 c.loop-i.acc-bits (total (start c) (i c)) (961 * 490110) (acc-is c) (acc-small c)
     ∷ []
 
 loop-holds : tie.Need-loop-i-init invariant-loop decreases-loop
