@@ -17,7 +17,7 @@ is-empty-requires : tie.Need-is_empty-requires
 is-empty-requires c κs = search rules
 
 -- what the guard says of the window
-abbrev start : tie.After-is_empty → tie.start-a
+abbrev start : tie.After-is_empty → tie.Start
 start g = g.before.before.before
 
 said : (g : tie.After-is_empty) → let at = start g in g.is_empty.result ≡ empty (frame_of at.args.file.now) at.args.s at.args.t

@@ -123,7 +123,7 @@ loop-again c =
     let at = start h in (
       omega (arith, t.loop-k-test.taken),
       sum-again at.requires at.args.top.0 t.loop-k-test.taken (to_z w64 h.loop-k.sum) e.weigh.result h.loop-k.inv.1 (weighed e)
-          c.add_signed-sum.result c.add_signed-sum.type_inv c.add_signed-sum.ensures,
+          c.add_signed-sum.result c.add_signed-sum.type-inv c.add_signed-sum.ensures,
     )
 
 returns : tie.Need-returns invariant-loop decreases-loop

@@ -44,11 +44,11 @@ mul-row c = let t = c.before.before in let at =
 
 element-write-row : tie.Need-bounds-row-k invariant-loop decreases-loop
 element-write-row c = let t = c.before.before in let at =
-    start t.before in omega (arith, t.loop-k-test.true, guides_high at.requires.0, t.loop-k.invariant.1.long, t.loop-k.invariant.3)
+    start t.before.before in omega (arith, t.loop-k-test.true, guides_high at.requires.0, t.loop-k.invariant.1.long, t.loop-k.invariant.3)
 
 add-k : tie.Need-overflow_add-k invariant-loop decreases-loop
 add-k c = let t = c.before.before in let at =
-    start t.before in omega (arith, t.loop-k-test.true, guides_high at.requires.0, t.loop-k.invariant.1.long, t.loop-k.invariant.3)
+    start t.before.before in omega (arith, t.loop-k-test.true, guides_high at.requires.0, t.loop-k.invariant.1.long, t.loop-k.invariant.3)
 
 loop-less : tie.Need-loop-k-smaller invariant-loop decreases-loop
 loop-less c = omega (arith, c.loop-k-test.true)

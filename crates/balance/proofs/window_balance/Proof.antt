@@ -61,7 +61,7 @@ abbrev turn : tie.After-read-e invariant-loop decreases-loop → tie.In-loop-k i
 turn r = r.before.before.before
 
 abbrev list : tie.After-line_balance invariant-loop decreases-loop → tie.After-read-e invariant-loop decreases-loop
-list e = e.before.before.before.before
+list e = e.before.before.before
 
 listed : (r : tie.After-read-e invariant-loop decreases-loop) → let at =
     start (turn r).before in LinePixels at.args.file.now [] at.args.plan (line r).column_line-line.result
@@ -136,7 +136,7 @@ loop-again c =
     let q =
     column_again at.requires (listed r) at.args.top.0 e.line_balance.ensures h.loop-k.k (to_z w64 h.loop-k.sum) h.loop-k.inv.2
     h.low-x.result (line r).column_line-line.ensures h.loop-k.inv.1
-    c.add-sum.type_inv c.add-sum.ensures in
+    c.add-sum.type-inv c.add-sum.ensures in
     (omega (arith, (turn r).loop-k-test.taken), q.0, q.1)
 
 returns : tie.Need-returns invariant-loop decreases-loop

@@ -21,6 +21,6 @@ copy-requires-2 c =
 pub returns : goal.returns
 returns c =
     let a = c.args in
-    file-moved a.output-1.now a.file.now _ a.at a.n (omega (arith, c.requires.0))
+    file-moved a.output.now a.file.now _ a.at a.n (omega (arith, c.requires.0))
     (joined-plane-long a.file.now a.at a.n (omega (arith, c.requires.0))) c.copy.ensures
     c.join_plane.ensures c.copy-2.ensures refl

@@ -23,7 +23,7 @@ decreases-loop file from n at output₀ q₀ output q = n - q
 abbrev start : tie.At-loop-q invariant-loop decreases-loop → tie.Start invariant-loop decreases-loop
 start h = h.before.before.before.before.before.before.before
 
-long : (h : tie.At-loop-q invariant-loop decreases-loop) → length h.loop-q.output-1 ≡ length (start h).args.output-1.now
+long : (h : tie.At-loop-q invariant-loop decreases-loop) → length h.loop-q.output ≡ length (start h).args.output.now
 long h = h.loop-q.invariant.1 ∙ ap length h.put_runs-q.ensures.1 ∙ simp length-sets
 
 put-runs-requires : tie.Need-put_runs-q-requires invariant-loop decreases-loop
@@ -73,8 +73,8 @@ returns c =
     let h = c.before in
     let a = h.args in
     let done : h.loop-q.q ≡ a.n = omega (arith, h.loop-q.invariant.0, c.loop-q-test.false) in
-    h.loop-q.invariant.2 a.output-1.now h.put_runs-q.ensures.1
-    ∙ ap (λ (k : ℕ). sets a.output-1.now a.at (every_other a.file.now a.from k)) done
+    h.loop-q.invariant.2 a.output.now h.put_runs-q.ensures.1
+    ∙ ap (λ (k : ℕ). sets a.output.now a.at (every_other a.file.now a.from k)) done
 
 pub put_every_other_spec : {M : Type 1} → statement M
 put_every_other_spec = tie.close (tie.spec invariant-loop decreases-loop put-runs-requires loop-holds mul-output add-output shared-slice-read-output add-output-2 slice-write-output add-q loop-less loop-again same_length returns)

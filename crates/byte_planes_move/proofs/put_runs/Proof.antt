@@ -15,7 +15,7 @@ invariant-loop file from n at output₀ k₀ output k = (k ≤ n) × (output ≡
 abbrev decreases-loop : tie.decreases-loop-k
 decreases-loop file from n at output₀ k₀ output k = n - k
 
-long : (h : tie.At-loop-k invariant-loop decreases-loop) → length h.loop-k.output-1 ≡ length h.args.output-1.now
+long : (h : tie.At-loop-k invariant-loop decreases-loop) → length h.loop-k.output ≡ length h.args.output.now
 long h = ap length h.loop-k.invariant.1 ∙ simp length-sets
 
 loop-holds : tie.Need-loop-k-init invariant-loop decreases-loop
@@ -52,7 +52,7 @@ loop-again c =
     let s = h.before.before.before in
     let a = s.args in (
       omega (arith, c.loop-k-test.true, h.loop-k.invariant.0),
-      more-put a.output-1.now a.file.now a.from a.at h.loop-k.k 64 h.loop-k.invariant.1 c.put_run.ensures refl refl,
+      more-put a.output.now a.file.now a.from a.at h.loop-k.k 64 h.loop-k.invariant.1 c.put_run.ensures refl refl,
     )
 
 same_length : tie.Need-shape_of-output invariant-loop decreases-loop

@@ -12,5 +12,5 @@ put_every_other-requires-2 c =
 
 pub returns : goal.returns
 returns c =
-    both-put c.args.output-1.now c.args.file.now c.args.at c.args.n (omega (arith, c.requires.0)) c.put_every_other.ensures
+    both-put c.args.output.now c.args.file.now c.args.at c.args.n (omega (arith, c.requires.0)) c.put_every_other.ensures
     c.put_every_other-2.ensures refl refl

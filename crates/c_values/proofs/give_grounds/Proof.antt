@@ -24,7 +24,7 @@ returns c =
     let reached = level.before in
     let below = reached.before in
     let total = below.before in
-    rw total.enum_told-1.given.1
+    rw total.in-Accepted.is
     (record {
       pixels = refl;
       total = to_z-of_z (record { sfits = total.struct_told-1.given.1.0.1 });
@@ -36,7 +36,7 @@ returns c =
 
 returns-2 : tie.Need-returns-in_default
 returns-2 c =
-    rw c.enum_told-in_default-1.given.1 (record { pixels = refl; total = refl; level = refl; below = refl; reached = refl; cause = refl })
+    rw c.in_default.is (record { pixels = refl; total = refl; level = refl; below = refl; reached = refl; cause = refl })
 
 pub give_grounds_spec : {M : Type 1} → statement M
 give_grounds_spec = tie.close (tie.spec enum_told answer-number-requires cause-number-requires enum-told-2 returns returns-2)

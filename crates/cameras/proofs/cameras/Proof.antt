@@ -24,7 +24,7 @@ abbrev start : tie.After-check_batch-checked → tie.Start
 start k = k.before.before.before.before.before.before.before
 
 abbrev held : tie.Start → Parts
-held at = parts at.args.counts-1.now at.args.words-1.now at.args.answers-1.now
+held at = parts at.args.counts.now at.args.words.now at.args.answers.now
 
 outcome-at : (e : tie.Else-stops) → let at = start e.before.before in
     outcome_of at.args.files.now at.args.lengths.now at.args.limits.now (held at) ≡ accepted
@@ -38,7 +38,7 @@ round-at : (r : tie.After-run-round) → let at = start r.before.before.before.b
     r.run-round.result ≡ round_of (files_in at.args.lengths.now at.args.files.now) at.args.limits.now
 round-at r =
     let e = r.before.before.before in
-    round-run _ _ _ _ (e.check_batch-checked.ensures.sizes-1 (outcome-at e)) r.run-round.ensures
+    round-run _ _ _ _ (e.check_batch-checked.ensures.sizes (outcome-at e)) r.run-round.ensures
 
 check-batch-requires : tie.Need-check_batch-checked-requires
 check-batch-requires c κs = search rules
@@ -60,14 +60,14 @@ run-requires : tie.Need-run-round-requires
 run-requires c κs =
     let e = c.before.before in
     let k = e.before.before in
-    sizes_run _ _ _ _ (held (start k)) (all-passed e) (k.check_batch-checked.ensures.sizes-1 (outcome-at e))
+    sizes_run _ _ _ _ (held (start k)) (all-passed e) (k.check_batch-checked.ensures.sizes (outcome-at e))
 
 serve-files-requires : tie.Need-serve_files-requires
 serve-files-requires c κs =
     let r = c.before.before.before.before in
     let e = r.before.before.before in
     let at = start e.before.before in
-    subst (λ (x : Round). Servable at.args.files.now at.args.lengths.now x.tallies-1 (held at)) (sym (round-at r))
+    subst (λ (x : Round). Servable at.args.files.now at.args.lengths.now x.tallies (held at)) (sym (round-at r))
     (servable-by _ _ _ _ (all-passed e))
 
 same_length : tie.Need-shape_of-counts

@@ -33,10 +33,10 @@ abbrev start : tie.After-plan_of-plan → tie.Start
 start o = o.before.before.before.before.before
 
 plan-at : (o : tie.After-plan_of-plan) → Planned (start o).args.file.now o.plan_of-plan.result
-plan-at o = planned-by (start o).requires.file_value.0 o.plan_of-plan.ensures
+plan-at o = planned-by (start o).requires.0.0 o.plan_of-plan.ensures
 
 plan-of-requires : tie.Need-plan_of-plan-requires
-plan-of-requires c κs = trailer-in _ c.requires.file_value.0
+plan-of-requires c κs = trailer-in _ c.requires.0.0
 
 needed-requires : tie.Need-needed-room-requires
 needed-requires c κs = limits-planned (plan-at c)
@@ -49,8 +49,8 @@ add_begin c =
     omega (
       arith,
       counts-needed (plan-at o) _ e,
-      at.requires.room_from.counts-1,
-      ap (λ (r : Room). r.words-1) e,
+      at.requires.1.counts,
+      ap (λ (r : Room). r.words) e,
       (cells_low _ (limits-planned (plan-at o))).1,
       at.good.1.1.1.0.1,
     )
@@ -59,7 +59,7 @@ add-begin-2 : tie.Need-overflow_add-next-2
 add-begin-2 c =
     let o = c.before.before.before in
     let at = start o in
-    omega (arith, words-needed (plan-at o) _ c.needed-room.ensures, at.requires.room_from.words-1)
+    omega (arith, words-needed (plan-at o) _ c.needed-room.ensures, at.requires.1.words)
 
 mul-begin : tie.Need-overflow_mul-next
 mul-begin c = omega (arith, plane-small (plan-at c.before.before.before.before))
@@ -68,7 +68,7 @@ add-begin-3 : tie.Need-overflow_add-next-3
 add-begin-3 c =
     let o = c.before.before.before.before in
     let at = start o in
-    omega (arith, pixels-needed (plan-at o) _ c.needed-room.ensures, at.requires.room_from.answers-1)
+    omega (arith, pixels-needed (plan-at o) _ c.needed-room.ensures, at.requires.1.answers)
 
 returns : tie.Need-returns-then-tally-eq0
 returns c =
@@ -78,7 +78,7 @@ returns c =
 
 mul-begin-2 : tie.Need-offset_bounds-counts-c
 mul-begin-2 c = let at = c.before.before.before.before.before.before.before.before.before.before in omega
-    (arith, at.requires.room_from.counts-1, at.well_formed.1.1.1.0.1)
+    (arith, at.requires.1.counts, at.well_formed.1.1.1.0.1)
 
 sub-begin : tie.Need-slice_bounds-begin-count
 sub-begin c = search rules
@@ -91,7 +91,7 @@ part-begin-end c = search rules
 
 mul-begin-3 : tie.Need-offset_bounds-words-w
 mul-begin-3 c = let at = c.before.before.before.before.before.before.before.before.before.before.before in omega
-    (arith, at.requires.room_from.words-1, at.well_formed.1.1.1.1.0.1)
+    (arith, at.requires.1.words, at.well_formed.1.1.1.1.0.1)
 
 sub-begin-2 : tie.Need-slice_bounds-begin-count-2
 sub-begin-2 c = search rules
@@ -104,7 +104,7 @@ part-begin-end-2 c = search rules
 
 mul-begin-4 : tie.Need-offset_bounds-answers-a
 mul-begin-4 c = let at = c.before.before.before.before.before.before.before.before.before.before.before.before in omega
-    (arith, at.requires.room_from.answers-1, at.well_formed.1.1.1.1.1.0.1)
+    (arith, at.requires.1.answers, at.well_formed.1.1.1.1.1.0.1)
 
 sub-begin-3 : tie.Need-slice_bounds-begin-count-3
 sub-begin-3 c = search rules
@@ -126,11 +126,11 @@ begin-requires c κs =
       (
         (
           omega (arith, c.if-tally-eq0.false),
-          omega (arith, e, at.requires.file_value.1),
-          omega (arith, at.requires.file_value.1, lent-long at.args.from.answers-1 _ at.args.answers-1.now at.requires.room_from.answers-1),
+          omega (arith, e, at.requires.0.1),
+          omega (arith, at.requires.0.1, lent-long at.args.from.answers _ at.args.answers.now at.requires.1.answers),
         ),
-        stores-from p _ n.needed-room.ensures _ _ (lent-long at.args.from.counts-1 _ at.args.counts-1.now at.requires.room_from.counts-1)
-            (lent-long at.args.from.words-1 _ at.args.words-1.now at.requires.room_from.words-1),
+        stores-from p _ n.needed-room.ensures _ _ (lent-long at.args.from.counts _ at.args.counts.now at.requires.1.counts)
+            (lent-long at.args.from.words _ at.args.words.now at.requires.1.words),
       ),
     )
 
@@ -148,8 +148,8 @@ returns-2 c =
     let n = c.before.before.before.before.before.before.before.before.before.before.before.before.before.before in
     let o = n.before in
     let at = start o in
-    some-made (plan-at o) _ n.needed-room.ensures _ (parts at.args.counts-1.now at.args.words-1.now at.args.answers-1.now) _
-    (omega (arith, c.if-tally-eq0.false)) at.requires.file_value.1 at.requires.room_from _
+    some-made (plan-at o) _ n.needed-room.ensures _ (parts at.args.counts.now at.args.words.now at.args.answers.now) _
+    (omega (arith, c.if-tally-eq0.false)) at.requires.0.1 at.requires.1 _
     c.begin.ensures
 
 pub serve_file_spec : {M : Type 1} → statement M

@@ -62,7 +62,7 @@ serve_file-place-requires c =
     let l = c.loop-i in
     let b = c.args.files.now in
     let ns = c.args.lengths.now in
-    let old = parts c.args.counts-1.now c.args.words-1.now c.args.answers-1.now in
+    let old = parts c.args.counts.now c.args.words.now c.args.answers.now in
     let h = c.loop-i-test.true in
     let e = part-is b ns l.i l.at _ refl in (
       (
@@ -70,7 +70,7 @@ serve_file-place-requires c =
         subst (λ (q : List ℕ). get_or c.args.t3 l.i 0 ≤ pixels_in q) (sym e)
             (next_low b ns c.args.t3 old c.requires _ l.place l.at l.i l.invariant h),
       ),
-      subst (λ (q : List ℕ). RoomFrom q l.place (parts l.counts-1 l.words-1 l.answers-1)) (sym e)
+      subst (λ (q : List ℕ). RoomFrom q l.place (parts l.counts l.words l.answers)) (sym e)
           (next-room b ns c.args.t3 old c.requires _ l.place l.at l.i l.invariant h),
     )
 
@@ -89,13 +89,13 @@ loop-i-preserved c =
     let l = c.loop-i in
     let b = c.args.files.now in
     let ns = c.args.lengths.now in
-    let old = parts c.args.counts-1.now c.args.words-1.now c.args.answers-1.now in
+    let old = parts c.args.counts.now c.args.words.now c.args.answers.now in
     let f = c.serve_file-place in
     let new = parts f.new.1.1.1.0 f.new.1.1.1.1.0 f.new.1.1.1.1.1.0 in
     let e = part-is b ns l.i l.at _ refl in
-    serving-more b ns c.args.t3 old c.requires (parts l.counts-1 l.words-1 l.answers-1) l.place l.at l.i l.invariant
+    serving-more b ns c.args.t3 old c.requires (parts l.counts l.words l.answers) l.place l.at l.i l.invariant
     c.loop-i-test.true _ f.result
-    (subst (λ (q : List ℕ). PartMade q (get_or c.args.t3 l.i 0) l.place (parts l.counts-1 l.words-1 l.answers-1) new f.result) e
+    (subst (λ (q : List ℕ). PartMade q (get_or c.args.t3 l.i 0) l.place (parts l.counts l.words l.answers) new f.result) e
     f.ensures)
     f.auto.1.1.1.0 f.auto.1.1.1.1.0 f.auto.1.1.1.1.1.0
 

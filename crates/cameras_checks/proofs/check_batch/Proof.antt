@@ -46,20 +46,20 @@ returns-3 : tie.Need-returns-then-counts-totals
 returns-3 c =
     let e = c.before.before.before in
     let r = e.before.before in
-    short-counts _ _ _ _ _ _ (good r) (passed e) _ (r.read_files-read.ensures.totals-1 (passed e)) (omega (arith, c.if-counts-totals.true))
+    short-counts _ _ _ _ _ _ (good r) (passed e) _ (r.read_files-read.ensures.totals (passed e)) (omega (arith, c.if-counts-totals.true))
 
 returns-4 : tie.Need-returns-then-words-totals
 returns-4 c =
     let e = c.before.before.before.before.before in
     let r = e.before.before in
-    short-words _ _ _ _ _ _ (good r) (passed e) _ (r.read_files-read.ensures.totals-1 (passed e)) (omega (arith, c.if-counts-totals.false))
+    short-words _ _ _ _ _ _ (good r) (passed e) _ (r.read_files-read.ensures.totals (passed e)) (omega (arith, c.if-counts-totals.false))
     (omega (arith, c.if-words-totals.true))
 
 returns-5 : tie.Need-returns-then-answers-totals
 returns-5 c =
     let e = c.before.before.before.before.before.before.before in
     let r = e.before.before in
-    short-answers _ _ _ _ _ _ (good r) (passed e) _ (r.read_files-read.ensures.totals-1 (passed e))
+    short-answers _ _ _ _ _ _ (good r) (passed e) _ (r.read_files-read.ensures.totals (passed e))
     (omega (arith, c.if-counts-totals.false))
     (omega (arith, c.if-words-totals.false)) (omega (arith, c.if-answers-totals.true))
 
@@ -67,7 +67,7 @@ returns-6 : tie.Need-returns
 returns-6 c =
     let e = c.before.before.before.before.before.before.before in
     let r = e.before.before in
-    all-long _ _ _ _ _ _ (good r) (passed e) _ (r.read_files-read.ensures.totals-1 (passed e)) _
+    all-long _ _ _ _ _ _ (good r) (passed e) _ (r.read_files-read.ensures.totals (passed e)) _
     (silent _ (same e.stops.ensures e.if-stops.false)) refl
     (omega (arith, c.if-counts-totals.false)) (omega (arith, c.if-words-totals.false)) (omega (arith, c.if-answers-totals.false))
 

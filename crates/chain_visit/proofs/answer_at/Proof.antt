@@ -27,7 +27,7 @@ window c = c.before.before.before.before
 read : (k : tie.After-of_window-coefficients) → let at = start k in empty (frame_of at.args.file.now) at.args.column at.args.row ≡ false
 read k =
     let at = start k in
-    count-read (frame_of at.args.file.now) at.args.column at.args.row (omega (arith, at.requires.column_lt_width.1.0.count, k.if-sums-eq0.false))
+    count-read (frame_of at.args.file.now) at.args.column at.args.row (omega (arith, at.requires.1.1.0.count, k.if-sums-eq0.false))
 
 unread-requires : tie.Need-unread-requires
 unread-requires c κs = search rules
@@ -36,28 +36,28 @@ returns : tie.Need-returns-then-sums-eq0
 returns c =
     let at = c.before.before.before.before.before.before.before in
     let p = frame_of at.args.file.now in
-    let none = count-empty p at.args.column at.args.row (omega (arith, at.requires.column_lt_width.1.0.count, c.if-sums-eq0.true)) in
+    let none = count-empty p at.args.column at.args.row (omega (arith, at.requires.1.1.0.count, c.if-sums-eq0.true)) in
     rw c.unread.ensures (
-      unread-state Chain p at.args.column at.args.row at.args.cut at.args.shifts at.args.running.sums-1 at.args.running.free-1
+      unread-state Chain p at.args.column at.args.row at.args.cut at.args.shifts at.args.running.sums at.args.running.free
           none,
       refl,
       refl,
     )
 
 of-window-requires : tie.Need-of_window-coefficients-requires
-of-window-requires c κs = let at = c.before.before.before.before.before in (at.requires.planned, (at.requires.column_lt_width.0.0, at.requires.column_lt_width.0.1, at.requires.column_lt_width.1.0))
+of-window-requires c κs = let at = c.before.before.before.before.before in (at.requires.0, (at.requires.1.0.0, at.requires.1.0.1, at.requires.1.1.0))
 
 climb-requires : tie.Need-climb-level-requires
 climb-requires c κs =
     let at = start c in (
       (
         at.args.plan.levels,
-        levels_high at.requires.planned.0,
-        climbs at.requires.planned.0 at.requires.column_lt_width.0.0 at.requires.column_lt_width.0.1 at.requires.planned.1 _ c.of_window-coefficients.ensures.0 _ _ at.requires.column_lt_width.1.1,
+        levels_high at.requires.0.0,
+        climbs at.requires.0.0 at.requires.1.0.0 at.requires.1.0.1 at.requires.0.1 _ c.of_window-coefficients.ensures.0 _ _ at.requires.1.1.1,
       ),
       (
         c.of_window-coefficients.ensures.1,
-        total-pos at.requires.planned.0 at.requires.column_lt_width.0.0 at.requires.column_lt_width.0.1 at.requires.planned.1 (read c) _
+        total-pos at.requires.0.0 at.requires.1.0.0 at.requires.1.0.1 at.requires.0.1 (read c) _
             c.of_window-coefficients.ensures.0,
       ),
     )
@@ -66,13 +66,13 @@ monotone-requires : tie.Need-monotone-monotone-requires
 monotone-requires c κs =
     let k = c.before in
     let at = start k in
-    (guides-range at.requires.planned.0, k.of_window-coefficients.ensures.1)
+    (guides-range at.requires.0.0, k.of_window-coefficients.ensures.1)
 
 added-requires : tie.Need-added-more-requires
 added-requires c κs = search rules
 
 add-answered : tie.Need-overflow_add-shifts
-add-answered c = omega (arith, c.added-more.ensures.1, (start c.before.before.before).requires.column_lt_width.0.2)
+add-answered c = omega (arith, c.added-more.ensures.1, (start c.before.before.before).requires.1.0.2)
 
 answered-requires : tie.Need-answered-requires
 answered-requires c κs = search rules
@@ -100,17 +100,17 @@ returns-2 c =
     let r = m.before in
     let k = r.before in
     let at = start k in
-    let pl = at.requires.planned.0 in
-    let s = at.requires.column_lt_width.0.0 in
-    let t = at.requires.column_lt_width.0.1 in
-    let two = at.requires.planned.1 in (
+    let pl = at.requires.0.0 in
+    let s = at.requires.1.0.0 in
+    let t = at.requires.1.0.1 in
+    let two = at.requires.0.1 in (
       answers pl s t two (read k) _ _ c.answered.result r.climb-level.result.0 _ m.monotone-monotone.result (column-is c) (row_is c) (cut-is c)
           (answer-is c)
           (shifts-are c)
-          (climbed pl s t two _ k.of_window-coefficients.ensures.0 _ _ at.requires.column_lt_width.1.1 _ r.climb-level.ensures)
+          (climbed pl s t two _ k.of_window-coefficients.ensures.0 _ _ at.requires.1.1.1 _ r.climb-level.ensures)
           (m.monotone-monotone.ensures ∙ ends-monotone pl two k.of_window-coefficients.ensures.0 s t) d.added-more.ensures.0,
-      ap (λ (v : Visit). v.running.sums-1) c.answered.ensures,
-      ap (λ (v : Visit). v.running.free-1) c.answered.ensures,
+      ap (λ (v : Visit). v.running.sums) c.answered.ensures,
+      ap (λ (v : Visit). v.running.free) c.answered.ensures,
     )
 
 pub answer_at_spec : {M : Type 1} → statement M

@@ -12,23 +12,23 @@ use Rattle.chain_visit.proofs.enter.Statement.{statement}
 use Rattle.chain_visit.proofs.enter.Tie as tie
 
 start-requires : tie.Need-start-sums-requires
-start-requires c κs = let at = c.before.before in (at.requires.planned.0, at.requires.column_lt_width.0)
+start-requires c κs = let at = c.before.before in (at.requires.0.0, at.requires.1.0)
 
 start-requires-2 : tie.Need-start-free-requires
-start-requires-2 c κs = let at = c.before.before.before.before in (at.requires.planned.0, (at.requires.column_lt_width.0, at.requires.column_lt_width.1))
+start-requires-2 c κs = let at = c.before.before.before.before in (at.requires.0.0, (at.requires.1.0, at.requires.1.1))
 
 answer-at-requires : tie.Need-answer_at-requires
 answer-at-requires c κs =
     let n = c.before.before.before in
     let a = n.before.before in
-    let at = a.before.before.before in
-    (at.requires.planned, ((at.requires.column_lt_width.0.0, at.requires.column_lt_width.0.1, omega arith), (a.start-sums.ensures, n.start-free.ensures.listed)))
+    let at = a.before.before in
+    (at.requires.0, ((at.requires.1.0.0, at.requires.1.0.1, omega arith), (a.start-sums.ensures, n.start-free.ensures.listed)))
 
 same_length : tie.Need-shape_of-numbers
 same_length c = search rules
 
 -- it begins at cut point 0 with no shift, said by itself so that another beginning is refused as such
-begins : (c : tie.After-answer_at) → let at = c.before.before.before.before.before.before.before.before.before in
+begins : (c : tie.After-answer_at) → let at = c.before.before.before.before.before.before.before.before in
     state_of Chain c.answer_at.result ≡ arrive Chain (frame_of at.args.file.now) at.args.column at.args.row 0 0
 begins c = c.answer_at.ensures.0
 

@@ -23,25 +23,25 @@ abbrev begin : tie.After-step_to-step → tie.Start
 begin d = d.before.before.before
 
 abbrev step : tie.After-read-n → tie.After-step_to-step
-step r = r.before.before
+step r = r.before.before.before
 
 abbrev first : tie.After-read-k → tie.After-read-n
-first r = r.before.before.before
+first r = r.before.before.before.before
 
 abbrev both : tie.After-moved-sums → tie.After-read-k
-both a = a.before.before.before.before.before.before.before.before.before.before
+both a = a.before.before.before.before.before.before.before.before
 
 abbrev carried : tie.After-slide-free → tie.After-moved-sums
-carried n = n.before.before.before.before.before.before
+carried n = n.before.before.before.before
 
 -- the lists are the step's lines
 enters : (r : tie.After-read-k) → let d = step (first r) in LinePixels (begin d).args.file.now [] (begin d).args.plan
-    d.step_to-step.result.entering-1
+    d.step_to-step.result.entering
     (take ((first r).read-n.result - 0) (drop 0 (first r).read-n.new.1.1.1.0))
 enters r = line-part (first r).read-n.result (first r).read-n.new.1.1.1.0 (first r).read-n.ensures.1
 
 leaves : (r : tie.After-read-k) → let d = step (first r) in LinePixels (begin d).args.file.now [] (begin d).args.plan
-    d.step_to-step.result.leaving-1
+    d.step_to-step.result.leaving
     (take (r.read-k.result - 0) (drop 0 r.read-k.new.1.1.1.0))
 leaves r = line-part r.read-k.result r.read-k.new.1.1.1.0 r.read-k.ensures.1
 
@@ -52,36 +52,36 @@ summed a =
     let r = both a in
     let d = step (first r) in
     let at = begin d in
-    sums_moved at.requires.planned.0 at.requires.within.0.1 d.step_to-step.ensures (enters r) (leaves r) at.requires.within.1.sums a.moved-sums.ensures
+    sums_moved at.requires.0.0 at.requires.1.0.1 d.step_to-step.ensures (enters r) (leaves r) at.requires.1.1.sums a.moved-sums.ensures
 
 stored : (n : tie.After-slide-free) → let at = begin (step (first (both (carried n)))) in
-    Stored at.args.file.now at.args.plan at.args.column at.args.row at.args.numbers-1.now n.slide-free.result
+    Stored at.args.file.now at.args.plan at.args.column at.args.row at.args.numbers.now n.slide-free.result
     n.slide-free.new.1.1.1.0
 stored n =
     let r = both (carried n) in
     let d = step (first r) in
     let at = begin d in
-    slid-stored at.requires.planned.0 at.requires.within.0.1 d.step_to-step.ensures (enters r) (leaves r) at.requires.within.1.listed n.slide-free.auto.1.1.1.0
+    slid-stored at.requires.0.0 at.requires.1.0.1 d.step_to-step.ensures (enters r) (leaves r) at.requires.1.1.listed n.slide-free.auto.1.1.1.0
     n.slide-free.ensures
 
 step-to-requires : tie.Need-step_to-step-requires
-step-to-requires c κs = let at = c.before.before in (plan-limits at.requires.planned.0, at.requires.within.0.1)
+step-to-requires c κs = let at = c.before.before in (plan-limits at.requires.0.0, at.requires.1.0.1)
 
 slice-aggregate-read : tie.Need-slice_bounds-read-end
 slice-aggregate-read c = search rules
 
 read-requires : tie.Need-read-n-requires
 read-requires c κs = let d = c.before in let at =
-    begin d in (at.requires.planned.0, (step_in at.requires.planned.0 at.requires.within.0.1 d.step_to-step.ensures).entering-1, omega arith)
+    begin d in (at.requires.0.0, (step_in at.requires.0.0 at.requires.1.0.1 d.step_to-step.ensures).entering-1, omega arith)
 
 slice-aggregate-read-2 : tie.Need-slice_bounds-read-end-2
 slice-aggregate-read-2 c = search rules
 
 read-requires-2 : tie.Need-read-k-requires
 read-requires-2 c κs =
-    let d = step c.before.before in
+    let d = step c.before.before.before in
     let at = begin d in
-    (at.requires.planned.0, (step_in at.requires.planned.0 at.requires.within.0.1 d.step_to-step.ensures).leaving-1, omega arith)
+    (at.requires.0.0, (step_in at.requires.0.0 at.requires.1.0.1 d.step_to-step.ensures).leaving-1, omega arith)
 
 sub-moved : tie.Need-slice_bounds-moved-count
 sub-moved c = search rules
@@ -106,10 +106,10 @@ moved-requires c κs =
     let r = c.before.before.before.before.before.before.before.before.before in
     let d = step (first r) in
     let at = begin d in
-    let pl = at.requires.planned.0 in (
+    let pl = at.requires.0.0 in (
       (below-most pl (enters r).below, below-most pl (leaves r).below),
-      movable pl at.requires.within.0.1 d.step_to-step.ensures (enters r) (leaves r)
-          at.requires.within.1.sums,
+      movable pl at.requires.1.0.1 d.step_to-step.ensures (enters r) (leaves r)
+          at.requires.1.1.sums,
     )
 
 sub-slide : tie.Need-slice_bounds-slide-count
@@ -119,7 +119,7 @@ part-slide-start : tie.Need-slice_bounds-slide-start
 part-slide-start c = search rules
 
 part-slide-end : tie.Need-slice_bounds-slide-end
-part-slide-end c = let r = first (both c.before) in omega (arith, r.read-n.ensures.0, r.read-n.kept.1.1.1.0)
+part-slide-end c = let r = first (both c) in omega (arith, r.read-n.ensures.0, r.read-n.kept.1.1.1.0)
 
 sub-slide-2 : tie.Need-slice_bounds-slide-count-2
 sub-slide-2 c = search rules
@@ -128,21 +128,21 @@ part-slide-start-2 : tie.Need-slice_bounds-slide-start-2
 part-slide-start-2 c = search rules
 
 part-slide-end-2 : tie.Need-slice_bounds-slide-end-2
-part-slide-end-2 c = let r = both c.before.before.before in omega (arith, r.read-k.ensures.0, r.read-k.kept.1.1.1.0)
+part-slide-end-2 c = let r = both c.before in omega (arith, r.read-k.ensures.0, r.read-k.kept.1.1.1.0)
 
 slide-requires : tie.Need-slide-free-requires
 slide-requires c κs =
-    let r = both c.before.before.before.before.before in
+    let r = both c.before.before.before in
     let d = step (first r) in
     let at = begin d in
-    slides at.requires.planned.0 at.requires.within.0.1 d.step_to-step.ensures (enters r) (leaves r) at.requires.within.1.listed
+    slides at.requires.0.0 at.requires.1.0.1 d.step_to-step.ensures (enters r) (leaves r) at.requires.1.1.listed
 
 answer-at-requires : tie.Need-answer_at-requires
 answer-at-requires c κs =
     let n = c.before.before.before in
     let at = begin (step (first (both (carried n)))) in
-    let k = both-in at.requires.within.0.1 in
-    (at.requires.planned, ((k.2, k.3, at.requires.within.0.0.shifts), (summed (carried n), (stored n).listed)))
+    let k = both-in at.requires.1.0.1 in
+    (at.requires.0, ((k.2, k.3, at.requires.1.0.0.shifts), (summed (carried n), (stored n).listed)))
 
 same_length : tie.Need-shape_of-numbers
 same_length c = c.slide-free.auto.1.1.1.0

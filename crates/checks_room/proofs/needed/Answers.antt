@@ -34,16 +34,16 @@ joint_room-requires-in-Coarse c = c.requires
 
 pub returns-in-Joint : goal.returns-in-Joint
 unfolding room_of
-returns-in-Joint c = rw c.enum_told-1.given.1 c.joint_room.ensures
+returns-in-Joint c = rw c.in-Joint.is c.joint_room.ensures
 
 pub returns-in-Columns : goal.returns-in-Columns
 unfolding room_of
-returns-in-Columns c = rw c.enum_told-in-Columns-1.given.1 c.numbers_room.ensures
+returns-in-Columns c = rw c.in-Columns.is c.numbers_room.ensures
 
 pub returns-in-Chain : goal.returns-in-Chain
 unfolding room_of
-returns-in-Chain c = rw c.enum_told-in-Chain-1.given.1 c.numbers_room-in-Chain.ensures
+returns-in-Chain c = rw c.in-Chain.is c.numbers_room-in-Chain.ensures
 
 pub returns-in-Coarse : goal.returns-in-Coarse
 unfolding room_of
-returns-in-Coarse c = rw c.enum_told-in-Coarse-1.given.1 c.joint_room-in-Coarse.ensures
+returns-in-Coarse c = rw c.in-Coarse.is c.joint_room-in-Coarse.ensures

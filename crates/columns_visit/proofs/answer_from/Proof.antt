@@ -10,22 +10,22 @@ use Rattle.columns_visit.proofs.answer_from.Tie as tie
 
 -- the places of the two blocks are small, and inside the store
 small : (c : tie.Start) → 2 * c.args.plan.width * c.args.plan.levels ≤ 2097152
-small c = places-small c.args.plan.width c.args.plan.levels c.requires.width_bound.0 c.requires.width_bound.1
+small c = places-small c.args.plan.width c.args.plan.levels c.requires.0.0 c.requires.0.1
 
 mul_at : tie.Need-overflow_mul-at
-mul_at c = omega (arith, c.requires.width_bound.0)
+mul_at c = omega (arith, c.requires.0.0)
 
 mul-at-2 : tie.Need-overflow_mul-at-2
 mul-at-2 c = omega (arith, small c.before.before)
 
 add-middle : tie.Need-overflow_add-middle
-add-middle c = omega (arith, small c.before.before, c.requires.width_bound.1)
+add-middle c = omega (arith, small c.before.before, c.requires.0.1)
 
 add-last : tie.Need-overflow_add-last
-add-last c = omega (arith, small c.before.before, c.requires.width_bound.1)
+add-last c = omega (arith, small c.before.before, c.requires.0.1)
 
 mul-answer : tie.Need-offset_bounds-blocks-at
-mul-answer c = omega (arith, small c.before.before, c.requires.width_bound.1)
+mul-answer c = omega (arith, small c.before.before, c.requires.0.1)
 
 sub-answer : tie.Need-slice_bounds-answer-count
 sub-answer c = search rules
@@ -35,10 +35,10 @@ part-answer-start c = search rules
 
 part-answer-end : tie.Need-slice_bounds-answer-end
 part-answer-end c = let st =
-    c.before.before in omega (arith, places-in st.args.plan.width st.args.plan.levels st.requires.width_bound.0 st.requires.width_bound.1 _ st.requires.width_bound.2)
+    c.before.before in omega (arith, places-in st.args.plan.width st.args.plan.levels st.requires.0.0 st.requires.0.1 _ st.requires.0.2)
 
 mul-answer-2 : tie.Need-offset_bounds-blocks-middle
-mul-answer-2 c = omega (arith, small c.before.before.before, c.requires.width_bound.1)
+mul-answer-2 c = omega (arith, small c.before.before.before, c.requires.0.1)
 
 sub-answer-2 : tie.Need-slice_bounds-answer-count-2
 sub-answer-2 c = search rules
@@ -49,7 +49,7 @@ part-answer-start-2 c = search rules
 part-answer-end-2 : tie.Need-slice_bounds-answer-end-2
 part-answer-end-2 c =
     let st = c.before.before.before in
-    omega (arith, places-in st.args.plan.width st.args.plan.levels st.requires.width_bound.0 st.requires.width_bound.1 _ st.requires.width_bound.2)
+    omega (arith, places-in st.args.plan.width st.args.plan.levels st.requires.0.0 st.requires.0.1 _ st.requires.0.2)
 
 answer-requires : tie.Need-answer-requires
 answer-requires c κs =
@@ -57,7 +57,7 @@ answer-requires c κs =
     lent-blocks x.plan x.blocks.now
     (λ (counts sums : List ℕ). Answerable x.coefficients x.plan.guides x.monotone x.shifts counts sums
     × FromCut x.monotone x.cut.0 x.below counts sums)
-    c.requires.answerable
+    c.requires.1
 
 returns : tie.Need-returns
 returns c =

@@ -13,7 +13,7 @@ use Rattle.columns_visit.proofs.enter.Statement.{statement}
 use Rattle.columns_visit.proofs.enter.Tie as tie
 
 -- the places passed: the store made, the sums made; and the start
-abbrev begin : tie.After-start → tie.start
+abbrev begin : tie.After-start → tie.Start
 begin m = m.before.before.before.before
 
 abbrev storing : tie.After-start-sums → tie.After-start
@@ -27,7 +27,7 @@ cells : (m : tie.After-start) → let st = begin m in
     (window_guides st.args.plan m.start.new.1.1.0)
 cells m =
     let st = begin m in
-    window-cells st.requires.planned.0 st.args.column st.args.row _
+    window-cells st.requires.0.0 st.args.column st.args.row _
     (made-self (frame_of st.args.file.now) st.args.column st.args.row _ _ m.start.ensures)
 
 reads : (r : tie.Else-sums-eq0) → let st = begin (storing (summing r)) in empty (frame_of st.args.file.now) st.args.column st.args.row ≡ false
@@ -39,10 +39,10 @@ reads r =
 start-requires : tie.Need-start-requires
 start-requires c κs =
     let st = c.before.before.before in
-    (st.requires.planned.0, (st.requires.column_lt_width.0.0, st.requires.column_lt_width.0.1, room-long (frame_of st.args.file.now) st.requires.column_lt_width.1))
+    (st.requires.0.0, (st.requires.1.0.0, st.requires.1.0.1, room-long (frame_of st.args.file.now) st.requires.1.1))
 
 start-requires-2 : tie.Need-start-sums-requires
-start-requires-2 c κs = let st = begin c.before.before in (st.requires.planned.0, st.requires.column_lt_width.0)
+start-requires-2 c κs = let st = begin c.before.before in (st.requires.0.0, st.requires.1.0)
 
 unread-requires : tie.Need-unread-requires
 unread-requires c κs = search rules
@@ -63,18 +63,18 @@ of-window-requires : tie.Need-of_window-coefficients-requires
 of-window-requires c κs =
     let a = summing c in
     let st = begin (storing a) in
-    (st.requires.planned, (st.requires.column_lt_width.0.0, st.requires.column_lt_width.0.1, a.start-sums.ensures))
+    (st.requires.0, (st.requires.1.0.0, st.requires.1.0.1, a.start-sums.ensures))
 
 answer-from-requires : tie.Need-answer_from-found-requires
 answer-from-requires c κs =
     let k = c.before in
-    let m = storing (summing k.before) in
+    let m = storing (summing k) in
     let st = begin m in
     let h = made-self (frame_of st.args.file.now) st.args.column st.args.row _ _ m.start.ensures in (
-      store-places st.requires.planned.0 st.args.column st.args.row _ h,
+      store-places st.requires.0.0 st.args.column st.args.row _ h,
       (
-        start-answerable st.requires.planned.0 st.requires.planned.1 st.requires.column_lt_width.0.0 st.requires.column_lt_width.0.1 k.of_window-coefficients.ensures (cells m),
-        start-from st.requires.planned.0 st.requires.planned.1 st.requires.column_lt_width.0.0 st.requires.column_lt_width.0.1 k.of_window-coefficients.ensures (cells m) _,
+        start-answerable st.requires.0.0 st.requires.0.1 st.requires.1.0.0 st.requires.1.0.1 k.of_window-coefficients.ensures (cells m),
+        start-from st.requires.0.0 st.requires.0.1 st.requires.1.0.0 st.requires.1.0.1 k.of_window-coefficients.ensures (cells m) _,
       ),
     )
 
@@ -88,13 +88,13 @@ returns-2 : tie.Need-returns
 returns-2 c =
     let f = c.before.before.before in
     let k = f.before.before in
-    let a = summing k.before in
+    let a = summing k in
     let m = storing a in
     let st = begin m in
     let e = f.answer_from-found.ensures in
     visited (frame_of st.args.file.now) st.args.column st.args.row 0 0 _ _ _ _ _ c.answered.ensures a.start-sums.ensures
-    (start-answered st.requires.planned.0 st.requires.planned.1 st.requires.column_lt_width.0.0 st.requires.column_lt_width.0.1 k.of_window-coefficients.ensures (cells m) Columns refl
-    (reads k.before) e.0 e.1)
+    (start-answered st.requires.0.0 st.requires.0.1 st.requires.1.0.0 st.requires.1.0.1 k.of_window-coefficients.ensures (cells m) Columns refl
+    (reads k) e.0 e.1)
     m.start.ensures
 
 pub enter_spec : {M : Type 1} → statement M

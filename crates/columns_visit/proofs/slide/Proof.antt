@@ -30,13 +30,13 @@ abbrev begin : tie.After-step_to-step → tie.Start
 begin d = d.before.before.before
 
 abbrev step : tie.After-read-n → tie.After-step_to-step
-step r = r.before.before
+step r = r.before.before.before
 
 abbrev first : tie.After-read-k → tie.After-read-n
-first r = r.before.before.before
+first r = r.before.before.before.before
 
 abbrev both : tie.After-moved-present → tie.After-read-k
-both a = a.before.before.before.before.before.before.before.before.before.before
+both a = a.before.before.before.before.before.before.before.before
 
 abbrev summing : tie.After-slide → tie.After-moved-present
 summing n = n.before.before
@@ -55,16 +55,16 @@ abbrev moved_on : tie.After-of_window-coefficients → tie.After-slide
 moved_on w = storing w.before.before
 
 abbrev steady : tie.After-carried_where-tally → tie.After-monotone-monotone
-steady t = t.before.before.before.before.before.before
+steady t = t.before.before.before.before
 
 -- the lists are the step's lines
 enters : (r : tie.After-read-k) → let d = step (first r) in LinePixels (begin d).args.file.now [] (begin d).args.plan
-    d.step_to-step.result.entering-1
+    d.step_to-step.result.entering
     (take ((first r).read-n.result - 0) (drop 0 (first r).read-n.new.1.1.1.0))
 enters r = line-part (first r).read-n.result (first r).read-n.new.1.1.1.0 (first r).read-n.ensures.1
 
 leaves : (r : tie.After-read-k) → let d = step (first r) in LinePixels (begin d).args.file.now [] (begin d).args.plan
-    d.step_to-step.result.leaving-1
+    d.step_to-step.result.leaving
     (take (r.read-k.result - 0) (drop 0 r.read-k.new.1.1.1.0))
 leaves r = line-part r.read-k.result r.read-k.new.1.1.1.0 r.read-k.ensures.1
 
@@ -75,14 +75,14 @@ summed a =
     let r = both a in
     let d = step (first r) in
     let at = begin d in
-    sums_moved at.requires.planned.0 at.requires.within.0.1 d.step_to-step.ensures (enters r) (leaves r) at.requires.within.1.sums a.moved-present.ensures
+    sums_moved at.requires.0.0 at.requires.1.0.1 d.step_to-step.ensures (enters r) (leaves r) at.requires.1.1.sums a.moved-present.ensures
 
 cells : (n : tie.After-slide) → let at = opened n in
     Profiled (frame_of at.args.file.now) at.args.column at.args.row (window_counts at.args.plan n.slide.new.1.1.0)
     (window_guides at.args.plan n.slide.new.1.1.0)
 cells n =
     let at = opened n in
-    window-cells at.requires.planned.0 at.args.column at.args.row _
+    window-cells at.requires.0.0 at.args.column at.args.row _
     (made-self (frame_of at.args.file.now) at.args.column at.args.row _ _ n.slide.ensures)
 
 reads : (r : tie.Else-present-eq0) → let at = opened (storing r.before) in empty (frame_of at.args.file.now) at.args.column at.args.row ≡ false
@@ -92,7 +92,7 @@ reads r =
     some_read (frame_of at.args.file.now) at.args.column at.args.row (summing n).moved-present.result (summed (summing n)) r.if-present-eq0.false
 
 step-to-requires : tie.Need-step_to-step-requires
-step-to-requires c κs = let at = c.before.before in (plan-limits at.requires.planned.0, at.requires.within.0.1)
+step-to-requires c κs = let at = c.before.before in (plan-limits at.requires.0.0, at.requires.1.0.1)
 
 slice-aggregate-read : tie.Need-slice_bounds-read-end
 slice-aggregate-read c = search rules
@@ -101,16 +101,16 @@ read-requires : tie.Need-read-n-requires
 read-requires c κs =
     let d = c.before in
     let at = begin d in
-    (at.requires.planned.0, (step_in at.requires.planned.0 at.requires.within.0.1 d.step_to-step.ensures).entering-1, omega arith)
+    (at.requires.0.0, (step_in at.requires.0.0 at.requires.1.0.1 d.step_to-step.ensures).entering-1, omega arith)
 
 slice-aggregate-read-2 : tie.Need-slice_bounds-read-end-2
 slice-aggregate-read-2 c = search rules
 
 read-requires-2 : tie.Need-read-k-requires
 read-requires-2 c κs =
-    let d = step c.before.before in
+    let d = step c.before.before.before in
     let at = begin d in
-    (at.requires.planned.0, (step_in at.requires.planned.0 at.requires.within.0.1 d.step_to-step.ensures).leaving-1, omega arith)
+    (at.requires.0.0, (step_in at.requires.0.0 at.requires.1.0.1 d.step_to-step.ensures).leaving-1, omega arith)
 
 sub-moved : tie.Need-slice_bounds-moved-count
 sub-moved c = search rules
@@ -135,16 +135,16 @@ moved-requires c κs =
     let r = c.before.before.before.before.before.before.before.before.before in
     let d = step (first r) in
     let at = begin d in
-    let pl = at.requires.planned.0 in (
+    let pl = at.requires.0.0 in (
       (below-most pl (enters r).below-1, below-most pl (leaves r).below-1),
-      movable pl at.requires.within.0.1 d.step_to-step.ensures (enters r) (leaves r) at.requires.within.1.sums,
+      movable pl at.requires.1.0.1 d.step_to-step.ensures (enters r) (leaves r) at.requires.1.1.sums,
     )
 
 slide-requires : tie.Need-slide-requires
 slide-requires c κs =
     let at = begin (step (first (both c.before))) in (
-      at.requires.planned.0,
-      (at.requires.within.0.1, as-made (frame_of at.args.file.now) at.args.from.column at.args.from.row _ _ at.requires.within.1.store),
+      at.requires.0.0,
+      (at.requires.1.0.1, as-made (frame_of at.args.file.now) at.args.from.column at.args.from.row _ _ at.requires.1.1.store),
     )
 
 unread-requires : tie.Need-unread-requires
@@ -165,11 +165,11 @@ of-window-requires : tie.Need-of_window-coefficients-requires
 of-window-requires c κs =
     let n = storing c.before in
     let at = opened n in
-    let i = both-in at.requires.within.0.1 in
-    (at.requires.planned, (i.2, i.3, summed (summing n)))
+    let i = both-in at.requires.1.0.1 in
+    (at.requires.0, (i.2, i.3, summed (summing n)))
 
 monotone-requires : tie.Need-monotone-monotone-requires
-monotone-requires c κs = let at = opened (moved_on c) in (guides-range at.requires.planned.0, c.of_window-coefficients.ensures.1)
+monotone-requires c κs = let at = opened (moved_on c) in (guides-range at.requires.0.0, c.of_window-coefficients.ensures.1)
 
 cast-end : tie.Need-overflow_cast-end
 cast-end c = search rules
@@ -185,7 +185,7 @@ part-carried-where-start c = search rules
 
 part-carried-where-end : tie.Need-slice_bounds-carried_where-end
 part-carried-where-end c =
-    let r = first (lists (moved_on c.before.before.before)) in
+    let r = first (lists (moved_on c.before.before)) in
     omega (arith, r.read-n.ensures.0, r.read-n.kept.1.1.1.0)
 
 sub-carried-where-2 : tie.Need-slice_bounds-carried_where-count-2
@@ -196,17 +196,17 @@ part-carried-where-start-2 c = search rules
 
 part-carried-where-end-2 : tie.Need-slice_bounds-carried_where-end-2
 part-carried-where-end-2 c =
-    let r = lists (moved_on c.before.before.before.before.before) in
+    let r = lists (moved_on c.before.before.before) in
     omega (arith, r.read-k.ensures.0, r.read-k.kept.1.1.1.0)
 
 carried-where-requires : tie.Need-carried_where-tally-requires
 carried-where-requires c κs =
-    let r = lists (moved_on c.before.before.before.before.before.before) in
+    let r = lists (moved_on c.before.before.before.before) in
     let d = step (first r) in
     let at = begin d in
-    let pl = at.requires.planned.0 in (
+    let pl = at.requires.0.0 in (
       (below-most pl (enters r).below-1, below-most pl (leaves r).below-1),
-      carriable pl at.requires.within.0.1 d.step_to-step.ensures (enters r) (leaves r) at.requires.within.1.below-1,
+      carriable pl at.requires.1.0.1 d.step_to-step.ensures (enters r) (leaves r) at.requires.1.1.below,
     )
 
 answer-from-requires : tie.Need-answer_from-found-requires
@@ -218,16 +218,16 @@ answer-from-requires c κs =
     let r = lists n in
     let d = step (first r) in
     let at = begin d in
-    let pl = at.requires.planned.0 in
-    let adj = at.requires.within.0.1 in
+    let pl = at.requires.0.0 in
+    let adj = at.requires.1.0.1 in
     let i = both-in adj in
-    let v = at.requires.within.0.0 in (
+    let v = at.requires.1.0.0 in (
       store-places pl at.args.column at.args.row _
           (made-self (frame_of at.args.file.now) at.args.column at.args.row _ _ n.slide.ensures),
       (
-        answerable pl at.requires.planned.1 i.2 i.3 w.of_window-coefficients.ensures (cells n) m.monotone-monotone.ensures (omega (arith, v.shifts)),
-        from_cut pl at.requires.planned.1 i.2 i.3 w.of_window-coefficients.ensures (cells n) m.monotone-monotone.ensures v.cut-1
-            (λ e. carried-below pl adj d.step_to-step.ensures (enters r) (leaves r) at.requires.within.1.below-1 (t.carried_where-tally.ensures e)),
+        answerable pl at.requires.0.1 i.2 i.3 w.of_window-coefficients.ensures (cells n) m.monotone-monotone.ensures (omega (arith, v.shifts)),
+        from_cut pl at.requires.0.1 i.2 i.3 w.of_window-coefficients.ensures (cells n) m.monotone-monotone.ensures v.cut
+            (λ e. carried-below pl adj d.step_to-step.ensures (enters r) (leaves r) at.requires.1.1.below (t.carried_where-tally.ensures e)),
       ),
     )
 
@@ -240,14 +240,14 @@ same-length-2 c = let t = c.before.before.before.before.before in (moved_on (ste
 returns-2 : tie.Need-returns
 returns-2 c =
     let f = c.before.before.before in
-    let m = steady f.before.before in
+    let m = steady f.before in
     let w = m.before in
     let n = moved_on w in
     let at = opened n in
-    let i = both-in at.requires.within.0.1 in
+    let i = both-in at.requires.1.0.1 in
     let e = f.answer_from-found.ensures in
     visited (frame_of at.args.file.now) at.args.column at.args.row _ _ _ _ _ _ _ c.answered.ensures (summed (summing n))
-    (answered-at at.requires.planned.0 at.requires.planned.1 i.2 i.3 w.of_window-coefficients.ensures (cells n) m.monotone-monotone.ensures Columns (reads w.before)
+    (answered-at at.requires.0.0 at.requires.0.1 i.2 i.3 w.of_window-coefficients.ensures (cells n) m.monotone-monotone.ensures Columns (reads w.before)
     e.0 e.1)
     n.slide.ensures
 

@@ -18,7 +18,7 @@ use Rattle.explain.proofs.answer_half.Statement.{statement}
 use Rattle.explain.proofs.answer_half.Tie as tie
 
 pixel : (at : tie.Start) → Pixel (frame_of at.args.file.now) at.args.s at.args.t
-pixel at = let w = at.requires.weighed.0 in pixel-of w.planned w.column w.row
+pixel at = let w = at.requires.0.0 in pixel-of w.planned w.column w.row
 
 abbrev start : tie.After-add_window-total → tie.Start
 start w = w.before.before.before.before
@@ -27,7 +27,7 @@ start w = w.before.before.before.before
 total_is : (w : tie.After-add_window-total) → let at = start w in
     to_z w64 (of_z w64 w.add_window-total.result) ≡ total_weight (frame_of at.args.file.now) at.args.s at.args.t
 total_is w = let at = start w in
-    to_z-of_z (record { sfits = w.add_window-total.type_inv }) ∙ w.add_window-total.ensures.1 ∙ total-gathered (pixel at) at.requires.weighed.1
+    to_z-of_z (record { sfits = w.add_window-total.type-inv }) ∙ w.add_window-total.ensures.1 ∙ total-gathered (pixel at) at.requires.0.1
 
 slice-aggregate-add-window : tie.Need-slice_bounds-add_window-end
 slice-aggregate-add-window c = search rules
@@ -35,7 +35,7 @@ slice-aggregate-add-window c = search rules
 add-window-requires : tie.Need-add_window-total-requires
 add-window-requires c κs =
     let at = c.before.before.before in
-    (at.requires.weighed, (zeros-made 1024, levels-fit _ (levels_high at.requires.weighed.0.planned), omega arith))
+    (at.requires.0, (zeros-made 1024, levels-fit _ (levels_high at.requires.0.0.planned), omega arith))
 
 slice-aggregate-reach-half : tie.Need-slice_bounds-reach_half-end
 slice-aggregate-reach-half c = search rules
@@ -45,13 +45,13 @@ reach-half-requires c κs =
     let w = c.before.before in
     let at = start w in
     subst (HalfInReach _) (sym (total_is w))
-    (in_reach (pixel at) at.requires.t_value w.add_window-total.ensures.0 at.requires.weighed.1 (length-replicate {A = ℤ} 1024 (pos 0)))
+    (in_reach (pixel at) at.requires.1 w.add_window-total.ensures.0 at.requires.0.1 (length-replicate {A = ℤ} 1024 (pos 0)))
 
 returns : tie.Need-returns
 returns c =
     let w = c.before.before.before in
     let at = start w in
-    answer-found (pixel at) at.requires.t_value w.add_window-total.ensures.0 (total_is w)
+    answer-found (pixel at) at.requires.1 w.add_window-total.ensures.0 (total_is w)
     (subst (λ (z : ℤ). HalfReached w.add_window-total.new.1.1.1.1.1.1.1.0 z c.reach_half-half.result) (total_is w) c.reach_half-half.ensures)
 
 pub answer_half_spec : {M : Type 1} → statement M

@@ -21,7 +21,7 @@ use Rattle.explain.proofs.AnswerLaws.{total_small, below-small, reached-small, g
 use Rattle.explain.proofs.grounds.Statement.{statement}
 use Rattle.explain.proofs.grounds.Tie as tie
 
-pixel : (at : tie.start-a) → Pixel (frame_of at.args.file.now) at.args.s at.args.t
+pixel : (at : tie.Start) → Pixel (frame_of at.args.file.now) at.args.s at.args.t
 pixel at = pixel-of at.requires.0 at.requires.1 at.requires.2
 
 -- the places passed: how the window is counted, and whether there is a reading
@@ -31,7 +31,7 @@ counted r = r.before.before
 abbrev asked : tie.After-weights_of-counted → tie.Else-is_empty
 asked w = w.before.before
 
-abbrev start : tie.After-is_empty → tie.start-a
+abbrev start : tie.After-is_empty → tie.Start
 start g = g.before.before.before
 
 said : (g : tie.After-is_empty) → let at = start g in g.is_empty.result ≡ empty (frame_of at.args.file.now) at.args.s at.args.t
@@ -93,7 +93,7 @@ returns-2 c =
     record {
       pixels = i.start-a.ensures.count;
       total = ap (λ (z : ℤ). to_z w64 (of_z w64 z)) found.total ∙ read-bounded w64 173129780571075 (total_small (pixel at) by.weighs) tt;
-      answered = found.level-1;
+      answered = found.level;
       below = ap (λ (z : ℤ). to_z w64 (of_z w64 z)) found.below ∙ read-bounded w64 173129780571075 (below-small (pixel at) by.weighs _) tt;
       reached = ap (λ (z : ℤ). to_z w64 (of_z w64 z)) found.reached ∙ read-bounded w64 173129780571075 (reached-small (pixel at) by.weighs _) tt;
       cause = q.cause_of-cause.ensures ∙ cause-counted (pixel at) (has i) by f.guides;

@@ -39,5 +39,5 @@ pub returns : goal.returns
 returns c = λ e.
     let done : c.loop-j.j ≡ c.args.i + 16 = omega (arith, c.loop-j.invariant.1, c.loop-j-test.false) in
     seen_all c.requires.0 (omega (arith, c.if-sums-end.false))
-    (subst (λ (j : ℕ). Seen c.args.sums.now c.args.i j c.loop-j.all-1) done c.loop-j.invariant.2)
-    (eqb-true c.loop-j.all-1 0 e)
+    (subst (λ (j : ℕ). Seen c.args.sums.now c.args.i j c.loop-j.all) done c.loop-j.invariant.2)
+    (eqb-true c.loop-j.all 0 e)

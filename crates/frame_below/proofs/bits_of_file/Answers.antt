@@ -33,7 +33,7 @@ loop-j-preserved c =
     let a = c.args in
     let b = a.file.now in
     let j = c.loop-j.j in
-    let bytes : (i : ℕ) → get_or b i 0 < 256 = λ i. omega (arith, c.shared_slice_known-1.given i) in
+    let bytes : (i : ℕ) → get_or b i 0 < 256 = λ i. omega (arith, c.type_inv.file i) in
     let number : judged a.values (plane b a.offset j) ≡ exchanged c.judged-bits.result =
     ap (judged a.values) (sym (low-first b bytes a.offset j))
     ∙ judged-exchanged a.values (low_first b a.offset j) (low-first-small b bytes a.offset j)

@@ -27,7 +27,7 @@ bounds-list-k c = omega arith
 
 pub put16-requires : goal.put16-requires
 put16-requires c =
-    let n : length c.loop-k.out-1 ≡ length c.args.out-1.now = ap length c.loop-k.invariant.1 ∙ simp length-sets in
+    let n : length c.loop-k.out ≡ length c.args.out.now = ap length c.loop-k.invariant.1 ∙ simp length-sets in
     omega (arith, n, c.requires)
 
 pub overflow_add-k : goal.overflow_add-k
@@ -51,5 +51,5 @@ pub returns : goal.returns
 returns c =
     let a = c.args in
     let e : c.loop-k.k ≡ length a.list.now = omega arith in
-    c.loop-k.invariant.1 ∙ ap (λ (j : ℕ). sets a.out-1.now a.at (all16 (take j a.list.now))) e ∙ ap
-    (λ (l : List ℕ). sets a.out-1.now a.at (all16 l)) (take-length a.list.now)
+    c.loop-k.invariant.1 ∙ ap (λ (j : ℕ). sets a.out.now a.at (all16 (take j a.list.now))) e ∙ ap
+    (λ (l : List ℕ). sets a.out.now a.at (all16 l)) (take-length a.list.now)

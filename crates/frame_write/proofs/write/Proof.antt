@@ -20,7 +20,7 @@ start e = e.before.before.before.before.before.before.before
 accepts : (e : tie.Else-stops)
     →
     writer_outcome (start e).args.settings (start e).args.values.now (start e).args.guides.now (start e).args.table.now
-    (length (start e).args.output-1.now) ≡ accepted
+    (length (start e).args.output.now) ≡ accepted
 accepts e = quiet e.check_writing-verdict.ensures e.stops.ensures e.if-stops.false
 
 check-writing-requires : tie.Need-check_writing-verdict-requires
@@ -38,12 +38,12 @@ returns c =
     let j = t.before.before in
     let s = c.before.before.before.before.before.before.before.before in
     let o : Outcome =
-    writer_outcome s.args.settings s.args.values.now s.args.guides.now s.args.table.now (length s.args.output-1.now) in
+    writer_outcome s.args.settings s.args.values.now s.args.guides.now s.args.table.now (length s.args.output.now) in
     let fires-o : fires o ≡ true = sym (ap fires j.check_writing-verdict.ensures) ∙ same t.stops.ensures t.if-stops.true in
     record {
       answer = c.answer.ensures ∙ ap (λ (x : Outcome). report_of x 0) j.check_writing-verdict.ensures ∙ declines o 0 _ fires-o;
       output =
-          keeps o (written s.args.settings s.args.values.now s.args.guides.now s.args.table.now) s.args.output-1.now fires-o;
+          keeps o (written s.args.settings s.args.values.now s.args.guides.now s.args.table.now) s.args.output.now fires-o;
     }
 
 put-file-requires : tie.Need-put_file-requires
@@ -53,28 +53,28 @@ mul-size : tie.Need-overflow_mul-size
 mul-size c =
     let e = c.before.before.before.before in
     let s = c.before.before.before.before.before.before.before.before.before.before.before in
-    let f = fit s.args.settings s.args.values.now s.args.guides.now s.args.table.now (length s.args.output-1.now) (accepts e) in
+    let f = fit s.args.settings s.args.values.now s.args.guides.now s.args.table.now (length s.args.output.now) (accepts e) in
     omega (arith, f.values, f.few)
 
 mul-size-2 : tie.Need-overflow_mul-size-2
 mul-size-2 c =
     let e = c.before.before.before.before in
     let s = c.before.before.before.before.before.before.before.before.before.before.before in
-    let f = fit s.args.settings s.args.values.now s.args.guides.now s.args.table.now (length s.args.output-1.now) (accepts e) in
+    let f = fit s.args.settings s.args.values.now s.args.guides.now s.args.table.now (length s.args.output.now) (accepts e) in
     omega (arith, f.table)
 
 add-size : tie.Need-overflow_add-size
 add-size c =
     let e = c.before.before.before.before in
     let s = c.before.before.before.before.before.before.before.before.before.before.before in
-    let f = fit s.args.settings s.args.values.now s.args.guides.now s.args.table.now (length s.args.output-1.now) (accepts e) in
+    let f = fit s.args.settings s.args.values.now s.args.guides.now s.args.table.now (length s.args.output.now) (accepts e) in
     omega (arith, f.values, f.few, f.table)
 
 add-size-2 : tie.Need-overflow_add-size-2
 add-size-2 c =
     let e = c.before.before.before.before in
     let s = c.before.before.before.before.before.before.before.before.before.before.before in
-    let f = fit s.args.settings s.args.values.now s.args.guides.now s.args.table.now (length s.args.output-1.now) (accepts e) in
+    let f = fit s.args.settings s.args.values.now s.args.guides.now s.args.table.now (length s.args.output.now) (accepts e) in
     omega (arith, f.values, f.few, f.table)
 
 answer-requires-2 : tie.Need-answer-requires-2
@@ -89,9 +89,9 @@ returns-2 c =
     let e = c.before.before.before.before.before in
     let j = e.before.before in
     let s = c.before.before.before.before.before.before.before.before.before.before.before.before in
-    let f = fit s.args.settings s.args.values.now s.args.guides.now s.args.table.now (length s.args.output-1.now) (accepts e) in
+    let f = fit s.args.settings s.args.values.now s.args.guides.now s.args.table.now (length s.args.output.now) (accepts e) in
     let o : Outcome =
-    writer_outcome s.args.settings s.args.values.now s.args.guides.now s.args.table.now (length s.args.output-1.now) in
+    writer_outcome s.args.settings s.args.values.now s.args.guides.now s.args.table.now (length s.args.output.now) in
     let n : 4 * length s.args.values.now + 2 * length s.args.table.now + 28 ≡ written_size s.args.settings
     (length s.args.table.now) = omega (arith, f.values) in
     record {
@@ -99,9 +99,9 @@ returns-2 c =
           c.answer-2.ensures ∙ ap (λ (m : ℕ). report_of (numbered j.check_writing-verdict.result) m) n ∙ ap
           (λ (x : Outcome). report_of x (written_size s.args.settings (length s.args.table.now))) j.check_writing-verdict.ensures;
       output =
-          file-placed s.args.settings s.args.values.now s.args.guides.now s.args.table.now s.args.output-1.now f
+          file-placed s.args.settings s.args.values.now s.args.guides.now s.args.table.now s.args.output.now f
           c.put_file.ensures ∙ saves o
-          (written s.args.settings s.args.values.now s.args.guides.now s.args.table.now) s.args.output-1.now (accepts e);
+          (written s.args.settings s.args.values.now s.args.guides.now s.args.table.now) s.args.output.now (accepts e);
     }
 
 pub write_spec : {M : Type 1} → statement M

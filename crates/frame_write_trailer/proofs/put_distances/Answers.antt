@@ -12,7 +12,7 @@ use Rattle.frame_write_trailer.proofs.put_distances.Goals as goal
 pub returns : goal.returns
 unfolding distance_bytes to32 to16
 returns c =
-    let l = c.args.trailer-1.now in
+    let l = c.args.trailer.now in
     let n = c.args.n in
     let p = c.args.p in
     let v1 = to32 (2 * n + 4 * p) in

@@ -11,7 +11,7 @@ use Rattle.frame_write_trailer.proofs.put_settings.Goals as goal
 pub returns : goal.returns
 unfolding field_bytes to16
 returns c =
-    let l = c.args.trailer-1.now in
+    let l = c.args.trailer.now in
     let k = c.args.settings in
     let v1 = to16 k.width in
     let v2 = v1 ++ to16 k.height in

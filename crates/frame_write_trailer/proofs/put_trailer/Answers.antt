@@ -9,5 +9,5 @@ use Rattle.frame_write_trailer.proofs.put_trailer.Goals as goal
 pub returns : goal.returns
 returns c =
     let a = c.args in
-    placed a.trailer-1.now 0 (field_bytes a.settings) (distance_bytes a.n a.p) c.put_settings.ensures c.put_distances.ensures
+    placed a.trailer.now 0 (field_bytes a.settings) (distance_bytes a.n a.p) c.put_settings.ensures c.put_distances.ensures
     (omega (arith, fields-long a.settings))

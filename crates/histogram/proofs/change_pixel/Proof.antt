@@ -15,7 +15,7 @@ cast-g : tie.Need-overflow_cast-g
 cast-g c = search rules
 
 change-requires : tie.Need-change-requires
-change-requires c κs = let at = begin c.before in (omega (arith, at.requires.level_lt_l.0, at.requires.level_lt_l.2), at.requires.fits.0)
+change-requires c κs = let at = begin c.before in (omega (arith, at.requires.0.0, at.requires.0.2), at.requires.1.0)
 
 add-change : tie.Need-overflow_add-l
 add-change c = search rules
@@ -25,8 +25,8 @@ change-requires-2 c κs =
     let k = c.before.before.before in
     let at = begin k.before.before in
     rw k.change.ensures
-    (sum-asks at.args.enters at.args.l at.args.level.0 at.args.guide.0 at.args.histogram-1.now at.requires.level_lt_l.0 at.requires.level_lt_l.2
-    at.requires.fits.1)
+    (sum-asks at.args.enters at.args.l at.args.level.0 at.args.guide.0 at.args.histogram.now at.requires.0.0 at.requires.0.2
+    at.requires.1.1)
 
 same_length : tie.Need-shape_of-histogram
 same_length c = search rules
@@ -37,8 +37,8 @@ returns c =
     let k = o.before.before.before.before in
     let at = begin k.before.before in
     rw (o.change-2.ensures, k.change.ensures)
-    (pixel-changed at.args.enters at.args.l at.args.level.0 at.args.guide.0 at.args.histogram-1.now at.requires.level_lt_l.0
-    at.requires.level_lt_l.2)
+    (pixel-changed at.args.enters at.args.l at.args.level.0 at.args.guide.0 at.args.histogram.now at.requires.0.0
+    at.requires.0.2)
 
 pub change_pixel_spec : {M : Type 1} → statement M
 change_pixel_spec = tie.close (tie.spec cast-i cast-g change-requires add-change change-requires-2 same_length returns)

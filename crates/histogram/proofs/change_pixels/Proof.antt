@@ -24,7 +24,7 @@ start h = h.before.before.before
 
 -- a turn's pixel is one of 31
 turn_low : (c : tie.In-loop-k invariant-loop decreases-loop) → c.loop-k.k < 31
-turn_low c = omega (arith, c.loop-k-test.true, (start c.before).requires.l_bound.2.few)
+turn_low c = omega (arith, c.loop-k-test.true, (start c.before).requires.0.2.few)
 
 loop-holds : tie.Need-loop-k-init invariant-loop decreases-loop
 loop-holds c = (omega arith, passed_none naturals (share_at c.args.l) _ _ _, refl)
@@ -52,8 +52,8 @@ change-pixel-requires : tie.Need-change_pixel-requires invariant-loop decreases-
 change-pixel-requires c κs =
     let t = c.before.before.before in
     let at = start t.before in
-    let a = turn-asks at.requires.l_bound.2 at.requires.room_for t.loop-k-test.true t.loop-k.histogram-1 t.loop-k.invariant.1 in
-    ((a.0, at.requires.l_bound.0, rw t.loop-k.invariant.2 at.requires.l_bound.1), (a.1, a.2))
+    let a = turn-asks at.requires.0.2 at.requires.1 t.loop-k-test.true t.loop-k.histogram t.loop-k.invariant.1 in
+    ((a.0, at.requires.0.0, rw t.loop-k.invariant.2 at.requires.0.1), (a.1, a.2))
 
 add-k : tie.Need-overflow_add-k invariant-loop decreases-loop
 add-k c = omega (arith, turn_low c.before.before.before.before.before.before)
@@ -68,7 +68,7 @@ loop-again c =
     let at = start t.before in
     let new = g.change_pixel.ensures in (
       omega (arith, t.loop-k-test.true),
-      turn-next at.requires.l_bound.2 at.requires.room_for t.loop-k-test.true t.loop-k.histogram-1 t.loop-k.invariant.1 new,
+      turn-next at.requires.0.2 at.requires.1 t.loop-k-test.true t.loop-k.histogram t.loop-k.invariant.1 new,
       new.long ∙ t.loop-k.invariant.2,
     )
 

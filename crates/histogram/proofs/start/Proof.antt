@@ -42,7 +42,7 @@ few c =
     omega (
       arith,
       c.loop-k-test.true,
-      span-high at.args.plan.radius at.args.s at.args.plan.width (plan-limits at.requires.planned.0).radius,
+      span-high at.args.plan.radius at.args.s at.args.plan.width (plan-limits at.requires.0.0).radius,
       h.span_of-n.ensures,
     )
 
@@ -62,16 +62,16 @@ low-requires : tie.Need-low-x-requires invariant-loop decreases-loop
 low-requires c κs = tt
 
 span-of-requires : tie.Need-span_of-n-requires invariant-loop decreases-loop
-span-of-requires c κs = let at = c.before.before.before in let l = plan-limits at.requires.planned.0 in (at.requires.planned.1, l.width, l.radius)
+span-of-requires c κs = let at = c.before.before.before in let l = plan-limits at.requires.0.0 in (at.requires.0.1, l.width, l.radius)
 
 loop-holds : tie.Need-loop-k-init invariant-loop decreases-loop
-loop-holds c = let at = c.before.before.before.before in (omega arith, filled-start at.requires.planned.0 _ at.args.t at.requires.blank, refl)
+loop-holds c = let at = c.before.before.before.before in (omega arith, filled-start at.requires.0.0 _ at.args.t at.requires.1, refl)
 
 add-column-line : tie.Need-overflow_add-x invariant-loop decreases-loop
-add-column-line c = let at = begin c.before in omega (arith, wide c, (plan-limits at.requires.planned.0).width)
+add-column-line c = let at = begin c.before in omega (arith, wide c, (plan-limits at.requires.0.0).width)
 
 column-line-requires : tie.Need-column_line-line-requires invariant-loop decreases-loop
-column-line-requires c κs = let at = begin c.before in let l = plan-limits at.requires.planned.0 in (l, (omega (arith, wide c, l.width), at.requires.planned.2))
+column-line-requires c κs = let at = begin c.before in let l = plan-limits at.requires.0.0 in (l, (omega (arith, wide c, l.width), at.requires.0.2))
 
 slice-aggregate-read : tie.Need-slice_bounds-read-end invariant-loop decreases-loop
 slice-aggregate-read c = search rules
@@ -79,7 +79,7 @@ slice-aggregate-read c = search rules
 read-requires : tie.Need-read-p-requires invariant-loop decreases-loop
 read-requires c κs =
     let at = begin c.before.before.before in
-    let pl = at.requires.planned.0 in
+    let pl = at.requires.0.0 in
     (pl, rw c.column_line-line.ensures (column-in (plan-limits pl) _ at.args.t (wide c.before.before)), omega arith)
 
 sub-change-pixels : tie.Need-slice_bounds-change_pixels-count invariant-loop decreases-loop
@@ -95,13 +95,13 @@ change-pixels-requires : tie.Need-change_pixels-requires invariant-loop decrease
 change-pixels-requires c κs =
     let r = c.before.before.before.before in
     let h = (turn r).before in
-    fill-asks (begin h).requires.planned.0 h.loop-k.inv.1 (line r).column_line-line.ensures (listed r) (few (turn r))
+    fill-asks (begin h).requires.0.0 h.loop-k.inv.1 (line r).column_line-line.ensures (listed r) (few (turn r))
 
 add-k : tie.Need-overflow_add-k invariant-loop decreases-loop
-add-k c = omega (arith, few (turn c.before.before.before.before.before.before.before))
+add-k c = omega (arith, few (turn c.before.before.before.before.before.before))
 
 loop-less : tie.Need-loop-k-smaller invariant-loop decreases-loop
-loop-less c = omega (arith, (turn c.before.before.before.before.before.before.before).loop-k-test.taken)
+loop-less c = omega (arith, (turn c.before.before.before.before.before.before).loop-k-test.taken)
 
 loop-again : tie.Need-loop-k-preserved invariant-loop decreases-loop
 loop-again c =
@@ -109,7 +109,7 @@ loop-again c =
     let r = g.before.before.before.before.before in
     let h = (turn r).before in (
       omega (arith, (turn r).loop-k-test.true),
-      filled_next (begin h).requires.planned.0 h.loop-k.inv.1 (line r).column_line-line.ensures (listed r) g.change_pixels.auto.1.1.1.0
+      filled_next (begin h).requires.0.0 h.loop-k.inv.1 (line r).column_line-line.ensures (listed r) g.change_pixels.auto.1.1.1.0
           g.change_pixels.ensures,
       g.change_pixels.auto.1.1.1.0 ∙ h.loop-k.inv.2,
     )
@@ -122,7 +122,7 @@ returns c =
     let h = c.before in
     let at = begin h in
     let done : h.loop-k.k ≡ h.span_of-n.result = omega (arith, h.loop-k.invariant.0, c.loop-k-test.false) in
-    filled-end at.requires.planned.0 h.low-x.ensures (done ∙ h.span_of-n.ensures) h.loop-k.invariant.1
+    filled-end at.requires.0.0 h.low-x.ensures (done ∙ h.span_of-n.ensures) h.loop-k.invariant.1
 
 pub start_spec : {M : Type 1} → statement M
 start_spec = tie.close (tie.spec invariant-loop decreases-loop low-requires span-of-requires loop-holds add-column-line column-line-requires slice-aggregate-read read-requires sub-change-pixels part-change-pixels-start part-change-pixels-end change-pixels-requires add-k loop-less loop-again same_length returns)

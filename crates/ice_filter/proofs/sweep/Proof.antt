@@ -36,10 +36,10 @@ entry c =
 
 room : (c : tie.After-answer_number invariant-loop decreases-loop) → (entry c).args.plan.width * (entry c).args.plan.height ≤ length (entry c).args.output.now
 unfolding entry
-room c = (entry c).requires.lent_fits.1
+room c = (entry c).requires.1.1
 
 mul-n : tie.Need-overflow_mul-n invariant-loop decreases-loop
-mul-n c = omega (arith, plane-small c.requires.pictured.0)
+mul-n c = omega (arith, plane-small c.requires.0.0)
 
 slice-aggregate-built-rows : tie.Need-slice_bounds-built_rows-end invariant-loop decreases-loop
 slice-aggregate-built-rows c = search rules
@@ -53,8 +53,8 @@ slice-aggregate-enter c = search rules
 enter-requires : tie.Need-enter-visit-requires invariant-loop decreases-loop
 enter-requires c κs =
     let at = c.before.before.before.before.before.before.before.before.before.before.before.before.before.before.before.before in (
-      (at.requires.pictured.0, c.built_rows.ensures, at.requires.pictured.1),
-      (first-in at.args.way at.requires.pictured.0, (at.requires.lent_fits.0.stores, (refl, histogram-blank at.requires.pictured.0))),
+      (at.requires.0.0, c.built_rows.ensures, at.requires.0.1),
+      (first-in at.args.way at.requires.0.0, (at.requires.1.0.stores, (refl, histogram-blank at.requires.0.0))),
     )
 
 answer-number-requires : tie.Need-answer_number-requires invariant-loop decreases-loop
@@ -62,19 +62,19 @@ answer-number-requires c κs = search rules
 
 slice-write-output : tie.Need-bounds-output-0 invariant-loop decreases-loop
 unfolding entry
-slice-write-output c = omega (arith, room c, some (entry c).args.way (entry c).requires.pictured.0)
+slice-write-output c = omega (arith, room c, some (entry c).args.way (entry c).requires.0.0)
 
 loop-holds : tie.Need-loop-i-init invariant-loop decreases-loop
 unfolding entry
 loop-holds c =
     let at = entry c in
     let v = c.enter-visit in
-    sweeping-start _ at.requires.pictured.0 _ at.args.output.now _ _ v.result (room c) v.ensures.state v.ensures.here _
+    sweeping-start _ at.requires.0.0 _ at.args.output.now _ _ v.result (room c) v.ensures.state v.ensures.here _
     c.answer_number.ensures
 
 add-loop : tie.Need-overflow_add-i invariant-loop decreases-loop
 unfolding entry
-add-loop c = omega (arith, sweeping-low _ (entry c.before).requires.pictured.0 _ _ _ _ _ _ _ _ _ c.loop-i.invariant)
+add-loop c = omega (arith, sweeping-low _ (entry c.before).requires.0.0 _ _ _ _ _ _ _ _ _ c.loop-i.invariant)
 
 slice-aggregate-step : tie.Need-slice_bounds-step-end invariant-loop decreases-loop
 slice-aggregate-step c = search rules
@@ -83,7 +83,7 @@ turn-at-requires : tie.Need-turn_at-requires invariant-loop decreases-loop
 unfolding entry
 turn-at-requires c κs =
     let at = entry c.before.before.before in
-    ((first-in at.args.way at.requires.pictured.0).0, sweeping-low _ at.requires.pictured.0 _ _ _ _ _ _ _ _ _ c.loop-i.invariant)
+    ((first-in at.args.way at.requires.0.0).0, sweeping-low _ at.requires.0.0 _ _ _ _ _ _ _ _ _ c.loop-i.invariant)
 
 step-requires : tie.Need-step-then-requires invariant-loop decreases-loop
 unfolding entry
@@ -93,14 +93,14 @@ step-requires c κs =
     let b = l.before in
     let at = entry b in (
       (
-        at.requires.pictured.0,
+        at.requires.0.0,
         b.built_rows.ensures,
-        at.requires.pictured.1,
+        at.requires.0.1,
       ),
       (
-        within_of _ at.requires.pictured.0 _ _ w.held (omega (arith, sweeping-low _ at.requires.pictured.0 _ _ _ _ _ _ _ _ _ l.loop-i.invariant)),
+        within_of _ at.requires.0.0 _ _ w.held (omega (arith, sweeping-low _ at.requires.0.0 _ _ _ _ _ _ _ _ _ l.loop-i.invariant)),
         (
-          fit-going _ at.requires.pictured.0 _ _ _ at.requires.lent_fits.0.stores b.enter-visit.ensures.kept
+          fit-going _ at.requires.0.0 _ _ _ at.requires.1.0.stores b.enter-visit.ensures.kept
               w.visited.kept,
           w.visited.here,
         ),
@@ -111,7 +111,7 @@ add-i : tie.Need-overflow_add-i-in-loop-i invariant-loop decreases-loop
 unfolding entry
 add-i c = let h =
     c.before.before.before.before.before.before.before.before.before.before.before.before.before.before.before in
-    omega (arith, sweeping-low _ (entry h.before).requires.pictured.0 _ _ _ _ _ _ _ _ _ h.loop-i.inv)
+    omega (arith, sweeping-low _ (entry h.before).requires.0.0 _ _ _ _ _ _ _ _ _ h.loop.inv)
 
 -- the place of the answer
 placed : (c : tie.After-slice_known-in-loop-i-3-1 invariant-loop decreases-loop) →
@@ -122,7 +122,7 @@ placed : (c : tie.After-slice_known-in-loop-i-3-1 invariant-loop decreases-loop)
 unfolding entry
 placed c =
     let l = c.before.before.before.before.before.before.before.before.before.before.before.before.before.before.before in
-    sweeping-place _ (entry l.before).requires.pictured.0 _ _ _ _ _ _ _ _ _ l.loop-i.invariant
+    sweeping-place _ (entry l.before).requires.0.0 _ _ _ _ _ _ _ _ _ l.loop-i.invariant
     (omega
     (arith, c.loop-i-test.true))
     _ c.turn_at.ensures _ _ _ _
@@ -134,7 +134,7 @@ small : (c : tie.After-slice_known-in-loop-i-3-1 invariant-loop decreases-loop) 
 unfolding entry
 small c =
     plane-small
-    (entry c.before.before.before.before.before.before.before.before.before.before.before.before.before.before.before.before).requires.pictured.0
+    (entry c.before.before.before.before.before.before.before.before.before.before.before.before.before.before.before.before).requires.0.0
 
 long : (c : tie.After-slice_known-in-loop-i-3-1 invariant-loop decreases-loop) →
     length c.loop-i.output
@@ -191,7 +191,7 @@ unfolding entry
 loop-again c =
     let l =
     c.before.before.before.before.before.before.before.before.before.before.before.before.before.before.before.before.before.before in
-    sweeping-more _ (entry l.before).requires.pictured.0 _ _ _ _ _ _ _ _ _ l.loop-i.inv
+    sweeping-more _ (entry l.before).requires.0.0 _ _ _ _ _ _ _ _ _ l.loop-i.inv
     (omega (
       arith,
       c.loop-i-test.true,
@@ -207,10 +207,10 @@ finish-requires c κs =
     let w = l.loop-i.invariant.going in
     let at = entry l.before in (
       (
-        with-own at.requires.pictured.0,
-        within_of _ at.requires.pictured.0 _ _ w.held (omega (arith, sweeping-low _ at.requires.pictured.0 _ _ _ _ _ _ _ _ _ l.loop-i.invariant)),
+        with-own at.requires.0.0,
+        within_of _ at.requires.0.0 _ _ w.held (omega (arith, sweeping-low _ at.requires.0.0 _ _ _ _ _ _ _ _ _ l.loop-i.invariant)),
       ),
-      at.requires.lent_fits.0.summary-1,
+      at.requires.1.0.summary,
     )
 
 -- from the end back to the loop, and to the first window
@@ -221,13 +221,13 @@ abbrev entered : tie.After-cut-1 invariant-loop decreases-loop → tie.After-ent
 entered c = (looped c).before.before.before.before.before.before.before.before
 
 same_length : tie.Need-shape_of-counts invariant-loop decreases-loop
-same_length c = (looped c).loop-i.invariant.going.visited.kept.counts-1.long ∙ (entered c).enter-visit.ensures.kept.counts-1.long
+same_length c = (looped c).loop-i.invariant.going.visited.kept.counts.long ∙ (entered c).enter-visit.ensures.kept.counts.long
 
 same-length-2 : tie.Need-shape_of-words invariant-loop decreases-loop
-same-length-2 c = (looped c).loop-i.invariant.going.visited.kept.words-1.long ∙ (entered c).enter-visit.ensures.kept.words-1.long
+same-length-2 c = (looped c).loop-i.invariant.going.visited.kept.words.long ∙ (entered c).enter-visit.ensures.kept.words.long
 
 same-length-3 : tie.Need-shape_of-numbers invariant-loop decreases-loop
-same-length-3 c = (looped c).loop-i.invariant.going.visited.kept.numbers-1.long ∙ (entered c).enter-visit.ensures.kept.numbers-1.long
+same-length-3 c = (looped c).loop-i.invariant.going.visited.kept.numbers.long ∙ (entered c).enter-visit.ensures.kept.numbers.long
 
 same-length-4 : tie.Need-shape_of-summary invariant-loop decreases-loop
 same-length-4 c = search rules
@@ -242,11 +242,11 @@ returns c =
     let at = entry l.before in
     let v = (entered c).enter-visit.ensures in
     let q =
-    sweeping-end _ at.requires.pictured.0 _ _ _ _ _ _ _ l.loop-i.visit l.loop-i.i l.loop-i.inv _ at.args.output.now
+    sweeping-end _ at.requires.0.0 _ _ _ _ _ _ _ l.loop-i.visit l.loop-i.i l.loop-i.inv _ at.args.output.now
     (omega (arith, c.loop-i-test.false)) (simp length-set (room l.before)) v.state v.kept _ refl in (
       finished l.loop-i.visit _ refl refl refl q.0
-          (handed_back at.args.way at.requires.pictured.0 at.requires.pictured.1 (state_of at.args.way l.loop-i.visit)
-          l.loop-i.inv.going.visited.here.balance_box-1 c.finish.ensures),
+          (handed_back at.args.way at.requires.0.0 at.requires.0.1 (state_of at.args.way l.loop-i.visit)
+          l.loop-i.inv.going.visited.here.balance-box c.finish.ensures),
       q.1,
     )
 

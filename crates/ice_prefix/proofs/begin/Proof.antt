@@ -39,15 +39,15 @@ entry c = c.before.before.before.before.before.before.before.before.before.befor
 
 room : (c : tie.After-answer_number invariant-loop decreases-loop) → ((entry c).args.n ≤ length (entry c).args.answers.now) × (1 ≤ (entry c).args.n)
 unfolding entry
-room c = ((entry c).requires.le_n.0.2, (entry c).requires.le_n.0.0)
+room c = ((entry c).requires.1.0.2, (entry c).requires.1.0.0)
 
 small : (c : tie.After-answer_number invariant-loop decreases-loop) → (entry c).args.n ≤ 262144
 unfolding entry
-small c = few-pixels (entry c).requires.planned (entry c).args.n (entry c).requires.le_n.0.0 (entry c).requires.le_n.0.1
+small c = few-pixels (entry c).requires.0 (entry c).args.n (entry c).requires.1.0.0 (entry c).requires.1.0.1
 
 long-enough : (c : tie.After-answer_number invariant-loop decreases-loop) → length (moves_to (entry c).args.file.now (entry c).args.n) ≡ (entry c).args.n - 1
 unfolding entry
-long-enough c = moves_long (entry c).requires.planned (entry c).args.n (entry c).requires.le_n.0.0 (entry c).requires.le_n.0.1
+long-enough c = moves_long (entry c).requires.0 (entry c).args.n (entry c).requires.1.0.0 (entry c).requires.1.0.1
 
 kept-long : (l : tie.At-loop-i invariant-loop decreases-loop) → length l.loop-i.answers ≡ length (entry l.before).args.answers.now
 unfolding entry
@@ -77,8 +77,8 @@ slice-aggregate-enter-3 c = search rules
 enter-requires : tie.Need-enter-visit-requires invariant-loop decreases-loop
 enter-requires c κs =
     let at = c.before.before.before.before.before.before.before.before.before.before.before.before.before.before in (
-      (at.requires.planned, c.built_rows.ensures, joint-serves at.args.plan),
-      (first-in Joint at.requires.planned, (at.requires.le_n.1, (refl, histogram-blank at.requires.planned))),
+      (at.requires.0, c.built_rows.ensures, joint-serves at.args.plan),
+      (first-in Joint at.requires.0, (at.requires.1.1, (refl, histogram-blank at.requires.0))),
     )
 
 answer-number-requires : tie.Need-answer_number-requires invariant-loop decreases-loop
@@ -94,7 +94,7 @@ loop-holds c =
     let at = entry c in
     let v = c.enter-visit in
     walking_start _ at.args.file.now _ _ at.args.answers.now _ _ _ (omega (arith, room c)) v.ensures.here
-    (held_first _ at.requires.planned _ _ v.result (first-in Joint at.requires.planned).0 (first-in Joint at.requires.planned).1 v.ensures.state) _
+    (held_first _ at.requires.0 _ _ v.result (first-in Joint at.requires.0).0 (first-in Joint at.requires.0).1 v.ensures.state) _
     c.answer_number.ensures
 
 add-loop : tie.Need-overflow_add-i invariant-loop decreases-loop
@@ -114,7 +114,7 @@ unfolding entry
 turn-at-requires c κs =
     let l = c.before.before.before in
     let at = entry l.before in
-    ((first-in Joint at.requires.planned).0, omega (arith, c.loop-i-test.true, small l.before))
+    ((first-in Joint at.requires.0).0, omega (arith, c.loop-i-test.true, small l.before))
 
 slice-aggregate-step-3 : tie.Need-slice_bounds-step-end-in-loop-i-2 invariant-loop decreases-loop
 slice-aggregate-step-3 c = search rules
@@ -127,15 +127,15 @@ step-requires c κs =
     let b = l.before in
     let at = entry b in (
       (
-        at.requires.planned,
+        at.requires.0,
         b.built_rows.ensures,
         joint-serves at.args.plan,
       ),
       (
-        within_of _ at.requires.planned _ _ w.held (omega
+        within_of _ at.requires.0 _ _ w.held (omega
             (arith, c.loop-i-test.true, small b)),
         (
-          fit-going _ at.requires.planned _ _ _ at.requires.le_n.1 b.enter-visit.ensures.kept
+          fit-going _ at.requires.0 _ _ _ at.requires.1.1 b.enter-visit.ensures.kept
               w.visited.kept,
           w.visited.here,
         ),
@@ -183,19 +183,19 @@ loop-again c =
     let at = entry l.before in
     let t = c.loop-i-test.true in
     walking-more _ at.args.file.now (moves_to at.args.file.now at.args.n) _ _ _ _ _ _ _ _ l.loop-i.i l.loop-i.invariant
-    (omega (arith, t, long-enough l.before)) (simp length-set (omega (arith, long-enough l.before, room l.before, at.requires.le_n.0.0))) _ _ _ _
-    (stepped at.requires.planned at.args.n at.requires.le_n.0.0 at.requires.le_n.0.1 l.loop-i.i _ t
+    (omega (arith, t, long-enough l.before)) (simp length-set (omega (arith, long-enough l.before, room l.before, at.requires.1.0.0))) _ _ _ _
+    (stepped at.requires.0 at.args.n at.requires.1.0.0 at.requires.1.0.1 l.loop-i.i _ t
     c.turn_at.ensures l.loop-i.visit _ _ _
     _ _
     c.step-then.ensures) _ c.answer_number-in-loop-i.ensures
 
 same_length : tie.Need-shape_of-counts invariant-loop decreases-loop
-same_length c = (looped c).loop-i.invariant.going.visited.kept.counts-1.long ∙
-    c.enter-visit.ensures.kept.counts-1.long
+same_length c = (looped c).loop-i.invariant.going.visited.kept.counts.long ∙
+    c.enter-visit.ensures.kept.counts.long
 
 same-length-2 : tie.Need-shape_of-words invariant-loop decreases-loop
-same-length-2 c = (looped c).loop-i.invariant.going.visited.kept.words-1.long ∙
-    c.enter-visit.ensures.kept.words-1.long
+same-length-2 c = (looped c).loop-i.invariant.going.visited.kept.words.long ∙
+    c.enter-visit.ensures.kept.words.long
 
 same-length-3 : tie.Need-shape_of-answers invariant-loop decreases-loop
 unfolding entry
@@ -211,7 +211,7 @@ returns c =
     walking-end _ at.args.file.now (moves_to at.args.file.now at.args.n) 0 0 _ _ _ at.args.answers.now _ _ _ _ _ l.loop-i.visit
     l.loop-i.i
     l.loop-i.inv (omega (arith, c.loop-i-test.false, long-enough l.before)) v.state v.kept _ refl in
-    begun at.requires.planned at.args.n at.requires.le_n.0.0 at.requires.le_n.0.1 _ _ _ _ l.loop-i.visit _ _ q.0 q.1
+    begun at.requires.0 at.args.n at.requires.1.0.0 at.requires.1.0.1 _ _ _ _ l.loop-i.visit _ _ q.0 q.1
 
 pub begin_spec : {M : Type 1} → statement M
 begin_spec = tie.close (tie.spec invariant-loop decreases-loop slice-aggregate-built-rows built-rows-requires slice-aggregate-enter slice-aggregate-enter-2 slice-aggregate-enter-3 enter-requires answer-number-requires slice-write-answers loop-holds add-loop slice-aggregate-step slice-aggregate-step-2 turn-at-requires slice-aggregate-step-3 step-requires add-i answer-number-requires-2 mul-answers slice-write-answers-2 loop-less loop-again same_length same-length-2 same-length-3 returns)

@@ -12,7 +12,7 @@ use Rattle.ice_step.proofs.step.Tie as tie
 
 next-requires : tie.Need-next-m-requires
 next-requires c κs = let at =
-    c.before.before.before.before.before.before in (settings-limits-in at.requires.pictured.0, (at.requires.within.0.column, at.requires.within.0.row))
+    c.before.before.before.before.before.before in (settings-limits-in at.requires.0.0, (at.requires.1.0.column, at.requires.1.0.row))
 
 enum-known-m : tie.Need-enum_known-m
 enum-known-m c = search rules
@@ -21,14 +21,14 @@ slide-requires : tie.Need-slide-requires
 slide-requires c κs =
     let at = c.before.before.before.before.before.before.before.before.before.before.before.before.before.before.before in
     let to = c.before.before.before.before.before.before in
-    let on = at.requires.within.0 in (
-      at.requires.pictured,
+    let on = at.requires.1.0 in (
+      at.requires.0,
       (
         on,
         (
           move-adjacent _ _ _ _ _ _ on.column on.row
-              (sym to.next-m.ensures ∙ to.m-1.given.1),
-          (at.requires.within.1.0, at.requires.within.1.1),
+              (sym to.next-m.ensures ∙ to.in-To.is),
+          (at.requires.1.1.0, at.requires.1.1.1),
         ),
       ),
     )
@@ -49,18 +49,18 @@ returns : tie.Need-returns-in-To
 returns c =
     let at =
     c.before.before.before.before.before.before.before.before.before.before.before.before.before.before.before.before.before.before.before.before.before.before in
-    visited-moves _ at.requires.pictured.0 at.args.visit _ _ _ _ _ _ _ _
+    visited-moves _ at.requires.0.0 at.args.visit _ _ _ _ _ _ _ _
     (sym
     c.next-m.ensures ∙
-    c.m-1.given.1)
+    c.in-To.is)
     c.slide.ensures
 
 returns-2 : tie.Need-returns-in-Nowhere
 returns-2 c =
     let at = c.before.before.before.before.before.before.before.before.before.before.before.before in
-    let h = at.requires.within.1.1 in
-    visited-stays _ at.requires.pictured.0 at.args.visit _ _ _ _ _ _
-    (sym c.next-m.ensures ∙ c.m-in-Nowhere-1.given.1)
+    let h = at.requires.1.1.1 in
+    visited-stays _ at.requires.0.0 at.args.visit _ _ _ _ _ _
+    (sym c.next-m.ensures ∙ c.in-Nowhere.is)
     (record { holds = h.holds; balance-box = h.balance-box; carried = h.carried }) refl
 
 pub step_spec : {M : Type 1} → statement M

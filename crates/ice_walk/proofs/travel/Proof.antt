@@ -35,7 +35,7 @@ entry c =
 
 room : (c : tie.After-answer_number invariant-loop decreases-loop) → length (entry c).args.moves.now + 1 ≤ length (entry c).args.answers.now
 unfolding entry
-room c = (entry c).requires.column_lt_width.1.1.1
+room c = (entry c).requires.1.1.1.1
 
 slice-aggregate-built-rows : tie.Need-slice_bounds-built_rows-end invariant-loop decreases-loop
 slice-aggregate-built-rows c = search rules
@@ -49,8 +49,8 @@ slice-aggregate-enter c = search rules
 enter-requires : tie.Need-enter-visit-requires invariant-loop decreases-loop
 enter-requires c κs =
     let at = c.before.before.before.before.before.before.before.before.before.before.before.before.before.before.before.before in (
-      (at.requires.planned.0, c.built_rows.ensures, at.requires.planned.1),
-      (at.requires.column_lt_width.0, (at.requires.column_lt_width.1.1.0.stores, (refl, histogram-blank at.requires.planned.0))),
+      (at.requires.0.0, c.built_rows.ensures, at.requires.0.1),
+      (at.requires.1.0, (at.requires.1.1.1.0.stores, (refl, histogram-blank at.requires.0.0))),
     )
 
 slice-aggregate-enter-2 : tie.Need-slice_bounds-enter-end-2 invariant-loop decreases-loop
@@ -69,7 +69,7 @@ loop-holds c =
     let at = entry c in
     let v = c.enter-visit in
     walking_start _ at.args.file.now _ _ at.args.answers.now _ _ _ (omega (arith, room c)) v.ensures.here
-    (held_first _ at.requires.planned.0 _ _ v.result at.requires.column_lt_width.0.0 at.requires.column_lt_width.0.1 v.ensures.state) _ c.answer_number.ensures
+    (held_first _ at.requires.0.0 _ _ v.result at.requires.1.0.0 at.requires.1.0.1 v.ensures.state) _ c.answer_number.ensures
 
 slice-aggregate-step : tie.Need-slice_bounds-step-end invariant-loop decreases-loop
 slice-aggregate-step c = search rules
@@ -88,14 +88,14 @@ step-requires c κs =
     let b = l.before in
     let at = entry b in (
       (
-        at.requires.planned.0,
+        at.requires.0.0,
         b.built_rows.ensures,
-        at.requires.planned.1,
+        at.requires.0.1,
       ),
       (
-        within_of _ at.requires.planned.0 _ _ w.held (omega (arith, w.most, at.requires.column_lt_width.1.0)),
+        within_of _ at.requires.0.0 _ _ w.held (omega (arith, w.most, at.requires.1.1.0)),
         (
-          fit-going _ at.requires.planned.0 _ _ _ at.requires.column_lt_width.1.1.0.stores
+          fit-going _ at.requires.0.0 _ _ _ at.requires.1.1.1.0.stores
               b.enter-visit.ensures.kept
               w.visited.kept,
           w.visited.here,
@@ -107,7 +107,7 @@ add-i : tie.Need-overflow_add-i invariant-loop decreases-loop
 unfolding entry
 add-i c =
     let t = c.before.before.before.before.before.before.before.before.before.before.before.before.before.before.before in
-    omega (arith, t.loop-i-test.true, (entry t.before.before).requires.column_lt_width.1.0)
+    omega (arith, t.loop-i-test.true, (entry t.before.before).requires.1.1.0)
 
 answer-number-requires-2 : tie.Need-answer_number-requires-in-loop-i invariant-loop decreases-loop
 answer-number-requires-2 c κs = search rules
@@ -116,7 +116,7 @@ mul-answers : tie.Need-offset_bounds-answers-i invariant-loop decreases-loop
 unfolding entry
 mul-answers c =
     let t = c.before.before.before.before.before.before.before.before.before.before.before.before.before.before.before.before in
-    omega (arith, t.loop-i-test.true, (entry t.before.before).requires.column_lt_width.1.0)
+    omega (arith, t.loop-i-test.true, (entry t.before.before).requires.1.1.0)
 
 long : (c : tie.After-slice_known-in-loop-i-3-1 invariant-loop decreases-loop) →
     length c.loop-i.answers
@@ -162,8 +162,8 @@ finish-requires c κs =
     let l = c.before.before.before in
     let w = l.loop-i.invariant.going in
     let at = entry l.before in (
-      (at.requires.planned.0, within_of _ at.requires.planned.0 _ _ w.held (omega (arith, w.most, at.requires.column_lt_width.1.0))),
-      at.requires.column_lt_width.1.1.0.summary-1,
+      (at.requires.0.0, within_of _ at.requires.0.0 _ _ w.held (omega (arith, w.most, at.requires.1.1.0))),
+      at.requires.1.1.1.0.summary,
     )
 
 -- from the end back to the loop, and to the first window
@@ -174,13 +174,13 @@ abbrev entered : tie.After-cut-1 invariant-loop decreases-loop → tie.After-ent
 entered c = (looped c).before.before.before.before.before.before.before.before
 
 same_length : tie.Need-shape_of-counts invariant-loop decreases-loop
-same_length c = (looped c).loop-i.invariant.going.visited.kept.counts-1.long ∙ (entered c).enter-visit.ensures.kept.counts-1.long
+same_length c = (looped c).loop-i.invariant.going.visited.kept.counts.long ∙ (entered c).enter-visit.ensures.kept.counts.long
 
 same-length-2 : tie.Need-shape_of-words invariant-loop decreases-loop
-same-length-2 c = (looped c).loop-i.invariant.going.visited.kept.words-1.long ∙ (entered c).enter-visit.ensures.kept.words-1.long
+same-length-2 c = (looped c).loop-i.invariant.going.visited.kept.words.long ∙ (entered c).enter-visit.ensures.kept.words.long
 
 same-length-3 : tie.Need-shape_of-numbers invariant-loop decreases-loop
-same-length-3 c = (looped c).loop-i.invariant.going.visited.kept.numbers-1.long ∙ (entered c).enter-visit.ensures.kept.numbers-1.long
+same-length-3 c = (looped c).loop-i.invariant.going.visited.kept.numbers.long ∙ (entered c).enter-visit.ensures.kept.numbers.long
 
 same-length-4 : tie.Need-shape_of-summary invariant-loop decreases-loop
 same-length-4 c = search rules
@@ -201,8 +201,8 @@ returns c =
     walking-end _ at.args.file.now at.args.moves.now _ _ _ _ _ at.args.answers.now _ _ _ _ _ l.loop-i.visit l.loop-i.i
     l.loop-i.inv (omega (arith, c.loop-i-test.false)) v.state v.kept _ refl in (
       finished l.loop-i.visit _ refl refl refl q.0
-          (handed_back at.args.way at.requires.planned.0 at.requires.planned.1 (state_of at.args.way l.loop-i.visit)
-          l.loop-i.inv.going.visited.here.balance_box-1 c.finish.ensures),
+          (handed_back at.args.way at.requires.0.0 at.requires.0.1 (state_of at.args.way l.loop-i.visit)
+          l.loop-i.inv.going.visited.here.balance-box c.finish.ensures),
       q.1,
     )
 

@@ -6,4 +6,4 @@ use Rattle.icemedian_c.proofs.icemedian_join.Goals as goal
 pub returns : goal.returns
 returns c =
     let h = c.join-v in
-    record { status_is = (reported h.result h.ensures.verdict c.report.ensures).status_is; output = h.ensures.output-1 }
+    record { status_is = (reported h.result h.ensures.verdict c.report.ensures).status_is; output = h.ensures.output }

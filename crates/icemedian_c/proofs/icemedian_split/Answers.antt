@@ -6,4 +6,4 @@ use Rattle.icemedian_c.proofs.icemedian_split.Goals as goal
 pub returns : goal.returns
 returns c =
     let h = c.split-v in
-    record { reported = reported h.result h.ensures.verdict c.report.ensures; output = h.ensures.output-1 }
+    record { reported = reported h.result h.ensures.verdict c.report.ensures; output = h.ensures.output }

@@ -8,10 +8,10 @@ pub returns-in-Length : goal.returns-in-Length
 returns-in-Length c =
     write-passed
     (writes-narrowed c.settings_from-settings.ensures
-    c.write-w.ensures) c.w-1.given.1 (omega arith)
+    c.write-w.ensures) c.in-Length.is (omega arith)
 
 pub returns-in-Refused : goal.returns-in-Refused
 returns-in-Refused c =
     write-stopped
     (writes-narrowed c.settings_from-settings.ensures
-    c.write-w.ensures) c.w-in-Refused-1.given.1 c.report.ensures
+    c.write-w.ensures) c.in-Refused.is c.report.ensures

@@ -10,20 +10,20 @@ use Rattle.joint_answer.proofs.arrive.Statement.{statement}
 use Rattle.joint_answer.proofs.arrive.Tie as tie
 
 abbrev start : tie.After-box_dot-bal → tie.Start
-start r = r.before.before.before.before.before
+start r = r.before.before.before.before
 
 box-dot-requires : tie.Need-box_dot-bal-requires
 box-dot-requires c κs =
-    let at = c.before.before.before.before in
-    let p = at.requires.searchable in
-    (p.0.guides, p.1, box-bounds p.0 at.args.cut.0 _ at.requires.cut_lt_levels.0 at.requires.cut_lt_levels.2)
+    let at = c.before.before.before in
+    let p = at.requires.0 in
+    (p.0.guides, p.1, box-bounds p.0 at.args.cut.0 _ at.requires.1.0 at.requires.1.2)
 
 -- the balance at the cut point
 here : (r : tie.After-box_dot-bal) → let at = start r in
     r.box_dot-bal.result ≡ balance_in at.args.sizes at.args.counts.now at.args.row.now at.args.cut.0
 here r =
     let at = start r in
-    box-balance at.requires.searchable.0 at.requires.searchable.1 at.args.cut.0 _ r.box_dot-bal.result at.requires.cut_lt_levels.0 at.requires.cut_lt_levels.2 r.box_dot-bal.ensures
+    box-balance at.requires.0.0 at.requires.0.1 at.args.cut.0 _ r.box_dot-bal.result at.requires.1.0 at.requires.1.2 r.box_dot-bal.ensures
 
 by-blocks-requires : tie.Need-by_blocks-requires
 by-blocks-requires c κs = search rules
@@ -33,8 +33,8 @@ from-cut-requires : tie.Need-from_cut-level-requires
 from-cut-requires c κs =
     let r = c.before.before.before in
     let at = start r in
-    let p = at.requires.searchable in
-    let q = at.requires.cut_lt_levels in
+    let p = at.requires.0 in
+    let q = at.requires.1 in
     (p, (q.0, balance-back p.0 p.1 at.args.cut.0 r.box_dot-bal.result q.0 (here r), q.2))
 
 shifts-to-requires : tie.Need-shifts_to-requires
@@ -58,8 +58,8 @@ from-cut-requires-2 : tie.Need-from_cut-requires
 from-cut-requires-2 c κs =
     let r = c.before.before.before in
     let at = start r in
-    let p = at.requires.searchable in
-    let q = at.requires.cut_lt_levels in
+    let p = at.requires.0 in
+    let q = at.requires.1 in
     (p, ((q.0, balance-back p.0 p.1 at.args.cut.0 r.box_dot-bal.result q.0 (here r), q.1), q.2))
 
 returns-2 : tie.Need-returns

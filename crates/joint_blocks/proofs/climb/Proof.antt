@@ -37,22 +37,22 @@ below : (c : tie.In-loop-b invariant-loop decreases-loop) → bal (start c.befor
 below c = let short = lt-true c.loop-b.invariant.2 refl c.loop-b-test.true in omega (arith, ints, short)
 
 next : (c : tie.In-loop-b invariant-loop decreases-loop) → c.loop-b.i + 1 < (start c.before).args.sizes.levels
-next c = let at = start c.before in room at.requires.searchable.0 at.requires.searchable.1 c.loop-b.i c.loop-b.invariant.1 (below c)
+next c = let at = start c.before in room at.requires.0.0 at.requires.0.1 c.loop-b.i c.loop-b.invariant.1 (below c)
 
 loop-holds : tie.Need-loop-b-init invariant-loop decreases-loop
 loop-holds c =
     let at = c.before.before.before in (
       omega arith,
-      at.requires.from_lt_levels.0,
-      balance-back at.requires.searchable.0 at.requires.searchable.1 at.args.from.0 at.args.bal at.requires.from_lt_levels.0 at.requires.from_lt_levels.1,
+      at.requires.1.0,
+      balance-back at.requires.0.0 at.requires.0.1 at.args.from.0 at.args.bal at.requires.1.0 at.requires.1.1,
       λ j u v. absurd (omega arith),
-      at.requires.from_lt_levels.2,
+      at.requires.1.2,
     )
 
 vacant-above-requires : tie.Need-vacant_above-requires invariant-loop decreases-loop
 vacant-above-requires c κs =
     let h = c.before in
-    (words-fit (start h).requires.searchable.0 h.loop-b.i h.loop-b.invariant.1, h.loop-b.invariant.1)
+    (words-fit (start h).requires.0.0 h.loop-b.i h.loop-b.invariant.1, h.loop-b.invariant.1)
 
 -- the block that is passed over
 empty : (c : tie.Then-vacant_above invariant-loop decreases-loop) → let h = c.before.before.before in let at = start h in
@@ -60,7 +60,7 @@ empty : (c : tie.Then-vacant_above invariant-loop decreases-loop) → let h = c.
 empty c = c.vacant_above.ensures c.if-vacant_above.true
 
 add-i : tie.Need-overflow_add-i invariant-loop decreases-loop
-add-i c = omega (arith, (start c.before.before.before).requires.searchable.0.levels, (empty c).whole)
+add-i c = omega (arith, (start c.before.before.before).requires.0.0.levels, (empty c).whole)
 
 loop-less : tie.Need-loop-b-smaller-then-vacant_above invariant-loop decreases-loop
 loop-less c = omega (arith, c.loop-b.invariant.1)
@@ -70,7 +70,7 @@ loop-again c =
     let t = c.before.before in
     let h = t.before in
     let at = start h in
-    let st = at.requires.searchable.0 in
+    let st = at.requires.0.0 in
     let v = empty c in (
       omega (arith, h.loop-b.invariant.0),
       omega (arith, v.whole),
@@ -80,13 +80,13 @@ loop-again c =
     )
 
 add-i-2 : tie.Need-overflow_add-i-else-vacant_above invariant-loop decreases-loop
-add-i-2 c = let h = c.before.before.before in omega (arith, (start h).requires.searchable.0.levels, h.loop-b.invariant.1)
+add-i-2 c = let h = c.before.before.before in omega (arith, (start h).requires.0.0.levels, h.loop-b.invariant.1)
 
 raise-level-requires : tie.Need-raise_level-requires invariant-loop decreases-loop
 raise-level-requires c κs =
     let t = c.before.before.before in
     let h = t.before in
-    let p = (start h).requires.searchable in
+    let p = (start h).requires.0 in
     (p.0.marked (h.loop-b.i + 1) (next t), p.1, box-bounds p.0 h.loop-b.i _ h.loop-b.invariant.1 h.loop-b.invariant.4)
 
 step-balance-requires : tie.Need-step_balance-b-requires invariant-loop decreases-loop
@@ -94,7 +94,7 @@ step-balance-requires c κs =
     let t = c.before.before.before.before in
     let h = t.before in
     let at = start h in
-    step-asks at.requires.searchable.0 at.requires.searchable.1 h.loop-b.i (h.loop-b.i + 1) (to_z w32 h.loop-b.b) c.raise_level.result (pos 2)
+    step-asks at.requires.0.0 at.requires.0.1 h.loop-b.i (h.loop-b.i + 1) (to_z w32 h.loop-b.b) c.raise_level.result (pos 2)
     h.loop-b.invariant.1 (next t) h.loop-b.invariant.2 c.raise_level.ensures.0 (omega arith)
 
 loop-less-2 : tie.Need-loop-b-smaller invariant-loop decreases-loop
@@ -108,8 +108,8 @@ loop-again-2 c =
     let at = start h in (
       omega (arith, h.loop-b.invariant.0),
       next t,
-      step-up at.requires.searchable.0 at.requires.searchable.1 h.loop-b.i (to_z w32 h.loop-b.b) e.raise_level.result c.step_balance-b.result
-          (next t) h.loop-b.invariant.2 e.raise_level.ensures.0 c.step_balance-b.type_inv c.step_balance-b.ensures,
+      step-up at.requires.0.0 at.requires.0.1 h.loop-b.i (to_z w32 h.loop-b.b) e.raise_level.result c.step_balance-b.result
+          (next t) h.loop-b.invariant.2 e.raise_level.ensures.0 c.step_balance-b.type-inv c.step_balance-b.ensures,
       λ j u v. ⊎_elim (λ x. h.loop-b.invariant.3 j u x) (λ x. let d : j ≡ h.loop-b.i =
           omega arith in subst (λ (q : ℕ). bal at q <ℤ pos 0) (sym d) (below t)) (lt-or-le j h.loop-b.i),
       raised at.args.sizes at.args.counts.now h.loop-b.i _ _ h.loop-b.balance-box _ h.loop-b.invariant.4 e.raise_level.ensures.1

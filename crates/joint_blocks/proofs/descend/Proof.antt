@@ -30,7 +30,7 @@ abbrev bal : tie.Start invariant-loop decreases-loop → ℕ → ℤ
 bal at j = balance_in at.args.sizes at.args.counts.now at.args.row.now j
 
 inside : (c : tie.In-loop-i invariant-loop decreases-loop) → c.loop-i.i < (start c.before).args.sizes.levels
-inside c = omega (arith, (start c.before).requires.from_lt_levels.0, c.loop-i.invariant.0)
+inside c = omega (arith, (start c.before).requires.1.0, c.loop-i.invariant.0)
 
 lower : (v : tie.After-step_balance-lower invariant-loop decreases-loop) →
     let h = v.before.before.before.before.before in to_z w32 (of_z w32 v.step_balance-lower.result) ≡ bal (start h) (h.loop-i.i - 1)
@@ -39,21 +39,21 @@ lower v =
     let t = e.before.before.before in
     let h = t.before in
     let at = start h in
-    step_down at.requires.searchable.0 at.requires.searchable.1 h.loop-i.i (to_z w32 h.loop-i.b) e.level_weight.result v.step_balance-lower.result
-    t.loop-i-test.true (inside t) h.loop-i.invariant.1 e.level_weight.ensures v.step_balance-lower.type_inv
+    step_down at.requires.0.0 at.requires.0.1 h.loop-i.i (to_z w32 h.loop-i.b) e.level_weight.result v.step_balance-lower.result
+    t.loop-i-test.true (inside t) h.loop-i.invariant.1 e.level_weight.ensures v.step_balance-lower.type-inv
     v.step_balance-lower.ensures
 
 loop-holds : tie.Need-loop-i-init invariant-loop decreases-loop
 loop-holds c =
     let at = c.before.before.before in (
       omega arith,
-      balance-back at.requires.searchable.0 at.requires.searchable.1 at.args.from.0 at.args.bal at.requires.from_lt_levels.0 at.requires.from_lt_levels.1,
-      subst (λ (q : ℤ). pos 0 ≤ℤ q) at.requires.from_lt_levels.1 at.requires.from_lt_levels.2,
-      at.requires.from_lt_levels.3,
+      balance-back at.requires.0.0 at.requires.0.1 at.args.from.0 at.args.bal at.requires.1.0 at.requires.1.1,
+      subst (λ (q : ℤ). pos 0 ≤ℤ q) at.requires.1.1 at.requires.1.2,
+      at.requires.1.3,
     )
 
 vacant-below-requires : tie.Need-vacant_below-requires invariant-loop decreases-loop
-vacant-below-requires c κs = let h = c.before in (words-fit (start h).requires.searchable.0 h.loop-i.i (inside c), inside c)
+vacant-below-requires c κs = let h = c.before in (words-fit (start h).requires.0.0 h.loop-i.i (inside c), inside c)
 
 -- the block that is passed over
 empty : (c : tie.Then-vacant_below invariant-loop decreases-loop) → let h = c.before.before.before in let at = start h in
@@ -70,7 +70,7 @@ loop-again : tie.Need-loop-i-preserved-then-vacant_below invariant-loop decrease
 loop-again c =
     let h = c.before.before.before in
     let at = start h in
-    let st = at.requires.searchable.0 in
+    let st = at.requires.0.0 in
     let v = empty c in
     let same = balance-down st h.loop-i.i v.0 v.1 at.args.row.now in (
       omega (arith, h.loop-i.invariant.0),
@@ -83,14 +83,14 @@ level-weight-requires : tie.Need-level_weight-requires invariant-loop decreases-
 level-weight-requires c κs =
     let t = c.before.before in
     let at = start t.before in
-    level-asks at.requires.searchable.0 at.requires.searchable.1 t.loop-i.i (inside t)
+    level-asks at.requires.0.0 at.requires.0.1 t.loop-i.i (inside t)
 
 step-balance-requires : tie.Need-step_balance-lower-requires invariant-loop decreases-loop
 step-balance-requires c κs =
     let t = c.before.before.before in
     let h = t.before in
     let at = start h in
-    step-asks at.requires.searchable.0 at.requires.searchable.1 h.loop-i.i h.loop-i.i (to_z w32 h.loop-i.b) c.level_weight.result (negsuc 1)
+    step-asks at.requires.0.0 at.requires.0.1 h.loop-i.i h.loop-i.i (to_z w32 h.loop-i.b) c.level_weight.result (negsuc 1)
     (inside t) (inside t) h.loop-i.invariant.1 c.level_weight.ensures (omega arith)
 
 -- the balance below falls short
@@ -112,7 +112,7 @@ shift-level-requires : tie.Need-shift_level-requires invariant-loop decreases-lo
 shift-level-requires c κs =
     let t = c.before.before.before.before.before.before in
     let h = t.before in
-    let q = (start h).requires.searchable.0 in
+    let q = (start h).requires.0.0 in
     (q.marked h.loop-i.i (inside t), (omega arith, box-bounds q h.loop-i.i _ (inside t) h.loop-i.invariant.3))
 
 sub-i-2 : tie.Need-overflow_sub-i-else-vacant_below invariant-loop decreases-loop

@@ -17,7 +17,7 @@ use Rattle.joint_blocks.proofs.from_cut.Tie as tie
 here : (at : tie.Start) →
     to_z w32 (of_z w32 at.args.bal) ≡ balance_in at.args.sizes at.args.counts.now at.args.row.now
     at.args.cut.0
-here at = balance-back at.requires.searchable.0 at.requires.searchable.1 at.args.cut.0 at.args.bal at.requires.cut_lt_levels.0 at.requires.cut_lt_levels.1
+here at = balance-back at.requires.0.0 at.requires.0.1 at.args.cut.0 at.args.bal at.requires.1.0 at.requires.1.1
 
 -- no level weighs less than 0
 low : (at : tie.Start) (i : ℕ) → i < at.args.sizes.levels →
@@ -38,8 +38,8 @@ enough c = let not-less = lt-false (here c.before.before.before.before) refl c.i
 climb-requires : tie.Need-climb-requires
 climb-requires c κs =
     let at = c.before.before.before.before.before in
-    let p = at.requires.cut_lt_levels in
-    ((at.requires.searchable.0, at.requires.searchable.1), (p.0, here at, p.2))
+    let p = at.requires.1 in
+    ((at.requires.0.0, at.requires.0.1), (p.0, here at, p.2))
 
 returns : tie.Need-returns-then-bal-lt0
 returns c =
@@ -51,13 +51,13 @@ descend-requires : tie.Need-descend-requires
 descend-requires c κs =
     let k = c.before in
     let at = k.before.before.before.before in
-    let p = at.requires.cut_lt_levels in
-    ((at.requires.searchable.0, at.requires.searchable.1), (p.0, here at, subst (λ (x : ℤ). pos 0 ≤ℤ x) (sym (here at)) (enough k), p.2))
+    let p = at.requires.1 in
+    ((at.requires.0.0, at.requires.0.1), (p.0, here at, subst (λ (x : ℤ). pos 0 ≤ℤ x) (sym (here at)) (enough k), p.2))
 
 returns-2 : tie.Need-returns
 returns-2 c =
     let at = c.before.before.before.before.before.before in
-    (descended-median (low at) at.requires.cut_lt_levels.0 c.descend.ensures.0, c.descend.ensures.1)
+    (descended-median (low at) at.requires.1.0 c.descend.ensures.0, c.descend.ensures.1)
 
 pub from_cut_spec : {M : Type 1} → statement M
 from_cut_spec = tie.close (tie.spec climb-requires returns descend-requires returns-2)

@@ -97,7 +97,7 @@ loop-again c =
     let p = c.before in
     let t = turn p.before in (
       omega (arith, t.loop-k-test.taken),
-      more t.loop-k.k 1 t.loop-k.sum (here t) t.loop-k.inv.1 (product_is p) c.add-sum.type_inv c.add-sum.ensures,
+      more t.loop-k.k 1 t.loop-k.sum (here t) t.loop-k.inv.1 (product_is p) c.add-sum.type-inv c.add-sum.ensures,
     )
 
 returns : tie.Need-returns invariant-loop decreases-loop

@@ -18,15 +18,15 @@ abbrev start : tie.At-loop-i invariant-loop decreases-loop → tie.Start invaria
 start h = h.before.before.before
 
 loop-holds : tie.Need-loop-i-init invariant-loop decreases-loop
-loop-holds c = let at = c.before.before in (at.requires.to_le_from.0, omega arith, at.requires.to_le_from.2)
+loop-holds c = let at = c.before.before in (at.requires.1.0, omega arith, at.requires.1.2)
 
 shift-level-requires : tie.Need-shift_level-requires invariant-loop decreases-loop
 shift-level-requires c κs =
     let h = c.before.before in
     let at = start h in
-    let q = at.requires.searchable in (
-      q.marked _ (omega (arith, at.requires.to_le_from.1, h.loop-i.invariant.1)),
-      (omega arith, box-bounds q h.loop-i.i _ (omega (arith, at.requires.to_le_from.1, h.loop-i.invariant.1)) h.loop-i.invariant.2),
+    let q = at.requires.0 in (
+      q.marked _ (omega (arith, at.requires.1.1, h.loop-i.invariant.1)),
+      (omega arith, box-bounds q h.loop-i.i _ (omega (arith, at.requires.1.1, h.loop-i.invariant.1)) h.loop-i.invariant.2),
     )
 
 sub-i : tie.Need-overflow_sub-i invariant-loop decreases-loop

@@ -18,18 +18,18 @@ abbrev start : tie.At-loop-i invariant-loop decreases-loop → tie.Start invaria
 start h = h.before.before.before
 
 loop-holds : tie.Need-loop-i-init invariant-loop decreases-loop
-loop-holds c = let at = c.before.before in (at.requires.from_le_to.0, at.requires.from_le_to.2)
+loop-holds c = let at = c.before.before in (at.requires.1.0, at.requires.1.2)
 
 add-i : tie.Need-overflow_add-i invariant-loop decreases-loop
-add-i c = let at = start c.before in omega (arith, at.requires.searchable.levels, at.requires.from_le_to.1, c.loop-i-test.true)
+add-i c = let at = start c.before in omega (arith, at.requires.0.levels, at.requires.1.1, c.loop-i-test.true)
 
 shift-level-requires : tie.Need-shift_level-requires invariant-loop decreases-loop
 shift-level-requires c κs =
     let h = c.before.before in
     let at = start h in
-    let q = at.requires.searchable in (
-      q.marked _ (omega (arith, at.requires.from_le_to.1, c.loop-i-test.true)),
-      (omega arith, box-bounds q h.loop-i.i _ (omega (arith, at.requires.from_le_to.1, c.loop-i-test.true)) h.loop-i.invariant.1),
+    let q = at.requires.0 in (
+      q.marked _ (omega (arith, at.requires.1.1, c.loop-i-test.true)),
+      (omega arith, box-bounds q h.loop-i.i _ (omega (arith, at.requires.1.1, c.loop-i-test.true)) h.loop-i.invariant.1),
     )
 
 loop-less : tie.Need-loop-i-smaller invariant-loop decreases-loop

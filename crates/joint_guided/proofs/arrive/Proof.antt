@@ -18,7 +18,7 @@ use Rattle.joint_guided.proofs.arrive.Statement.{statement}
 use Rattle.joint_guided.proofs.arrive.Tie as tie
 
 long : (at : tie.Start) → at.args.plan.levels + at.args.plan.levels ≤ length at.args.histogram.now
-long at = numbers_long at.requires.counted.0.pictured at.requires.counted.2 refl refl
+long at = numbers_long at.requires.0.0.pictured at.requires.0.2 refl refl
 
 abbrev start : tie.After-carried_where-below → tie.Start
 start w = w.before.before.before.before.before.before.before.before.before.before.before.before
@@ -27,7 +27,7 @@ start w = w.before.before.before.before.before.before.before.before.before.befor
 read : (w : tie.After-carried_where-below) → let at = start w in empty (frame_of at.args.file.now) at.args.s at.args.t ≡ false
 read w =
     let at = start w in
-    has-reading (frame_of at.args.file.now) at.args.s at.args.t at.requires.sums_at.0.0 w.if-a-eq0.false
+    has-reading (frame_of at.args.file.now) at.args.s at.args.t at.requires.1.0.0 w.if-a-eq0.false
 
 unread-requires : tie.Need-unread-requires
 unread-requires c κs = search rules
@@ -36,8 +36,8 @@ returns : tie.Need-returns-then-a-eq0
 returns c =
     let at = c.before.before.before.before.before.before.before.before.before in
     rw c.unread.ensures
-    (visited-unread (frame_of at.args.file.now) at.args.s at.args.t at.requires.sums_at.0.0 c.if-a-eq0.true at.requires.counted.2
-    at.args.cut at.args.shifts at.requires.sums_at.1.2)
+    (visited-unread (frame_of at.args.file.now) at.args.s at.args.t at.requires.1.0.0 c.if-a-eq0.true at.requires.0.2
+    at.args.cut at.args.shifts at.requires.1.1.2)
 
 -- the window's answer
 says : (r : tie.After-answer-r) → let at = start r.before.before.before in
@@ -46,24 +46,24 @@ says r =
     let w = r.before.before.before in
     let m = w.before.before in
     let at = start w in
-    let k = at.requires.counted.0 in
-    answered-at k.pictured at.requires.counted.1 k.column k.row m.of_window-coefficients.ensures
-    (profiled-parts k.pictured at.requires.counted.2 refl refl) m.monotone-monotone.ensures Joint (read w) r.answer-r.ensures.0
+    let k = at.requires.0.0 in
+    answered-at k.pictured at.requires.0.1 k.column k.row m.of_window-coefficients.ensures
+    (profiled-parts k.pictured at.requires.0.2 refl refl) m.monotone-monotone.ensures Joint (read w) r.answer-r.ensures.0
     r.answer-r.ensures.1
 
 add-last : tie.Need-overflow_add-last
-add-last c = omega (arith, levels_high c.requires.counted.0.pictured)
+add-last c = omega (arith, levels_high c.requires.0.0.pictured)
 
 of-window-requires : tie.Need-of_window-coefficients-requires
 of-window-requires c κs =
     let at = c.before.before.before.before.before.before.before.before in
-    let k = at.requires.counted.0 in
-    ((k.pictured, at.requires.counted.1), (k.column, k.row, at.requires.sums_at.0.0))
+    let k = at.requires.0.0 in
+    ((k.pictured, at.requires.0.1), (k.column, k.row, at.requires.1.0.0))
 
 monotone-requires : tie.Need-monotone-monotone-requires
 monotone-requires c κs =
     let at = c.before.before.before.before.before.before.before.before.before in
-    let k = at.requires.counted.0 in
+    let k = at.requires.0.0 in
     (guides-range k.pictured, c.of_window-coefficients.ensures.1)
 
 cast-carried-where : tie.Need-overflow_cast-cut
@@ -74,7 +74,7 @@ add-carried-where c = search rules
 
 carried-where-requires : tie.Need-carried_where-below-requires
 carried-where-requires c κs =
-    let v = c.requires.sums_at.0.1 in
+    let v = c.requires.1.0.1 in
     ((v.entering, v.leaving), v.carriable)
 
 sub-answer : tie.Need-slice_bounds-answer-count
@@ -87,7 +87,7 @@ part-answer-end : tie.Need-slice_bounds-answer-end
 part-answer-end c = omega (arith, long (start c))
 
 mul-answer : tie.Need-offset_bounds-histogram-l
-mul-answer c = omega (arith, levels_high (start c.before).requires.counted.0.pictured)
+mul-answer c = omega (arith, levels_high (start c.before).requires.0.0.pictured)
 
 sub-answer-2 : tie.Need-slice_bounds-answer-count-2
 sub-answer-2 c = search rules
@@ -103,20 +103,20 @@ answer-requires c κs =
     let w = c.before.before in
     let m = w.before.before in
     let at = start w in
-    let k = at.requires.counted.0 in
-    let g = at.requires.sums_at.1 in
-    let cells = profiled-parts k.pictured at.requires.counted.2 refl refl in (
-      answerable k.pictured at.requires.counted.1 k.column k.row m.of_window-coefficients.ensures cells m.monotone-monotone.ensures g.1,
-      from_cut k.pictured at.requires.counted.1 k.column k.row m.of_window-coefficients.ensures cells m.monotone-monotone.ensures g.0
-          (λ e. at.requires.sums_at.0.1.carried _ (w.carried_where-below.ensures e)),
+    let k = at.requires.0.0 in
+    let g = at.requires.1.1 in
+    let cells = profiled-parts k.pictured at.requires.0.2 refl refl in (
+      answerable k.pictured at.requires.0.1 k.column k.row m.of_window-coefficients.ensures cells m.monotone-monotone.ensures g.1,
+      from_cut k.pictured at.requires.0.1 k.column k.row m.of_window-coefficients.ensures cells m.monotone-monotone.ensures g.0
+          (λ e. at.requires.1.0.1.carried _ (w.carried_where-below.ensures e)),
     )
 
 move-to-requires : tie.Need-move_to-requires
 move-to-requires c κs =
     let r = c.before.before.before in
     let at = start r.before.before.before in
-    let k = at.requires.counted.0 in
-    let g = at.requires.sums_at.1 in (
+    let k = at.requires.0.0 in
+    let g = at.requires.1.1 in (
       searchable k,
       (
         g.0,
@@ -133,16 +133,16 @@ returns-2 c =
     let m = c.before in
     let r = m.before.before.before.before in
     let at = start r.before.before.before in
-    let k = at.requires.counted.0 in
+    let k = at.requires.0.0 in
     let h = says r in
     let f = r.answer-r.result in
     rw c.answered.ensures
     (record {
       state =
-          state-is Joint (frame_of at.args.file.now) at.args.s at.args.t at.args.cut.0 at.args.shifts f.level-1 f.shifts
-          f.level-1 (record { sums = at.args.a; below = f.tally-1; free = record { head = 0; count = 0 } }) h.cut h.shifts h.answer-r;
+          state-is Joint (frame_of at.args.file.now) at.args.s at.args.t at.args.cut.0 at.args.shifts f.level f.shifts
+          f.level (record { sums = at.args.a; below = f.tally; free = record { head = 0; count = 0 } }) h.cut h.shifts h.answer-r;
       box = box-at k m.move_to.ensures (omega arith) (answer-low k.pictured k.column k.row (read r.before.before.before) h);
-      guided = record { sums = at.requires.sums_at.0.0; below = h.below; histogram = at.requires.counted.2 };
+      guided = record { sums = at.requires.1.0.0; below = h.below; histogram = at.requires.0.2 };
     })
 
 pub arrive_spec : {M : Type 1} → statement M

@@ -17,14 +17,14 @@ use Rattle.joint_guided.proofs.arrive_by_blocks.Statement.{statement}
 use Rattle.joint_guided.proofs.arrive_by_blocks.Tie as tie
 
 long : (at : tie.Start) → at.args.plan.levels + at.args.plan.levels ≤ length at.args.histogram.now
-long at = numbers_long at.requires.planned.0 at.requires.sums_at.1 refl refl
+long at = numbers_long at.requires.0.0 at.requires.1.1 refl refl
 
 abbrev start : tie.After-monotone-monotone → tie.Start
 start m = m.before.before.before.before.before.before
 
 -- there is a reading
 read : (m : tie.After-monotone-monotone) → let at = start m in empty (frame_of at.args.file.now) at.args.s at.args.t ≡ false
-read m = let at = start m in has-reading (frame_of at.args.file.now) at.args.s at.args.t at.requires.sums_at.0 m.if-a-eq0.false
+read m = let at = start m in has-reading (frame_of at.args.file.now) at.args.s at.args.t at.requires.1.0 m.if-a-eq0.false
 
 unread-requires : tie.Need-unread-requires
 unread-requires c κs = search rules
@@ -33,7 +33,7 @@ returns : tie.Need-returns-then-a-eq0
 returns c =
     let at = c.before.before.before.before.before in
     rw c.unread.ensures
-    (blocks-unread (frame_of at.args.file.now) at.args.s at.args.t at.requires.sums_at.0 c.if-a-eq0.true at.requires.sums_at.1
+    (blocks-unread (frame_of at.args.file.now) at.args.s at.args.t at.requires.1.0 c.if-a-eq0.true at.requires.1.1
     at.args.cut at.args.shifts)
 
 -- the window's answer
@@ -46,13 +46,13 @@ says r =
     m.monotone-monotone.ensures Coarse (read m) r.answer-r.ensures.0 r.answer-r.ensures.1
 
 add-last : tie.Need-overflow_add-last
-add-last c = omega (arith, levels_high c.requires.planned.0)
+add-last c = omega (arith, levels_high c.requires.0.0)
 
 of-window-requires : tie.Need-of_window-coefficients-requires
 of-window-requires c κs = let p = c.requires in ((p.0.0, p.0.1), (p.0.2, p.0.3, p.1.0))
 
 monotone-requires : tie.Need-monotone-monotone-requires
-monotone-requires c κs = (guides-range c.requires.planned.0, c.of_window-coefficients.ensures.1)
+monotone-requires c κs = (guides-range c.requires.0.0, c.of_window-coefficients.ensures.1)
 
 sub-answer : tie.Need-slice_bounds-answer-count
 sub-answer c = search rules
@@ -64,7 +64,7 @@ part-answer-end : tie.Need-slice_bounds-answer-end
 part-answer-end c = omega (arith, long (start c))
 
 mul-answer : tie.Need-offset_bounds-histogram-l
-mul-answer c = omega (arith, levels_high (start c.before).requires.planned.0)
+mul-answer c = omega (arith, levels_high (start c.before).requires.0.0)
 
 sub-answer-2 : tie.Need-slice_bounds-answer-count-2
 sub-answer-2 c = search rules
@@ -93,11 +93,11 @@ returns-2 c =
     rw c.answered.ensures
     (record {
       state =
-          state-is Coarse (frame_of at.args.file.now) at.args.s at.args.t at.args.cut.0 at.args.shifts f.level-1 f.shifts
-          f.level-1
-          (record { sums = at.args.a; below = f.tally-1; free = record { head = 0; count = 0 } })
+          state-is Coarse (frame_of at.args.file.now) at.args.s at.args.t at.args.cut.0 at.args.shifts f.level f.shifts
+          f.level
+          (record { sums = at.args.a; below = f.tally; free = record { head = 0; count = 0 } })
           (says r).cut (says r).shifts (says r).answer-r;
-      guided = record { sums = at.requires.sums_at.0; below = (says r).below; histogram = at.requires.sums_at.1 };
+      guided = record { sums = at.requires.1.0; below = (says r).below; histogram = at.requires.1.1 };
     })
 
 pub arrive_by_blocks_spec : {M : Type 1} → statement M

@@ -10,23 +10,23 @@ use Rattle.joint_guided.proofs.GuidedLaws.{numbers_long, profiled}
 use Rattle.joint_guided.proofs.enter.Statement.{statement}
 use Rattle.joint_guided.proofs.enter.Tie as tie
 
-abbrev begin : tie.After-start → tie.start
+abbrev begin : tie.After-start → tie.Start
 begin h = h.before.before.before.before.before.before
 
 start-requires : tie.Need-start-requires
 start-requires c κs =
     let at = c.before.before.before.before.before in
-    let k = at.requires.counted.0 in
-    ((k.pictured, k.column, k.row), at.requires.counted.2)
+    let k = at.requires.0.0 in
+    ((k.pictured, k.column, k.row), at.requires.0.2)
 
 start-requires-2 : tie.Need-start-a-requires
-start-requires-2 c κs = let k = (begin c.before.before).requires.counted.0 in (k.pictured, (k.column, k.row))
+start-requires-2 c κs = let k = (begin c.before.before).requires.0.0 in (k.pictured, (k.column, k.row))
 
 tally-below-requires : tie.Need-tally_below-below-requires
 tally-below-requires c κs =
     let h = c.before.before.before.before in
     let at = begin h in
-    let k = at.requires.counted.0 in
+    let k = at.requires.0.0 in
     let v = h.start.ensures in (
       numbers_long k.pictured v refl refl,
       level-cells (pixel-of k.pictured k.column k.row) (profiled k.pictured v refl refl),
@@ -58,8 +58,8 @@ arrive-requires c κs =
     let a = w.before.before in
     let h = a.before.before.before in
     let at = begin h in
-    let k = at.requires.counted.0 in (
-      (k, at.requires.counted.1, h.start.ensures),
+    let k = at.requires.0.0 in (
+      (k, at.requires.0.1, h.start.ensures),
       (
         (
           a.start-a.ensures,
@@ -67,7 +67,7 @@ arrive-requires c κs =
               (gathered k.pictured k.column k.row (profiled k.pictured h.start.ensures refl refl) (levels-some k.pictured)
               w.tally_below-below.ensures) refl refl,
         ),
-        (levels-some k.pictured, omega arith, at.requires.balance_box_value),
+        (levels-some k.pictured, omega arith, at.requires.1),
       ),
     )
 

@@ -26,16 +26,16 @@ abbrev read : tie.After-struct_known-then-plan-eq0-1 → tie.After-guide_at-cent
 read d = d.before.before.before
 
 small : (g : tie.After-guide_at-centre) → g.guide_at-centre.result.0 ≤ 255
-small g = let k = (start g).requires.counted.0 in centre-small k.pictured k.column k.row-1 g.guide_at-centre.ensures
+small g = let k = (start g).requires.0.0 in centre-small k.pictured k.column k.row g.guide_at-centre.ensures
 
 mul-place : tie.Need-overflow_mul-place
-mul-place c = let k = (begin c).requires.counted.0 in omega (arith, place-small k.pictured (centre-place k.pictured k.column k.row-1))
+mul-place c = let k = (begin c).requires.0.0 in omega (arith, place-small k.pictured (centre-place k.pictured k.column k.row))
 
 add-place : tie.Need-overflow_add-place
-add-place c = let k = (begin c).requires.counted.0 in omega (arith, place-small k.pictured (centre-place k.pictured k.column k.row-1))
+add-place c = let k = (begin c).requires.0.0 in omega (arith, place-small k.pictured (centre-place k.pictured k.column k.row))
 
 guide-at-requires : tie.Need-guide_at-centre-requires
-guide-at-requires c κs = let k = (begin c).requires.counted.0 in (with-own k.pictured, centre-place k.pictured k.column k.row-1)
+guide-at-requires c κs = let k = (begin c).requires.0.0 in (with-own k.pictured, centre-place k.pictured k.column k.row)
 
 -- built-in
 cast-from : tie.Need-overflow_cast-from
@@ -59,7 +59,7 @@ part-arrive-start c = search rules
 part-arrive-end : tie.Need-slice_bounds-arrive-end
 part-arrive-end c =
     let g = read c in
-    omega (arith, small g, ((start g).requires.counted.1.mirror c.if-plan-eq0.true).long)
+    omega (arith, small g, ((start g).requires.0.1.mirror c.if-plan-eq0.true).long)
 
 -- the part of the constants weighs the window, where it has all 256 of the row
 built : (c : tie.After-struct_known-then-plan-eq0-1) {end : ℕ} → let at = start (read c) in let from = 255 - (read c).guide_at-centre.result.0 in
@@ -68,31 +68,31 @@ built : (c : tie.After-struct_known-then-plan-eq0-1) {end : ℕ} → let at = st
 built c e =
     let g = read c in
     let at = start g in
-    let k = at.requires.counted.0 in
-    mirror-weighs k.pictured k.column k.row-1 g.guide_at-centre.ensures at.requires.counted.2 c.if-plan-eq0.true
-    (at.requires.counted.1.mirror c.if-plan-eq0.true) refl e
+    let k = at.requires.0.0 in
+    mirror-weighs k.pictured k.column k.row g.guide_at-centre.ensures at.requires.0.2 c.if-plan-eq0.true
+    (at.requires.0.1.mirror c.if-plan-eq0.true) refl e
 
 arrive-requires : tie.Need-arrive-requires
 arrive-requires c κs =
     let d = c.before.before in
     let at = start (read d) in
-    let k = at.requires.counted.0 in
-    let p = at.requires.cut_lt_levels in
+    let k = at.requires.0.0 in
+    let p = at.requires.1 in
     ((searchable k, row_fits k (built d (omega arith))), (p.0, p.1, p.2 ∙ box_of_lem k at.args.cut.0 p.0))
 
 returns : tie.Need-returns-then-plan-eq0
 returns c =
     let d = c.before.before.before in
     let at = start (read d) in
-    arrives-of at.requires.counted.0 at.requires.counted.3 (built d (omega arith)) at.requires.counted.2 at.args.way c.arrive.ensures
+    arrives-of at.requires.0.0 at.requires.0.3 (built d (omega arith)) at.requires.0.2 at.args.way c.arrive.ensures
 
 -- the file's own
 own-row-requires : tie.Need-own_row-requires
 own-row-requires c κs =
     let g = c.before.before.before in
-    let k = (start g).requires.counted.0 in (
+    let k = (start g).requires.0.0 in (
       with-own k.pictured,
-      omega (arith, centre-low k.pictured k.column k.row-1 g.guide_at-centre.ensures),
+      omega (arith, centre-low k.pictured k.column k.row g.guide_at-centre.ensures),
       c.if-plan-eq0.false,
       length-replicate {A = ℕ} 256 0,
     )
@@ -102,8 +102,8 @@ own : (o : tie.After-own_row) → let at = start o.before.before.before.before i
 own o =
     let g = o.before.before.before.before in
     let at = start g in
-    let k = at.requires.counted.0 in
-    row-weighs-own k.pictured k.column k.row-1 g.guide_at-centre.ensures at.requires.counted.2 o.own_row.ensures
+    let k = at.requires.0.0 in
+    row-weighs-own k.pictured k.column k.row g.guide_at-centre.ensures at.requires.0.2 o.own_row.ensures
 
 -- the row read
 abbrev filled : tie.After-ones_if_hollow → tie.After-own_row
@@ -122,18 +122,18 @@ array-read-centre-weighs c =
 
 centre-weighs-requires : tie.Need-centre_weighs-weighs-requires
 centre-weighs-requires c κs =
-    let k = (start c.before.before.before.before.before).requires.counted.0 in
-    (k.pictured, centre-place k.pictured k.column k.row-1)
+    let k = (start c.before.before.before.before.before).requires.0.0 in
+    (k.pictured, centre-place k.pictured k.column k.row)
 
 ones-if-hollow-requires : tie.Need-ones_if_hollow-requires
 ones-if-hollow-requires c κs =
     let o = c.before.before.before in
     let g = o.before.before.before.before in
     let at = start g in
-    let k = at.requires.counted.0 in
-    let f = centre-is k.pictured k.column k.row-1 g.guide_at-centre.ensures in (
+    let k = at.requires.0.0 in
+    let f = centre-is k.pictured k.column k.row g.guide_at-centre.ensures in (
       (searchable k, row_fits k (own o), o.own_row.ensures.long),
-      (at.requires.cut_lt_levels.0, λ e. centre-some k at.requires.counted.3 (own o) at.requires.counted.2 f (sym c.centre_weighs-weighs.ensures ∙ e)),
+      (at.requires.1.0, λ e. centre-some k at.requires.0.3 (own o) at.requires.0.2 f (sym c.centre_weighs-weighs.ensures ∙ e)),
     )
 
 -- the row that the window is counted with
@@ -143,7 +143,7 @@ counted h =
     let o = filled h in
     let at = start o.before.before.before.before in
     subst (RowWeighs (frame_with at.args.file.now at.args.plane.now) at.args.s at.args.t) (sym h.ones_if_hollow.ensures.0)
-    (counted-weighs at.requires.counted.0 at.requires.counted.3 (own o))
+    (counted-weighs at.requires.0.0 at.requires.0.3 (own o))
 
 slice-aggregate-arrive : tie.Need-slice_bounds-arrive-end-2
 slice-aggregate-arrive c = search rules
@@ -152,15 +152,15 @@ arrive-requires-2 : tie.Need-arrive-requires-2
 arrive-requires-2 c κs =
     let h = c.before.before in
     let at = start (filled h).before.before.before.before in
-    let k = at.requires.counted.0 in
-    let p = at.requires.cut_lt_levels in
+    let k = at.requires.0.0 in
+    let p = at.requires.1 in
     ((searchable k, row_fits k (counted h)), (p.0, p.1, p.2 ∙ box_of_lem k at.args.cut.0 p.0))
 
 returns-2 : tie.Need-returns
 returns-2 c =
     let h = c.before.before.before in
     let at = start (filled h).before.before.before.before in
-    arrives-of at.requires.counted.0 at.requires.counted.3 (counted h) at.requires.counted.2 at.args.way c.arrive-2.ensures
+    arrives-of at.requires.0.0 at.requires.0.3 (counted h) at.requires.0.2 at.args.way c.arrive-2.ensures
 
 pub arrive_spec : {M : Type 1} → statement M
 arrive_spec = tie.close (tie.spec mul-place add-place guide-at-requires cast-from sub-from add-end mul-arrive sub-arrive part-arrive-start part-arrive-end arrive-requires returns own-row-requires cast-centre-weighs mul-centre-weighs array-read-centre-weighs centre-weighs-requires ones-if-hollow-requires slice-aggregate-arrive arrive-requires-2 returns-2)

@@ -24,11 +24,11 @@ returns : tie.Need-returns-then-count-eq0
 returns c =
     let at = c.before.before.before.before.before.before.before in
     let p = frame_with at.args.file.now at.args.plane.now in
-    let none = count-empty p at.args.column at.args.row (omega (arith, at.requires.counted.3, c.if-count-eq0.true)) in
+    let none = count-empty p at.args.column at.args.row (omega (arith, at.requires.0.3, c.if-count-eq0.true)) in
     rw c.unread.ensures (
       unread-state at.args.way p at.args.column at.args.row at.args.cut at.args.shifts
           (record { count = at.args.count; sum = 0; squares = 0 }) (record { head = 0; count = 0 }) none,
-      at.requires.cut_lt_levels.2,
+      at.requires.1.2,
       refl,
     )
 
@@ -40,12 +40,12 @@ read : (e : tie.Else-count-eq0) → let at = start e in empty (frame_with at.arg
 read e =
     let at = start e in
     count-read (frame_with at.args.file.now at.args.plane.now) at.args.column at.args.row
-    (omega (arith, at.requires.counted.3, e.if-count-eq0.false))
+    (omega (arith, at.requires.0.3, e.if-count-eq0.false))
 
 arrive-requires : tie.Need-arrive-r-requires
 arrive-requires c κs =
     let at = start c.before in
-    ((at.requires.counted.0, at.requires.counted.1, at.requires.counted.2, read c.before), (at.requires.cut_lt_levels.0, omega (arith, at.requires.cut_lt_levels.1), at.requires.cut_lt_levels.2))
+    ((at.requires.0.0, at.requires.0.1, at.requires.0.2, read c.before), (at.requires.1.0, omega (arith, at.requires.1.1), at.requires.1.2))
 
 answered-requires : tie.Need-answered-requires
 answered-requires c κs = search rules

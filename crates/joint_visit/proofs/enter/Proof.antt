@@ -8,7 +8,7 @@ use Rattle.joint_visit.proofs.VisitLaws.{counted_of, count-own, counted-own, box
 use Rattle.joint_visit.proofs.enter.Statement.{statement}
 use Rattle.joint_visit.proofs.enter.Tie as tie
 
-abbrev begin : tie.After-build → tie.start-a
+abbrev begin : tie.After-build → tie.Start
 begin k = k.before.before.before.before.before.before.before.before.before.before
 
 -- the build, from the branch on the kind
@@ -16,7 +16,7 @@ abbrev built : tie.After-struct_known-1 → tie.After-build
 built e = e.before.before.before.before.before
 
 build-requires : tie.Need-build-requires
-build-requires c κs = c.requires.fresh.0
+build-requires c κs = c.requires.0.0
 
 by-blocks-requires : tie.Need-by_blocks-requires
 by-blocks-requires c κs = search rules
@@ -25,8 +25,8 @@ enter-by-blocks-requires : tie.Need-enter_by_blocks-requires
 enter-by-blocks-requires c κs =
     let i = c.before.before.before in
     let at = begin (built i.before) in
-    let f = at.requires.fresh.0 in
-    ((with-own f.pictured, i.if-plan-eq2.true, f.column, f.row), at.requires.fresh.1)
+    let f = at.requires.0.0 in
+    ((with-own f.pictured, i.if-plan-eq2.true, f.column, f.row), at.requires.0.1)
 
 same_length : tie.Need-shape_of-counts-then-by_blocks
 same_length c = search rules
@@ -44,21 +44,21 @@ returns c =
     let i = w.before.before in
     let k = built i.before in
     let at = begin k in
-    blocks-visited at.requires.fresh.0.pictured at.args.way 0 0 at.requires.weight_rows.1 (sym w.by_blocks.ensures ∙ w.if-by_blocks.true) i.if-plan-eq2.true
-    (at.requires.weight_rows.2 i.if-plan-eq2.true) k.build.ensures r.enter_by_blocks.ensures
+    blocks-visited at.requires.0.0.pictured at.args.way 0 0 at.requires.1.1 (sym w.by_blocks.ensures ∙ w.if-by_blocks.true) i.if-plan-eq2.true
+    (at.requires.1.2 i.if-plan-eq2.true) k.build.ensures r.enter_by_blocks.ensures
 
 enter-requires : tie.Need-enter-requires
 enter-requires c κs =
     let i = c.before.before.before.before.before.before in
     let k = built i.before in
     let at = begin k in
-    let f = at.requires.fresh.0 in
-    let none = at.requires.weight_rows.2 i.if-plan-eq2.true in (
+    let f = at.requires.0.0 in
+    let none = at.requires.1.2 i.if-plan-eq2.true in (
       (
         counted-own at.args.file.now at.args.column at.args.row none
             (counted_of f.pictured f.column f.row k.build.ensures),
         i.if-plan-eq2.true,
-        at.requires.fresh.1,
+        at.requires.0.1,
       ),
       box-own at.args.file.now at.args.column at.args.row none 0 k.build.ensures.box,
     )
@@ -79,21 +79,21 @@ returns-2 c =
     let i = w.before.before in
     let k = built i.before in
     let at = begin k in
-    guided-visited at.requires.fresh.0.pictured at.args.way 0 0 at.requires.weight_rows.1 (sym w.by_blocks.ensures ∙ w.if-by_blocks.false)
-    (at.requires.weight_rows.2 i.if-plan-eq2.true) k.build.ensures r.enter.ensures
+    guided-visited at.requires.0.0.pictured at.args.way 0 0 at.requires.1.1 (sym w.by_blocks.ensures ∙ w.if-by_blocks.false)
+    (at.requires.1.2 i.if-plan-eq2.true) k.build.ensures r.enter.ensures
 
 start-requires : tie.Need-start-a-requires
-start-requires c κs = let f = (begin (built c.before)).requires.fresh.0 in (with-own f.pictured, (f.column, f.row))
+start-requires c κs = let f = (begin (built c.before)).requires.0.0 in (with-own f.pictured, (f.column, f.row))
 
 visit-requires : tie.Need-visit-requires
 visit-requires c κs =
     let i = c.before.before.before.before in
     let k = built i.before in
     let at = begin k in
-    let f = at.requires.fresh.0 in (
+    let f = at.requires.0.0 in (
       (
         counted_of f.pictured f.column f.row k.build.ensures,
-        at.requires.weight_rows.0,
+        at.requires.1.0,
         kind-table f.pictured i.if-plan-eq2.false,
         count-own f.pictured c.start-a.ensures,
       ),
@@ -111,7 +111,7 @@ returns-3 c =
     let i = c.before.before.before.before.before in
     let k = built i.before in
     let at = begin k in
-    let f = at.requires.fresh.0.pictured in
+    let f = at.requires.0.0.pictured in
     table-visited f at.args.way 0 0 (kind-table f i.if-plan-eq2.false) (count-own f c.start-a.ensures)
     k.build.ensures
     c.visit.ensures

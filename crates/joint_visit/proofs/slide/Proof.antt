@@ -50,10 +50,10 @@ abbrev begin : tie.After-step_to-step → tie.Start
 begin d = d.before.before.before.before.before.before.before
 
 abbrev step : tie.After-read_in-n → tie.After-step_to-step
-step r = r.before.before
+step r = r.before.before.before
 
 abbrev first : tie.After-read_in-k → tie.After-read_in-n
-first r = r.before.before.before
+first r = r.before.before.before.before
 
 abbrev opened : tie.After-read_in-k → tie.Start
 opened r = begin (step (first r))
@@ -62,74 +62,74 @@ abbrev lists : tie.After-box_cut-kept → tie.After-read_in-k
 lists k = k.before.before.before.before
 
 abbrev kept : tie.After-exchange → tie.After-box_cut-kept
-kept x = x.before.before.before.before.before.before.before.before
+kept x = x.before.before.before.before.before.before
 
 abbrev both : tie.After-exchange → tie.After-read_in-k
 both x = lists (kept x)
 
 abbrev kind : tie.After-moved-a → tie.Then-plan-eq2
-kind m = m.before.before.before.before.before.before.before.before
+kind m = m.before.before.before.before.before.before
 
 abbrev stored : tie.Then-plan-eq2 → tie.After-exchange
 stored i = i.before.before.before.before.before.before
 
 abbrev summed : tie.After-exchange-then-plan-eq2 → tie.After-moved-a
-summed h = h.before.before.before.before.before.before
+summed h = h.before.before.before.before
 
 -- the lists are the step's lines
 enters : (r : tie.After-read_in-k) → let d = step (first r) in LinePixels (begin d).args.file.now (begin d).args.plane.now
-    (begin d).args.plan d.step_to-step.result.entering-1
+    (begin d).args.plan d.step_to-step.result.entering
     (take ((first r).read_in-n.result - 0) (drop 0 (first r).read_in-n.new.1.1.1.1.0))
 enters r = line-part (first r).read_in-n.result (first r).read_in-n.new.1.1.1.1.0 (first r).read_in-n.ensures.1
 
 leaves : (r : tie.After-read_in-k) → let d = step (first r) in LinePixels (begin d).args.file.now (begin d).args.plane.now
-    (begin d).args.plan d.step_to-step.result.leaving-1
+    (begin d).args.plan d.step_to-step.result.leaving
     (take (r.read_in-k.result - 0) (drop 0 r.read_in-k.new.1.1.1.1.0))
 leaves r = line-part r.read_in-k.result r.read_in-k.new.1.1.1.1.0 r.read_in-k.ensures.1
 
 -- the level that the box is kept at
 level : (k : tie.After-box_cut-kept) → let at = opened (lists k) in
-    k.box_cut-kept.result.0 ≡ box_cut (by_blocks at.args.way) at.args.plan.kind at.args.from.cut-1.0
+    k.box_cut-kept.result.0 ≡ box_cut (by_blocks at.args.way) at.args.plan.kind at.args.from.cut.0
 level k =
     let at = opened (lists k) in
-    k.box_cut-kept.ensures ∙ ap (λ (b : Bool). box_cut b at.args.plan.kind at.args.from.cut-1.0) k.by_blocks-blocks.ensures
+    k.box_cut-kept.ensures ∙ ap (λ (b : Bool). box_cut b at.args.plan.kind at.args.from.cut.0) k.by_blocks-blocks.ensures
 
 held : (k : tie.After-box_cut-kept) → let at = opened (lists k) in
     Held at.args.file.now at.args.plane.now at.args.plan at.args.from.column at.args.from.row k.box_cut-kept.result.0
-    at.args.counts-1.now
-    at.args.words-1.now at.args.balance_box.now
+    at.args.counts.now
+    at.args.words.now at.args.balance_box.now
 held k =
     let at = opened (lists k) in
     subst (λ (c : ℕ). Held at.args.file.now at.args.plane.now at.args.plan at.args.from.column at.args.from.row c
-    at.args.counts-1.now
-    at.args.words-1.now at.args.balance_box.now) (sym (level k)) at.requires.held.0
+    at.args.counts.now
+    at.args.words.now at.args.balance_box.now) (sym (level k)) at.requires.0.0
 
 -- the stores and the box are the neighbour's
 moved : (x : tie.After-exchange) → let at = opened (both x) in
     JointAt (frame_with at.args.file.now at.args.plane.now) at.args.column at.args.row (kept x).box_cut-kept.result.0
-    at.args.counts-1.now
-    at.args.words-1.now x.exchange.new.1.1.1.1.1.0 x.exchange.new.1.1.1.1.1.1.0 x.exchange.new.1.1.1.1.0
+    at.args.counts.now
+    at.args.words.now x.exchange.new.1.1.1.1.1.0 x.exchange.new.1.1.1.1.1.1.0 x.exchange.new.1.1.1.1.0
 moved x =
     let r = both x in
     let d = step (first r) in
-    joint.exchanged-joint (held (kept x)) (begin d).requires.held.1 d.step_to-step.ensures (enters r) (leaves r) x.exchange.ensures.0
+    joint.exchanged-joint (held (kept x)) (begin d).requires.0.1 d.step_to-step.ensures (enters r) (leaves r) x.exchange.ensures.0
     x.exchange.ensures.1
 
 -- what kind 2 carried to here
 was : (i : tie.Then-plan-eq2) → let at = opened (both (stored i)) in
-    GuidedAt (frame_with at.args.file.now at.args.plane.now) at.args.from.column at.args.from.row at.args.from.cut-1.0
-    at.args.from.running-1.sums
-    at.args.from.running-1.below-1 at.args.histogram-1.now
-was i = let at = opened (both (stored i)) in at.requires.held.2.guided (kind-of at.requires.held.0.pictured i.if-plan-eq2.true)
+    GuidedAt (frame_with at.args.file.now at.args.plane.now) at.args.from.column at.args.from.row at.args.from.cut.0
+    at.args.from.running.sums
+    at.args.from.running.below at.args.histogram.now
+was i = let at = opened (both (stored i)) in at.requires.0.2.guided (kind-of at.requires.0.0.pictured i.if-plan-eq2.true)
 
 -- the counts are those of a window of the file
 counted : (x : tie.After-exchange) → let at = opened (both x) in
     Counted at.args.file.now at.args.plane.now at.args.plan at.args.column at.args.row x.exchange.new.1.1.1.1.1.0
     x.exchange.new.1.1.1.1.1.1.0
-counted x = let at = opened (both x) in let q = both-in at.requires.held.1 in counted_of at.requires.held.0.pictured q.2 q.3 (moved x)
+counted x = let at = opened (both x) in let q = both-in at.requires.0.1 in counted_of at.requires.0.0.pictured q.2 q.3 (moved x)
 
 step-to-requires : tie.Need-step_to-step-requires
-step-to-requires c κs = let at = c.before.before.before.before.before.before in (plan-limits at.requires.held.0.pictured, at.requires.held.1)
+step-to-requires c κs = let at = c.before.before.before.before.before.before in (plan-limits at.requires.0.0.pictured, at.requires.0.1)
 
 slice-aggregate-read-in : tie.Need-slice_bounds-read_in-end
 slice-aggregate-read-in c = search rules
@@ -138,7 +138,7 @@ read-in-requires : tie.Need-read_in-n-requires
 read-in-requires c κs =
     let d = c.before in
     let at = begin d in
-    (at.requires.held.0.pictured, (step_in at.requires.held.0.pictured at.requires.held.1 d.step_to-step.ensures).entering-1, omega arith)
+    (at.requires.0.0.pictured, (step_in at.requires.0.0.pictured at.requires.0.1 d.step_to-step.ensures).entering-1, omega arith)
 
 slice-aggregate-read-in-2 : tie.Need-slice_bounds-read_in-end-2
 slice-aggregate-read-in-2 c = search rules
@@ -147,7 +147,7 @@ read-in-requires-2 : tie.Need-read_in-k-requires
 read-in-requires-2 c κs =
     let d = c.before.before.before.before in
     let at = begin d in
-    (at.requires.held.0.pictured, (step_in at.requires.held.0.pictured at.requires.held.1 d.step_to-step.ensures).leaving-1, omega arith)
+    (at.requires.0.0.pictured, (step_in at.requires.0.0.pictured at.requires.0.1 d.step_to-step.ensures).leaving-1, omega arith)
 
 by-blocks-requires : tie.Need-by_blocks-blocks-requires
 by-blocks-requires c κs = search rules
@@ -178,7 +178,7 @@ exchange-requires c κs =
     let k = c.before.before.before.before.before.before.before in
     let r = lists k in
     let d = step (first r) in
-    joint.exchange-asks (held k) (begin d).requires.held.1 d.step_to-step.ensures (enters r) (leaves r)
+    joint.exchange-asks (held k) (begin d).requires.0.1 d.step_to-step.ensures (enters r) (leaves r)
 
 sub-moved : tie.Need-slice_bounds-moved-count
 sub-moved c = search rules
@@ -188,7 +188,7 @@ part-moved-start c = search rules
 
 part-moved-end : tie.Need-slice_bounds-moved-end
 part-moved-end c =
-    let r = first (both (stored c.before.before.before.before)) in
+    let r = first (both (stored c.before.before.before)) in
     omega (arith, r.read_in-n.ensures.0, r.read_in-n.kept.1.1.1.1.0)
 
 sub-moved-2 : tie.Need-slice_bounds-moved-count-then-plan-eq2
@@ -199,9 +199,9 @@ moved-requires c κs =
     let i = c.before.before.before.before.before.before.before in
     let r = both (stored i) in
     let d = step (first r) in
-    let pl = (begin d).requires.held.0.pictured in (
+    let pl = (begin d).requires.0.0.pictured in (
       (below-most pl (enters r).below-1, below-most pl (leaves r).below-1),
-      movable pl (begin d).requires.held.1 d.step_to-step.ensures (enters r) (leaves r) (was i).sums,
+      movable pl (begin d).requires.0.1 d.step_to-step.ensures (enters r) (leaves r) (was i).sums,
     )
 
 sub-exchange-3 : tie.Need-slice_bounds-exchange-count-then-plan-eq2
@@ -212,10 +212,10 @@ sub-exchange-4 c = search rules
 
 exchange-requires-2 : tie.Need-exchange-requires-then-plan-eq2
 exchange-requires-2 c κs =
-    let i = kind c.before.before.before.before.before in
+    let i = kind c.before.before.before in
     let r = both (stored i) in
     let d = step (first r) in
-    histogram.exchange-asks (begin d).requires.held.0.pictured (begin d).requires.held.1 d.step_to-step.ensures (enters r) (leaves r) (was i).histogram-1
+    histogram.exchange-asks (begin d).requires.0.0.pictured (begin d).requires.0.1 d.step_to-step.ensures (enters r) (leaves r) (was i).histogram-1
 
 -- kind 2: the sums and the histogram are the neighbour's
 sums-are : (m : tie.After-moved-a) → let at = opened (both (stored (kind m))) in
@@ -224,7 +224,7 @@ sums-are m =
     let i = kind m in
     let r = both (stored i) in
     let d = step (first r) in
-    sums_moved (begin d).requires.held.0.pictured (begin d).requires.held.1 d.step_to-step.ensures (enters r) (leaves r) (was i).sums m.moved-a.ensures
+    sums_moved (begin d).requires.0.0.pictured (begin d).requires.0.1 d.step_to-step.ensures (enters r) (leaves r) (was i).sums m.moved-a.ensures
 
 histogram-is : (h : tie.After-exchange-then-plan-eq2) → let at = opened (both (stored (kind (summed h)))) in
     Histogram (frame_with at.args.file.now at.args.plane.now) at.args.column at.args.row h.exchange-then-plan-eq2.new.1.1.1.0
@@ -232,7 +232,7 @@ histogram-is h =
     let i = kind (summed h) in
     let r = both (stored i) in
     let d = step (first r) in
-    histogram.exchanged-histogram (begin d).requires.held.0.pictured (begin d).requires.held.1 d.step_to-step.ensures (enters r) (leaves r) (was i).histogram-1
+    histogram.exchanged-histogram (begin d).requires.0.0.pictured (begin d).requires.0.1 d.step_to-step.ensures (enters r) (leaves r) (was i).histogram-1
     h.exchange-then-plan-eq2.auto.1.1.1.0 h.exchange-then-plan-eq2.ensures
 
 -- way 4
@@ -241,14 +241,14 @@ arrive-by-blocks-requires c κs =
     let h = c.before.before.before.before in
     let i = kind (summed h) in
     let at = opened (both (stored i)) in
-    let none = at.requires.weight_rows.3 i.if-plan-eq2.taken in
-    let q = both-in at.requires.held.1 in (
-      (with-own at.requires.held.0.pictured, i.if-plan-eq2.taken, q.2, q.3),
+    let none = at.requires.1.3 i.if-plan-eq2.taken in
+    let q = both-in at.requires.0.1 in (
+      (with-own at.requires.0.0.pictured, i.if-plan-eq2.taken, q.2, q.3),
       (
         sums-own at.args.file.now at.args.column at.args.row none (sums-are (summed h)),
         histogram-own at.args.file.now
             at.args.column at.args.row none (histogram-is h),
-        omega (arith, at.requires.weight_rows.1.shifts),
+        omega (arith, at.requires.1.1.shifts),
       ),
     )
 
@@ -257,10 +257,10 @@ abbrev exchanged : tie.After-exchange-then-plan-eq2 → tie.After-exchange
 exchanged h = stored (kind (summed h))
 
 same_length : tie.Need-shape_of-counts-then-blocks
-same_length c = (exchanged c.before.before.before.before.before).exchange.auto.1.1.1.1.1.0
+same_length c = (exchanged c.before.before.before.before).exchange.auto.1.1.1.1.1.0
 
 same-length-2 : tie.Need-shape_of-words-then-blocks
-same-length-2 c = (exchanged c.before.before.before.before.before).exchange.auto.1.1.1.1.1.1.0
+same-length-2 c = (exchanged c.before.before.before.before).exchange.auto.1.1.1.1.1.1.0
 
 same-length-3 : tie.Need-shape_of-histogram-then-blocks
 same-length-3 c = search rules
@@ -268,14 +268,14 @@ same-length-3 c = search rules
 returns : tie.Need-returns-then-blocks
 returns c =
     let w = c.before.before in
-    let i = kind (summed w.before.before.before) in
+    let i = kind (summed w.before.before) in
     let x = stored i in
     let at = opened (both x) in
     let blocks = sym (kept x).by_blocks-blocks.ensures ∙ w.if-blocks.true in
-    let zero = level (kept x) ∙ ap (λ (b : Bool). box_cut b at.args.plan.kind at.args.from.cut-1.0) blocks
-    ∙ box-cut-guided at.args.plan.kind at.args.from.cut-1.0 i.if-plan-eq2.taken in
-    blocks-visited at.requires.held.0.pictured at.args.way at.args.from.cut-1.0 at.args.from.shifts at.requires.weight_rows.2 blocks i.if-plan-eq2.taken
-    (at.requires.weight_rows.3 i.if-plan-eq2.taken) (record {
+    let zero = level (kept x) ∙ ap (λ (b : Bool). box_cut b at.args.plan.kind at.args.from.cut.0) blocks
+    ∙ box-cut-guided at.args.plan.kind at.args.from.cut.0 i.if-plan-eq2.taken in
+    blocks-visited at.requires.0.0.pictured at.args.way at.args.from.cut.0 at.args.from.shifts at.requires.1.2 blocks i.if-plan-eq2.taken
+    (at.requires.1.3 i.if-plan-eq2.taken) (record {
       counts = (moved x).counts-1;
       words = (moved x).words-1;
       box = (moved x).box ∙ ap (balance_box_at (frame_with at.args.file.now at.args.plane.now) at.args.column at.args.row) zero;
@@ -291,7 +291,7 @@ part-arrive-start c = search rules
 
 part-arrive-end : tie.Need-slice_bounds-arrive-end
 part-arrive-end c =
-    let r = first (both (exchanged c.before.before.before.before)) in
+    let r = first (both (exchanged c.before.before.before)) in
     omega (arith, r.read_in-n.ensures.0, r.read_in-n.kept.1.1.1.1.0)
 
 sub-arrive-2 : tie.Need-slice_bounds-arrive-count-then-plan-eq2
@@ -306,9 +306,9 @@ arrive-requires c κs =
     let r = both x in
     let d = step (first r) in
     let at = begin d in
-    let pl = at.requires.held.0.pictured in
-    let none = at.requires.weight_rows.3 i.if-plan-eq2.taken in
-    let here = level (kept x) ∙ ap (λ (b : Bool). box_cut b at.args.plan.kind at.args.from.cut-1.0)
+    let pl = at.requires.0.0.pictured in
+    let none = at.requires.1.3 i.if-plan-eq2.taken in
+    let here = level (kept x) ∙ ap (λ (b : Bool). box_cut b at.args.plan.kind at.args.from.cut.0)
     (sym (kept x).by_blocks-blocks.ensures ∙ w.if-blocks.false) in (
       (
         counted-own at.args.file.now at.args.column at.args.row none (counted x),
@@ -320,12 +320,12 @@ arrive-requires c κs =
         (
           sums-own at.args.file.now at.args.column at.args.row none (sums-are (summed h)),
           carries_own at.args.file.now at.args.column at.args.row none
-              (carries-step pl at.requires.held.1 d.step_to-step.ensures (enters r) (leaves r) (was i).below-1),
+              (carries-step pl at.requires.0.1 d.step_to-step.ensures (enters r) (leaves r) (was i).below-1),
         ),
         (
-          at.requires.weight_rows.1.cut-1,
-          omega (arith, at.requires.weight_rows.1.shifts),
-          box-own at.args.file.now at.args.column at.args.row none at.args.from.cut-1.0
+          at.requires.1.1.cut,
+          omega (arith, at.requires.1.1.shifts),
+          box-own at.args.file.now at.args.column at.args.row none at.args.from.cut.0
               ((moved x).box ∙ ap (balance_box_at (frame_with at.args.file.now at.args.plane.now) at.args.column at.args.row)
               (here ∙ box-cut-joint _ _)),
         ),
@@ -334,11 +334,11 @@ arrive-requires c κs =
 
 same-length-4 : tie.Need-shape_of-counts-then-plan-eq2
 same-length-4 c =
-    (exchanged c.before.before.before.before.before.before.before.before.before.before.before.before).exchange.auto.1.1.1.1.1.0
+    (exchanged c.before.before.before.before.before.before.before).exchange.auto.1.1.1.1.1.0
 
 same-length-5 : tie.Need-shape_of-words-then-plan-eq2
 same-length-5 c =
-    (exchanged c.before.before.before.before.before.before.before.before.before.before.before.before).exchange.auto.1.1.1.1.1.1.0
+    (exchanged c.before.before.before.before.before.before.before).exchange.auto.1.1.1.1.1.1.0
 
 same-length-6 : tie.Need-shape_of-histogram-then-plan-eq2
 same-length-6 c = search rules
@@ -349,8 +349,8 @@ returns-2 c =
     let i = kind (summed w.before.before.before) in
     let x = stored i in
     let at = opened (both x) in
-    guided-visited at.requires.held.0.pictured at.args.way at.args.from.cut-1.0 at.args.from.shifts at.requires.weight_rows.2
-    (sym (kept x).by_blocks-blocks.ensures ∙ w.if-blocks.false) (at.requires.weight_rows.3 i.if-plan-eq2.taken) (moved x) c.arrive.ensures
+    guided-visited at.requires.0.0.pictured at.args.way at.args.from.cut.0 at.args.from.shifts at.requires.1.2
+    (sym (kept x).by_blocks-blocks.ensures ∙ w.if-blocks.false) (at.requires.1.3 i.if-plan-eq2.taken) (moved x) c.arrive.ensures
 
 -- kind 1: the number of pixels
 abbrev told : tie.After-former-1 → tie.After-exchange
@@ -362,32 +362,32 @@ entering-long r = omega (arith, (first r).read_in-n.ensures.0, (first r).read_in
 leaving-long : (r : tie.After-read_in-k) → r.read_in-k.result ≤ length r.read_in-k.new.1.1.1.1.0
 leaving-long r = omega (arith, r.read_in-k.ensures.0, r.read_in-k.auto.1.1.1.1.0)
 
-few : (f : tie.After-former-1) → (opened (both (told f))).args.from.running-1.sums.count ≤ 961
+few : (f : tie.After-former-1) → (opened (both (told f))).args.from.running.sums.count ≤ 961
 few f =
     let at = opened (both (told f)) in
-    let q = both-in at.requires.held.1 in
-    omega (arith, at.requires.held.2.count, pixel_count-high (pixel-of at.requires.held.0.pictured q.0 q.1))
+    let q = both-in at.requires.0.1 in
+    omega (arith, at.requires.0.2.count, pixel_count-high (pixel-of at.requires.0.0.pictured q.0 q.1))
 
 enough : (f : tie.After-former-1) → let r = both (told f) in
-    r.read_in-k.result / 2 ≤ (opened r).args.from.running-1.sums.count + (first r).read_in-n.result / 2
+    r.read_in-k.result / 2 ≤ (opened r).args.from.running.sums.count + (first r).read_in-n.result / 2
 enough f =
     let r = both (told f) in
     let d = step (first r) in
     let at = begin d in
-    count_enough at.requires.held.0.pictured at.requires.held.1 d.step_to-step.ensures (first r).read_in-n.last.1.1.1.1.0
+    count_enough at.requires.0.0.pictured at.requires.0.1 d.step_to-step.ensures (first r).read_in-n.last.1.1.1.1.0
     r.read_in-k.last.1.1.1.1.0
-    (entering-long r) (leaving-long r) (enters r) (leaves r) at.requires.held.2.count
+    (entering-long r) (leaving-long r) (enters r) (leaves r) at.requires.0.2.count
 
 pixels-are : (f : tie.After-former-1) → let r = both (told f) in let at = opened r in
-    at.args.from.running-1.sums.count + (first r).read_in-n.result / 2 - r.read_in-k.result / 2
+    at.args.from.running.sums.count + (first r).read_in-n.result / 2 - r.read_in-k.result / 2
     ≡ pixel_count (frame_with at.args.file.now at.args.plane.now) at.args.column at.args.row
 pixels-are f =
     let r = both (told f) in
     let d = step (first r) in
     let at = begin d in
-    count-moved at.requires.held.0.pictured at.requires.held.1 d.step_to-step.ensures (first r).read_in-n.last.1.1.1.1.0
+    count-moved at.requires.0.0.pictured at.requires.0.1 d.step_to-step.ensures (first r).read_in-n.last.1.1.1.1.0
     r.read_in-k.last.1.1.1.1.0
-    (entering-long r) (leaving-long r) (enters r) (leaves r) at.requires.held.2.count
+    (entering-long r) (leaving-long r) (enters r) (leaves r) at.requires.0.2.count
 
 add-count : tie.Need-overflow_add-count
 add-count c = omega (arith, few c.before, (first (both (told c.before))).read_in-n.ensures.0)
@@ -400,13 +400,13 @@ visit-requires c κs =
     let f = c.before.before.before.before in
     let x = told f in
     let at = opened (both x) in
-    let one = kind-table at.requires.held.0.pictured f.if-plan-eq2.false in (
-      (counted x, at.requires.weight_rows.0, one, pixels-are f),
+    let one = kind-table at.requires.0.0.pictured f.if-plan-eq2.false in (
+      (counted x, at.requires.1.0, one, pixels-are f),
       (
-        at.requires.weight_rows.1.cut-1,
-        omega (arith, at.requires.weight_rows.1.shifts),
+        at.requires.1.1.cut,
+        omega (arith, at.requires.1.1.shifts),
         (moved x).box ∙ ap (balance_box_at (frame_with at.args.file.now at.args.plane.now) at.args.column at.args.row)
-            (level (kept x) ∙ box-cut-table (by_blocks at.args.way) at.args.plan.kind at.args.from.cut-1.0 one),
+            (level (kept x) ∙ box-cut-table (by_blocks at.args.way) at.args.plan.kind at.args.from.cut.0 one),
       ),
     )
 
@@ -421,8 +421,8 @@ returns-3 c =
     let f = c.before.before.before.before.before in
     let x = told f in
     let at = opened (both x) in
-    let pl = at.requires.held.0.pictured in
-    table-visited pl at.args.way at.args.from.cut-1.0 at.args.from.shifts (kind-table pl f.if-plan-eq2.false)
+    let pl = at.requires.0.0.pictured in
+    table-visited pl at.args.way at.args.from.cut.0 at.args.from.shifts (kind-table pl f.if-plan-eq2.false)
     (pixels-are f) (moved x) c.visit.ensures
 
 auto_slice_bounds-moved-start-then-plan-eq2 : tie.Need-slice_bounds-moved-start-then-plan-eq2

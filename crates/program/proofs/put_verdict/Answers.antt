@@ -11,9 +11,9 @@ use borrow.Author.Rules.{rules}
 use Rattle.program.proofs.put_verdict.Goals as goal
 
 pub returns-in-Accepted : goal.returns-in-Accepted
-returns-in-Accepted c = λ b. absurd (true≢false (sym c.requires.1 ∙ ap (λ (v : Verdict). fires (numbered v)) c.enum_told-1.given.1))
+returns-in-Accepted c = λ b. absurd (true≢false (sym c.requires.1 ∙ ap (λ (v : Verdict). fires (numbered v)) c.in-Accepted.is))
 
 pub returns-in-Refused : goal.returns-in-Refused
 returns-in-Refused c =
-    λ b. called (refused-text b _ _ ∙ sym (ap (λ (v : Verdict). output_text b (numbered v)) c.v-1.given.1))
+    λ b. called (refused-text b _ _ ∙ sym (ap (λ (v : Verdict). output_text b (numbered v)) c.in-Refused.is))
     c.put_refused.ensures

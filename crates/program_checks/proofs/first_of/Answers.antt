@@ -4,4 +4,4 @@ use borrow.Author.Rules.{rules}
 use Rattle.program_checks.proofs.first_of.Goals as goal
 
 pub returns-in-Refused : goal.returns-in-Refused
-returns-in-Refused c = rw c.first-1.given.1
+returns-in-Refused c = rw c.in-Refused.is

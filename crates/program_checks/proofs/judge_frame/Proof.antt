@@ -32,7 +32,7 @@ bytes d = d.args.input.now
 accepts : (d : tie.Else-stops) → verdict (bytes d) ≡ accepted
 accepts d = quiet d.open_plan-o.ensures.0 d.stops.ensures d.if-stops.false
 
-picture : (d : tie.After-too_large) → d.too_large.result ≡ too_large (settings_of (bytes d.before))
+picture : (d : tie.After-too_large) → d.too_large.result ≡ too_large (settings_of (bytes d.before.before))
 picture d =
     let e = d.before in
     d.too_large.ensures ∙ picture-test (bytes e) (e.open_plan-o.ensures.1 ∙ plan-opened (bytes e) (accepts e))

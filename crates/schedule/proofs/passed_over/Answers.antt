@@ -43,7 +43,7 @@ returns-then-tallies-k c =
     over-unique sizes x l.j
     (record {
       within = l.invariant.0;
-      passes = λ _. lt-ltb (get_or x.tallies-1 k 0) (get_or sizes k 0) (omega (arith, c.if-tallies-k.true));
+      passes = λ _. lt-ltb (get_or x.tallies k 0) (get_or sizes k 0) (omega (arith, c.if-tallies-k.true));
       before = l.invariant.1;
     })
 

@@ -19,14 +19,14 @@ sub-n : tie.Need-overflow_sub-n
 sub-n c = omega arith
 
 add-n : tie.Need-overflow_add-n
-add-n c = omega (arith, levels_high c.requires.planned.0)
+add-n c = omega (arith, levels_high c.requires.0.0)
 
 -- as many places are cleared as there are blocks
-count : (at : tie.start-a) → (at.args.plan.levels + 15) / 16 ≡ block_count (frame_of at.args.file.now).set
-count at = omega (arith, (facts at.requires.planned.0).levels)
+count : (at : tie.Start) → (at.args.plan.levels + 15) / 16 ≡ block_count (frame_of at.args.file.now).set
+count at = omega (arith, (facts at.requires.0.0).levels)
 
-room : (at : tie.start-a) → (at.args.plan.levels + 15) / 16 ≤ length at.args.summary-1.now
-room at = omega (arith, count at, at.requires.file_in_bounds)
+room : (at : tie.Start) → (at.args.plan.levels + 15) / 16 ≤ length at.args.summary.now
+room at = omega (arith, count at, at.requires.1)
 
 -- the places passed: whether there is a reading, and the numbers cleared
 abbrev asked : tie.After-weights_of-c → tie.After-is_empty
@@ -35,7 +35,7 @@ asked w = w.before.before.before
 abbrev zeros : tie.After-is_empty → tie.After-clear
 zeros g = g.before.before.before
 
-abbrev start : tie.After-clear → tie.start-a
+abbrev start : tie.After-clear → tie.Start
 start z = z.before.before.before.before
 
 said : (g : tie.After-is_empty) → let at = start (zeros g) in g.is_empty.result ≡ empty (frame_of at.args.file.now) at.args.s at.args.t
@@ -45,7 +45,7 @@ clear-requires : tie.Need-clear-requires
 clear-requires c κs = omega (arith, room c.before.before.before)
 
 start-requires : tie.Need-start-a-requires
-start-requires c κs = let at = start c.before in (at.requires.planned.0, (omega (arith, at.requires.planned.1), omega (arith, at.requires.planned.2)))
+start-requires c κs = let at = start c.before in (at.requires.0.0, (omega (arith, at.requires.0.1), omega (arith, at.requires.0.2)))
 
 is-empty-requires : tie.Need-is_empty-requires
 is-empty-requires c κs = search rules
@@ -66,7 +66,7 @@ weights-of-requires c κs =
     let i = c.before in
     let g = i.before in
     let at = start (zeros g) in (
-      (at.requires.planned.0, at.requires.planned.1, at.requires.planned.2, length-replicate {A = ℕ} 256 0),
+      (at.requires.0.0, at.requires.0.1, at.requires.0.2, length-replicate {A = ℕ} 256 0),
       (g.start-a.ensures, sym (said g) ∙ i.if-is_empty.false),
     )
 
@@ -90,7 +90,7 @@ add-window-requires c κs =
     let z = zeros (asked w) in
     let at = start z in
     let by = w.weights_of-c.ensures in
-    let a = at.requires.planned in (
+    let a = at.requires.0 in (
       (record { planned = a.0; column = a.1; row = a.2; fits = by.weighs.fits }, by.weighs),
       (zeros-part (room at) z.clear.ensures, blocks-part (room at) z.clear.ensures at.args.plan.levels refl, omega arith),
     )

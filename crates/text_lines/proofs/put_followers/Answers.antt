@@ -26,7 +26,7 @@ bounds-plane-first c = omega (arith, c.requires.n_in_bounds)
 pub overflow_cast-plane : goal.overflow_cast-plane
 overflow_cast-plane c =
     omega
-    (arith, c.shared_slice_known-in-loop-k-1.given (c.args.first + (c.loop-k.k + 1)))
+    (arith, c.type_inv.plane (c.args.first + (c.loop-k.k + 1)))
 
 pub put_spaced-next-requires : goal.put_spaced-next-requires
 put_spaced-next-requires c =

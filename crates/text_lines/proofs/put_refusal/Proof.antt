@@ -15,21 +15,21 @@ use Rattle.text_lines.proofs.put_refusal.Statement.{statement}
 use Rattle.text_lines.proofs.put_refusal.Tie as tie
 
 -- room for the word and the number, whatever the number
-head : (s : tie.Start) → TextRoom s.args.out-1.now s.args.at (refused_word ++ decimal s.args.number)
+head : (s : tie.Start) → TextRoom s.args.out.now s.args.at (refused_word ++ decimal s.args.number)
 unfolding refusal_text
 head s =
-    room-line s.args.out-1.now s.args.at (refused_word ++ decimal s.args.number)
+    room-line s.args.out.now s.args.at (refused_word ++ decimal s.args.number)
     (beside (if eqb s.args.number 7 then s.args.offset ∷ [] else [])) s.requires
 
 -- and for the end of the line behind them
-ended : (s : tie.Start) → TextRoom s.args.out-1.now s.args.at (refused_word ++ decimal s.args.number ++ (10 ∷ []))
+ended : (s : tie.Start) → TextRoom s.args.out.now s.args.at (refused_word ++ decimal s.args.number ++ (10 ∷ []))
 unfolding refusal_text
 ended s = simp length-append (omega (arith, simp length-append at s.requires))
 
 put-word-requires : tie.Need-put_word-second-requires
 put-word-requires c κs =
     let s = c.before.before.before in
-    room-first s.args.out-1.now s.args.at refused_word (decimal s.args.number) (head s)
+    room-first s.args.out.now s.args.at refused_word (decimal s.args.number) (head s)
 
 put-decimal-requires : tie.Need-put_decimal-third-requires
 put-decimal-requires c κs =

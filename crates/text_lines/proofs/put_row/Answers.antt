@@ -12,11 +12,11 @@ use borrow.Author.Rules.{rules}
 use Rattle.text_lines.proofs.put_row.Goals as goal
 
 pub overflow_cast-plane : goal.overflow_cast-plane
-overflow_cast-plane c = omega (arith, c.shared_slice_known-2-1.given c.args.first)
+overflow_cast-plane c = omega (arith, c.type_inv.plane c.args.first)
 
 pub put_decimal-second-requires : goal.put_decimal-second-requires
 put_decimal-second-requires c =
-    room-line c.args.out-1.now c.args.at (decimal (get_or c.args.plane.now c.args.first 0))
+    room-line c.args.out.now c.args.at (decimal (get_or c.args.plane.now c.args.first 0))
     (pieces (follower c.args.plane.now c.args.first) (c.args.width - 1)) (rw row-pieces at c.requires.text_room)
 
 pub put_followers-end-requires : goal.put_followers-end-requires

@@ -11,7 +11,7 @@ use Rattle.text_lines.proofs.put_size.Statement.{statement}
 use Rattle.text_lines.proofs.put_size.Tie as tie
 
 -- room for both numbers and the end of the line
-room : (s : tie.Start) → s.args.at + (length (decimal s.args.width) + length (decimal s.args.height) + 2) ≤ length s.args.out-1.now
+room : (s : tie.Start) → s.args.at + (length (decimal s.args.width) + length (decimal s.args.height) + 2) ≤ length s.args.out.now
 unfolding size_text
 room s = omega (arith, simp length-append at s.requires)
 

@@ -10,7 +10,7 @@ use Rattle.text_lines.proofs.put_way.Tie as tie
 put-word-requires : tie.Need-put_word-second-requires
 unfolding way_text
 put-word-requires c κs = let s =
-    c.before.before.before in room-line s.args.out-1.now s.args.at s.args.word.now (decimal s.args.shifts) s.requires
+    c.before.before.before in room-line s.args.out.now s.args.at s.args.word.now (decimal s.args.shifts) s.requires
 
 put-decimal-requires : tie.Need-put_decimal-end-requires
 unfolding way_text

@@ -28,7 +28,7 @@ slice-aggregate-sweep-3 c = search rules
 sweep-requires : tie.Need-sweep-lower-requires
 sweep-requires c κs =
     let at = c.before.before.before.before.before.before.before.before.before.before.before.before in
-    ((at.requires.planned.0, (inl tt, inl refl)), (at.requires.lent_fits.0, at.requires.lent_fits.1.0))
+    ((at.requires.0.0, (inl tt, inl refl)), (at.requires.1.0, at.requires.1.1.0))
 
 slice-aggregate-sweep-4 : tie.Need-slice_bounds-sweep-end-4
 slice-aggregate-sweep-4 c = search rules
@@ -40,13 +40,13 @@ sweep-requires-2 : tie.Need-sweep-higher-requires
 sweep-requires-2 c κs =
     let f = first c in
     let at = start f in
-    ((at.requires.planned.1, (inl tt, inr (refl, at.requires.planned.2))), (fit-again at.requires.planned.0 _ _ at.requires.lent_fits.0 f.sweep-lower.ensures.0, at.requires.lent_fits.1.1))
+    ((at.requires.0.1, (inl tt, inr (refl, at.requires.0.2))), (fit-again at.requires.0.0 _ _ at.requires.1.0 f.sweep-lower.ensures.0, at.requires.1.1.1))
 
 same_length : tie.Need-shape_of-counts
-same_length c = let g = second c in g.sweep-higher.ensures.0.kept.counts-1.long ∙ (first g.before).sweep-lower.ensures.0.kept.counts-1.long
+same_length c = let g = second c in g.sweep-higher.ensures.0.kept.counts.long ∙ (first g.before).sweep-lower.ensures.0.kept.counts.long
 
 same-length-2 : tie.Need-shape_of-words
-same-length-2 c = let g = second c in g.sweep-higher.ensures.0.kept.words-1.long ∙ (first g.before).sweep-lower.ensures.0.kept.words-1.long
+same-length-2 c = let g = second c in g.sweep-higher.ensures.0.kept.words.long ∙ (first g.before).sweep-lower.ensures.0.kept.words.long
 
 same-length-3 : tie.Need-shape_of-least
 same-length-3 c = search rules

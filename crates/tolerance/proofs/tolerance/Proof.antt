@@ -14,7 +14,7 @@ use Rattle.tolerance.proofs.tolerance.Statement.{statement}
 use Rattle.tolerance.proofs.tolerance.Tie as tie
 
 abbrev held : tie.Start → Buffers
-held at = buffers at.args.counts-1.now at.args.words-1.now at.args.least-1.now at.args.greatest-1.now
+held at = buffers at.args.counts.now at.args.words.now at.args.least.now at.args.greatest.now
 
 -- the places passed: the file opened, its own checks made; and the start
 abbrev start : tie.After-open_plan-opened → tie.Start
@@ -23,7 +23,7 @@ start o = o.before.before.before.before.before.before.before
 abbrev opened : tie.After-tolerance_verdict-w → tie.After-open_plan-opened
 opened w = w.before.before.before.before
 
-plan-at : (w : tie.After-tolerance_verdict-w) → Planned (start (opened w)).args.file.now (opened w).open_plan-opened.result.plan-1
+plan-at : (w : tie.After-tolerance_verdict-w) → Planned (start (opened w)).args.file.now (opened w).open_plan-opened.result.plan
 plan-at w =
     let e = w.before.before in
     planned-of (opened w).open_plan-opened.result (opened w).open_plan-opened.ensures (same e.stops.ensures e.if-stops.false)
@@ -83,7 +83,7 @@ filter-both-requires c κs =
     let w = e.before.before in
     let at = start (opened w) in
     let g = granted (plan-at w) at.args.upper.now (held at) (outcome-at e) in
-    ((plan-at w, g.pictured, g.one), (g.fit, (omega (arith, g.least-1, g.greatest-1), omega (arith, g.least-1, g.greatest-1))))
+    ((plan-at w, g.pictured, g.one), (g.fit, (omega (arith, g.least, g.greatest), omega (arith, g.least, g.greatest))))
 
 same_length : tie.Need-shape_of-counts
 same_length c = search rules

@@ -175,9 +175,9 @@ loop-again c =
     let at = start h in (
       omega (arith, t.loop-k-test.taken),
       added_next (2 ^ at.args.bits) at.requires.0 at.requires.1 t.loop-k-test.taken h.loop-k.inv.1 e.weigh-weight.result (weighed e)
-          a.add.result a.add.type_inv a.add.ensures,
+          a.add.result a.add.type-inv a.add.ensures,
       total-again at.requires.0 65535 t.loop-k-test.taken (to_z w64 h.loop-k.total) e.weigh-weight.result h.loop-k.inv.2 (weighed e)
-          c.add-total.result c.add-total.type_inv
+          c.add-total.result c.add-total.type-inv
           (c.add-total.ensures
           ∙ signed_up 65535 (level_in at.args.p.now h.loop-k.k) (to_z w64 h.loop-k.total) (to_z w64 (of_z w64 e.weigh-weight.result))
           (omega (arith, (numbers r.before.before.before.before).0))),

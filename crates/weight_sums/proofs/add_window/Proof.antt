@@ -50,7 +50,7 @@ few c =
       arith,
       c.loop-k-test.true,
       span-high at.args.plan.radius at.args.s at.args.plan.width
-          (plan-limits at.requires.weighed.0.planned).radius,
+          (plan-limits at.requires.0.0.planned).radius,
       h.span_of-n.ensures,
     )
 
@@ -62,7 +62,7 @@ abbrev turn : tie.After-read-e invariant-loop decreases-loop → tie.In-loop-k i
 turn r = r.before.before.before
 
 abbrev list : tie.After-add_pixels-line_total invariant-loop decreases-loop → tie.After-read-e invariant-loop decreases-loop
-list e = e.before.before.before.before.before
+list e = e.before.before.before.before
 
 listed : (r : tie.After-read-e invariant-loop decreases-loop) → let at =
     start (turn r).before in LinePixels at.args.file.now [] at.args.plan (line r).column_line-line.result
@@ -74,13 +74,13 @@ low-requires c κs = tt
 
 span-of-requires : tie.Need-span_of-n-requires invariant-loop decreases-loop
 span-of-requires c κs = let at =
-    c.before.before.before in (at.requires.weighed.0.column, (plan-limits at.requires.weighed.0.planned).width, (plan-limits at.requires.weighed.0.planned).radius)
+    c.before.before.before in (at.requires.0.0.column, (plan-limits at.requires.0.0.planned).width, (plan-limits at.requires.0.0.planned).radius)
 
 loop-holds : tie.Need-loop-k-init invariant-loop decreases-loop
 loop-holds c =
     let at = c.before.before.before.before in (
       omega arith,
-      columns-start _ _ _ _ _ _ at.requires.zeros.0,
+      columns-start _ _ _ _ _ _ at.requires.1.0,
       sym
           (columns-none ◌+ℤ◌ (pos 0) at.args.file.now [] at.args.plan c.low-x.result at.args.t
           (signed_by at.args.weights.now at.args.formula 65535)),
@@ -88,11 +88,11 @@ loop-holds c =
     )
 
 add-column-line : tie.Need-overflow_add-x invariant-loop decreases-loop
-add-column-line c = let at = start c.before in omega (arith, wide c, (plan-limits at.requires.weighed.0.planned).width)
+add-column-line c = let at = start c.before in omega (arith, wide c, (plan-limits at.requires.0.0.planned).width)
 
 column-line-requires : tie.Need-column_line-line-requires invariant-loop decreases-loop
 column-line-requires c κs = let at = start c.before in let l =
-    plan-limits at.requires.weighed.0.planned in (l, (omega (arith, wide c, l.width), at.requires.weighed.0.row))
+    plan-limits at.requires.0.0.planned in (l, (omega (arith, wide c, l.width), at.requires.0.0.row))
 
 slice-aggregate-read : tie.Need-slice_bounds-read-end invariant-loop decreases-loop
 slice-aggregate-read c = search rules
@@ -100,7 +100,7 @@ slice-aggregate-read c = search rules
 read-requires : tie.Need-read-e-requires invariant-loop decreases-loop
 read-requires c κs =
     let at = start c.before.before.before in
-    let pl = at.requires.weighed.0.planned in
+    let pl = at.requires.0.0.planned in
     (pl, rw c.column_line-line.ensures (column-in (plan-limits pl) _ at.args.t (omega (arith, wide c.before.before))), omega arith)
 
 sub-add-pixels : tie.Need-slice_bounds-add_pixels-count invariant-loop decreases-loop
@@ -117,8 +117,8 @@ add-pixels-requires c κs =
     let r = c.before.before.before.before in
     let h = (turn r).before in
     let at = start h in
-    let q = list-asks (2 ^ at.args.bits) at.requires.weighed.0 at.requires.weighed.1 (listed r) h.loop-k.inv.1 at.requires.zeros.1 (few (turn r)) in
-    (q.0, q.1, at.requires.zeros.2)
+    let q = list-asks (2 ^ at.args.bits) at.requires.0.0 at.requires.0.1 (listed r) h.loop-k.inv.1 at.requires.1.1 (few (turn r)) in
+    (q.0, q.1, at.requires.1.2)
 
 add-requires : tie.Need-add-total-requires invariant-loop decreases-loop
 add-requires c κs =
@@ -126,7 +126,7 @@ add-requires c κs =
     let r = list e in
     let h = (turn r).before in
     let at = start h in
-    let q = column-asks at.requires.weighed.0 (listed r) 65535 e.add_pixels-line_total.ensures.1 h.loop-k.k (to_z w64 h.loop-k.total) h.loop-k.inv.3
+    let q = column-asks at.requires.0.0 (listed r) 65535 e.add_pixels-line_total.ensures.1 h.loop-k.k (to_z w64 h.loop-k.total) h.loop-k.inv.3
     (few (turn r)) in
     (omega (arith, q.0, q.1), omega (arith, q.0, q.1))
 
@@ -143,11 +143,11 @@ loop-again c =
     let h = (turn r).before in
     let at = start h in
     let q =
-    column_again at.requires.weighed.0 (listed r) 65535 e.add_pixels-line_total.ensures.1 h.loop-k.k (to_z w64 h.loop-k.total) h.loop-k.inv.3
+    column_again at.requires.0.0 (listed r) 65535 e.add_pixels-line_total.ensures.1 h.loop-k.k (to_z w64 h.loop-k.total) h.loop-k.inv.3
     h.low-x.result (line r).column_line-line.ensures h.loop-k.inv.2
-    c.add-total.type_inv c.add-total.ensures in (
+    c.add-total.type-inv c.add-total.ensures in (
       omega (arith, (turn r).loop-k-test.taken),
-      columns-next (2 ^ at.args.bits) at.requires.weighed.0 at.requires.weighed.1 (listed r) h.loop-k.inv.1 (line r).column_line-line.ensures
+      columns-next (2 ^ at.args.bits) at.requires.0.0 at.requires.0.1 (listed r) h.loop-k.inv.1 (line r).column_line-line.ensures
           e.add_pixels-line_total.ensures.0,
       q.0,
       q.1,
@@ -163,8 +163,8 @@ returns c =
     let done : h.loop-k.k ≡ h.span_of-n.result = omega (arith, h.loop-k.invariant.0, c.loop-k-test.false) in
     let all = done ∙ h.span_of-n.ensures in
     let first = h.low-x.ensures in (
-      columns-all (2 ^ at.args.bits) at.requires.weighed.0 at.requires.weighed.1 first all h.loop-k.invariant.1,
-      h.loop-k.invariant.2 ∙ columns-by at.requires.weighed.0 65535 first all,
+      columns-all (2 ^ at.args.bits) at.requires.0.0 at.requires.0.1 first all h.loop-k.invariant.1,
+      h.loop-k.invariant.2 ∙ columns-by at.requires.0.0 65535 first all,
     )
 
 pub add_window_spec : {M : Type 1} → statement M

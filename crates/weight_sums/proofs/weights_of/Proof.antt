@@ -15,11 +15,11 @@ use Rattle.weight_sums.proofs.weights_of.Tie as tie
 guided-formula-requires : tie.Need-guided_formula-guided-requires
 guided-formula-requires c κs =
     let at = c.before.before.before.before in
-    ((at.requires.planned.0, c.if-plan-eq2.true, at.requires.planned.1, at.requires.planned.2), (at.requires.sums_at.0, at.requires.planned.3))
+    ((at.requires.0.0, c.if-plan-eq2.true, at.requires.0.1, at.requires.0.2), (at.requires.1.0, at.requires.0.3))
 
 returns : tie.Need-returns-then-plan-eq2
 returns c =
-    let a = c.requires.planned in
+    let a = c.requires.0 in
     let e = c.guided_formula-guided.ensures in
     record {
       weighs = e.0;
@@ -28,17 +28,17 @@ returns c =
     }
 
 mul-guide-at : tie.Need-overflow_mul-t
-mul-guide-at c = let a = c.requires.planned in omega (arith, place-small a.0 (centre-place a.0 a.1 a.2))
+mul-guide-at c = let a = c.requires.0 in omega (arith, place-small a.0 (centre-place a.0 a.1 a.2))
 
 add-guide-at : tie.Need-overflow_add-t
-add-guide-at c = let a = c.requires.planned in omega (arith, place-small a.0 (centre-place a.0 a.1 a.2))
+add-guide-at c = let a = c.requires.0 in omega (arith, place-small a.0 (centre-place a.0 a.1 a.2))
 
 guide-at-requires : tie.Need-guide_at-centre-requires
-guide-at-requires c κs = let a = c.requires.planned in (a.0, centre-place a.0 a.1 a.2)
+guide-at-requires c κs = let a = c.requires.0 in (a.0, centre-place a.0 a.1 a.2)
 
 table-row-requires : tie.Need-table_row-requires
 table-row-requires c κs =
-    let a = c.requires.planned in
+    let a = c.requires.0 in
     (a.0, centre-low a.0 a.1 a.2 c.guide_at-centre.ensures, a.3)
 
 -- the own weights are in the row
@@ -47,7 +47,7 @@ own : (r : tie.After-table_row) → let at = r.before.before.before.before.befor
 own r =
     let g = r.before.before in
     let i = g.before.before in
-    let a = i.requires.planned in
+    let a = i.requires.0 in
     row-weighs-own a.0 a.1 a.2 g.guide_at-centre.ensures (kind-table a.0 i.if-plan-eq2.false) r.table_row.ensures
 
 ones-if-hollow-requires : tie.Need-ones_if_hollow-hollow-requires
@@ -55,8 +55,8 @@ ones-if-hollow-requires c κs =
     let r = c.before in
     let i = r.before.before.before.before in
     let at = i.before.before.before in
-    let a = at.requires.planned in
-    ((a.0, kind-table a.0 i.if-plan-eq2.false, omega (arith, a.1), a.2), (own r, r.table_row.ensures.long, at.requires.sums_at.1))
+    let a = at.requires.0 in
+    ((a.0, kind-table a.0 i.if-plan-eq2.false, omega (arith, a.1), a.2), (own r, r.table_row.ensures.long, at.requires.1.1))
 
 returns-2 : tie.Need-returns
 returns-2 c =

@@ -59,37 +59,37 @@ wide c =
     (span-in _ _ _ _ (within c))
 
 node-count-requires : tie.Need-node_count-cap-requires invariant-loop decreases-loop
-node-count-requires c κs = let at = c.before.before in (plan-limits at.requires.planned).radius
+node-count-requires c κs = let at = c.before.before in (plan-limits at.requires.0).radius
 
 low-requires : tie.Need-low-left-requires invariant-loop decreases-loop
 low-requires c κs = tt
 
 span-of-requires : tie.Need-span_of-columns-requires invariant-loop decreases-loop
-span-of-requires c κs = let at = c.before.before.before.before in let l = plan-limits at.requires.planned in (at.requires.s_lt_width.0.0, l.width, l.radius)
+span-of-requires c κs = let at = c.before.before.before.before in let l = plan-limits at.requires.0 in (at.requires.1.0.0, l.width, l.radius)
 
 clear-requires : tie.Need-clear-free-requires invariant-loop decreases-loop
 clear-requires c κs =
     let z = c.before.before.before in
     let at = z.before.before.before in
     let e = z.node_count-cap.ensures in
-    (omega (arith, e.0, store-size at.requires.planned, at.requires.s_lt_width.1), omega (arith, e.1))
+    (omega (arith, e.0, store-size at.requires.0, at.requires.1.1), omega (arith, e.1))
 
 loop-holds : tie.Need-loop-k-init invariant-loop decreases-loop
 loop-holds c =
     let k = c.before.before in
     let z = k.before.before.before.before in
     let at = z.before.before.before in (
-      columns-empty at.requires.planned _ _ at.requires.s_lt_width.0.0 at.requires.s_lt_width.0.1 _ (rw z.node_count-cap.ensures.0 at k.clear-free.ensures),
+      columns-empty at.requires.0 _ _ at.requires.1.0.0 at.requires.1.0.1 _ (rw z.node_count-cap.ensures.0 at k.clear-free.ensures),
       omega arith,
       refl,
       λ j h. refl,
     )
 
 add-column-line : tie.Need-overflow_add-left invariant-loop decreases-loop
-add-column-line c = omega (arith, wide c, (plan-limits (start c.before).requires.planned).width)
+add-column-line c = omega (arith, wide c, (plan-limits (start c.before).requires.0).width)
 
 column-line-requires : tie.Need-column_line-d-requires invariant-loop decreases-loop
-column-line-requires c κs = let at = start c.before in let l = plan-limits at.requires.planned in (l, (omega (arith, wide c, l.width), at.requires.s_lt_width.0.1))
+column-line-requires c κs = let at = start c.before in let l = plan-limits at.requires.0 in (l, (omega (arith, wide c, l.width), at.requires.1.0.1))
 
 -- the places passed in a turn: its column, and the list that the column was read into
 abbrev line : tie.After-read-p invariant-loop decreases-loop → tie.After-column_line-d invariant-loop decreases-loop
@@ -116,7 +116,7 @@ slice-aggregate-read c = search rules
 read-requires : tie.Need-read-p-requires invariant-loop decreases-loop
 read-requires c κs =
     let at = start c.before.before.before in
-    let pl = at.requires.planned in
+    let pl = at.requires.0 in
     (pl, rw c.column_line-d.ensures (column-in (plan-limits pl) _ at.args.t (wide c.before.before)), omega arith)
 
 sub-merge-line : tie.Need-slice_bounds-merge_line-count invariant-loop decreases-loop
@@ -133,17 +133,17 @@ merge-line-requires c κs =
     let r = c.before.before.before.before in
     let h = (turn r).before in
     let at = start h in
-    columns-insertable at.requires.planned _ _ at.requires.s_lt_width.0.0 at.requires.s_lt_width.0.1 (within (turn r)) (line-is r) (listed r) h.loop-k.inv.0
+    columns-insertable at.requires.0 _ _ at.requires.1.0.0 at.requires.1.0.1 (within (turn r)) (line-is r) (listed r) h.loop-k.inv.0
 
 -- the reading, from a turn's end
 abbrev read : tie.After-slice_known-in-loop-k-1 invariant-loop decreases-loop → tie.After-read-p invariant-loop decreases-loop
-read c = c.before.before.before.before.before.before.before
+read c = c.before.before.before.before.before.before
 
 add-k : tie.Need-overflow_add-k invariant-loop decreases-loop
 add-k c =
     let i = turn (read c) in
     let at = start i.before in
-    omega (arith, within i, span-high at.args.plan.radius at.args.s at.args.plan.width (plan-limits at.requires.planned).radius)
+    omega (arith, within i, span-high at.args.plan.radius at.args.s at.args.plan.width (plan-limits at.requires.0).radius)
 
 loop-less : tie.Need-loop-k-smaller invariant-loop decreases-loop
 loop-less c = omega (arith, (turn (read c)).loop-k-test.taken)
@@ -155,11 +155,11 @@ loop-again c =
     let h = (turn r).before in
     let at = start h in
     let v = h.loop-k.inv in (
-      columns-inserted at.requires.planned _ _ at.requires.s_lt_width.0.0 at.requires.s_lt_width.0.1 (within (turn r)) (line-is r) (listed r) v.0
+      columns-inserted at.requires.0 _ _ at.requires.1.0.0 at.requires.1.0.1 (within (turn r)) (line-is r) (listed r) v.0
           n.merge_line-next.ensures,
       omega (arith, (turn r).loop-k-test.taken),
       n.merge_line-next.auto.1.1.1.0 ∙ v.2,
-      λ j b. columns-beyond at.requires.planned _ _ at.requires.s_lt_width.0.0 at.requires.s_lt_width.0.1 (within (turn r)) (line-is r) (listed r) v.0
+      λ j b. columns-beyond at.requires.0 _ _ at.requires.1.0.0 at.requires.1.0.1 (within (turn r)) (line-is r) (listed r) v.0
           n.merge_line-next.ensures j b ∙ v.3 j b,
     )
 
@@ -173,9 +173,9 @@ returns c =
     let v = h.loop-k.invariant in
     let e : h.loop-k.k ≡ span at.args.plan.radius at.args.s at.args.plan.width =
     omega (arith, v.1, c.loop-k-test.false, (spanned h).span_of-columns.ensures) in
-    listed-stored at.requires.planned _ _ _ (v.2 ∙ (cleared h).clear-free.auto.0)
+    listed-stored at.requires.0 _ _ _ (v.2 ∙ (cleared h).clear-free.auto.0)
     (λ j b. v.3 j b ∙ (cleared h).clear-free.ensures.beyond j (rw (sized h).node_count-cap.ensures.0 b))
-    (columns-listed at.requires.planned _ _ at.requires.s_lt_width.0.0 at.requires.s_lt_width.0.1 (rw e at v.0))
+    (columns-listed at.requires.0 _ _ at.requires.1.0.0 at.requires.1.0.1 (rw e at v.0))
 
 pub start_spec : {M : Type 1} → statement M
 start_spec = tie.close (tie.spec invariant-loop decreases-loop node-count-requires low-requires span-of-requires clear-requires loop-holds add-column-line column-line-requires slice-aggregate-read read-requires sub-merge-line part-merge-line-start part-merge-line-end merge-line-requires add-k loop-less loop-again same_length returns)

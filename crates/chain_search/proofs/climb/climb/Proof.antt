@@ -38,25 +38,25 @@ start h = h.before.before.before.before.before
 
 -- the state there, at the list of the `requires`
 state : (h : tie.At-loop-next invariant-loop decreases-loop) →
-    AtNode (start h).requires.by_index.0 (start h).args.nodes.now (start h).args.coefficients (start h).requires.by_index.2 h.loop-next.count h.loop-next.sum
+    AtNode (start h).requires.0.0 (start h).args.nodes.now (start h).args.coefficients (start h).requires.0.2 h.loop-next.count h.loop-next.sum
     h.loop-next.at h.loop-next.next
-state h = h.loop-next.invariant _ (start h).requires.by_index.1 (start h).requires.by_index.2
+state h = h.loop-next.invariant _ (start h).requires.0.1 (start h).requires.0.2
 
 shared-slice-read-place : tie.Need-bounds-nodes-0 invariant-loop decreases-loop
-shared-slice-read-place c = omega (arith, c.requires.by_index.2.chain.shape.size)
+shared-slice-read-place c = omega (arith, c.requires.0.2.chain.shape.size)
 
 place-requires : tie.Need-place-at-requires invariant-loop decreases-loop
 place-requires c κs = search rules
 
 mul_next : tie.Need-offset_bounds-nodes-at invariant-loop decreases-loop
-mul_next c = let st = c.before.before.before in omega (arith, c.place-at.ensures, first-in st.requires.by_index.2 st.requires.coefficients_small.1, st.well_formed)
+mul_next c = let st = c.before.before.before in omega (arith, c.place-at.ensures, first-in st.requires.0.2 st.requires.1.1, st.well_formed)
 
 shared-slice-read-next : tie.Need-bounds-nodes-at invariant-loop decreases-loop
 shared-slice-read-next c = let st =
-    c.before.before.before.before in omega (arith, c.place-at.ensures, first-in st.requires.by_index.2 st.requires.coefficients_small.1)
+    c.before.before.before.before in omega (arith, c.place-at.ensures, first-in st.requires.0.2 st.requires.1.1)
 
 loop-holds : tie.Need-loop-next-init invariant-loop decreases-loop
-loop-holds c = let st = c.before.before.before.before in λ l h a. node-start st.requires.coefficients_small.1 c.place-at.ensures
+loop-holds c = let st = c.before.before.before.before in λ l h a. node-start st.requires.1.1 c.place-at.ensures
 
 sub-count : tie.Need-overflow_sub-count invariant-loop decreases-loop
 sub-count c = omega (arith, node-from (state c.before))
@@ -92,7 +92,7 @@ reached-requires : tie.Need-reached-requires invariant-loop decreases-loop
 reached-requires c κs =
     let h = c.before.before.before in
     let s = state h in
-    ((start h).requires.coefficients_small.0, (omega (arith, node-count s, node-sum s), omega (arith, node-count s, node-sum s)))
+    ((start h).requires.1.0, (omega (arith, node-count s, node-sum s), omega (arith, node-count s, node-sum s)))
 
 sub-t18 : tie.Need-overflow_sub-result invariant-loop decreases-loop
 sub-t18 c = omega (arith, node-from (state c.before.before.before.before.before))
@@ -104,7 +104,7 @@ shared-slice-read-t21 : tie.Need-bounds-nodes-at-then-reached invariant-loop dec
 shared-slice-read-t21 c = omega (arith, node_in (state c.before.before.before.before.before.before))
 
 cast-t22 : tie.Need-overflow_cast-result invariant-loop decreases-loop
-cast-t22 c = let h = c.before.before.before.before.before.before in omega (arith, node-level (state h), (start h).requires.by_index.1)
+cast-t22 c = let h = c.before.before.before.before.before.before in omega (arith, node-level (state h), (start h).requires.0.1)
 
 returns : tie.Need-returns-then-reached invariant-loop decreases-loop
 returns c =
@@ -131,7 +131,7 @@ loop-less : tie.Need-loop-next-smaller invariant-loop decreases-loop
 loop-less c =
     let e = c.before.before in
     let h = e.before.before.before.before.before in
-    node-less (state h) (sym e.reached.ensures) e.if-reached.false c.place-at-in-loop-next.ensures 1024 (start h).requires.by_index.1
+    node-less (state h) (sym e.reached.ensures) e.if-reached.false c.place-at-in-loop-next.ensures 1024 (start h).requires.0.1
 
 loop-again : tie.Need-loop-next-preserved invariant-loop decreases-loop
 loop-again c =
@@ -149,7 +149,7 @@ shared-slice-read-t8 : tie.Need-bounds-nodes-at-2 invariant-loop decreases-loop
 shared-slice-read-t8 c = omega (arith, node_in (state c.before.before))
 
 cast-t26 : tie.Need-overflow_cast-result-2 invariant-loop decreases-loop
-cast-t26 c = let h = c.before.before in omega (arith, node-level (state h), (start h).requires.by_index.1)
+cast-t26 c = let h = c.before.before in omega (arith, node-level (state h), (start h).requires.0.1)
 
 returns-2 : tie.Need-returns invariant-loop decreases-loop
 returns-2 c = λ l q a. node-last (c.loop-next.invariant l q a) c.loop-next-test.false

@@ -30,43 +30,43 @@ abbrev frame : tie.Start → Frame
 frame st = frame_of st.args.file.now
 
 place : (st : tie.Start) → st.args.y * st.args.plan.width + st.args.x < st.args.plan.width * st.args.plan.height
-place st = place-low st.args.plan st.args.x st.args.y st.requires.x_lt_width.0.0 st.requires.x_lt_width.0.1
+place st = place-low st.args.plan st.args.x st.args.y st.requires.1.0.0 st.requires.1.0.1
 
 -- the pixel's value, whether it is a reading, and its guide
 value-is : (v : tie.After-value_at-value) → let st = begin v in v.value_at-value.result ≡ level (frame st) st.args.x st.args.y
-value-is v = let st = begin v in v.value_at-value.ensures ∙ (facts st.requires.planned).level_at st.args.x st.args.y
+value-is v = let st = begin v in v.value_at-value.ensures ∙ (facts st.requires.0).level_at st.args.x st.args.y
 
 reads : (c : tie.Else-value) → let st = begin c.before in dead (frame st) st.args.x st.args.y ≡ false
 reads c = ne_eqb _ no_reading (λ e. c.if-value.false (value-is c.before ∙ e))
 
 guide-is : (g : tie.After-guide_at-g) → let st = begin (valued g) in g.guide_at-g.result.0 ≡ guide (frame st) st.args.x st.args.y
-guide-is g = let st = begin (valued g) in g.guide_at-g.ensures ∙ (facts st.requires.planned).guide_at-g st.args.x st.args.y
+guide-is g = let st = begin (valued g) in g.guide_at-g.ensures ∙ (facts st.requires.0).guide_at-g st.args.x st.args.y
 
 guide-small : (g : tie.After-guide_at-g) → g.guide_at-g.result.0 ≤ 255
 guide-small g =
     let st = begin (valued g) in
-    omega (arith, g.guide_at-g.ensures, guide-low st.requires.planned (place st), guides_high st.requires.planned)
+    omega (arith, g.guide_at-g.ensures, guide-low st.requires.0 (place st), guides_high st.requires.0)
 
 low : (c : tie.Else-value) → c.value_at-value.result < (begin c.before).args.plan.levels
 low c =
     let st = begin c.before in
     let e = c.value_at-value.ensures in
-    subst (λ (n : ℕ). n < st.args.plan.levels) (sym e) (level-low st.requires.planned (place st) (ne_eqb _ no_reading (λ d. c.if-value.false (e ∙ d))))
+    subst (λ (n : ℕ). n < st.args.plan.levels) (sym e) (level-low st.requires.0 (place st) (ne_eqb _ no_reading (λ d. c.if-value.false (e ∙ d))))
 
 -- both places are in the store
 first-in : (g : tie.After-guide_at-g) → let st = begin (valued g) in let z = st.args.plan in
     st.args.a * z.levels + (valued g).value_at-value.result < 2 * (z.width * z.levels) + 2 * z.levels
-first-in g = let st = begin (valued g) in in-store st.args.plan.width st.requires.x_lt_width.1.0.0 (low g.before)
+first-in g = let st = begin (valued g) in in-store st.args.plan.width st.requires.1.1.0.0 (low g.before)
 
 second-in : (g : tie.After-guide_at-g) → let st = begin (valued g) in let z = st.args.plan in
     st.args.b * z.levels + (valued g).value_at-value.result < 2 * (z.width * z.levels) + 2 * z.levels
-second-in g = let st = begin (valued g) in in-store st.args.plan.width st.requires.x_lt_width.1.0.1 (low g.before)
+second-in g = let st = begin (valued g) in in-store st.args.plan.width st.requires.1.1.0.1 (low g.before)
 
 -- the count's change, and then the guide sum's
 first-able : (st : tie.Start) →
     Able st.args.add st.args.plan.levels (block st.args.a (at_level (frame st) (λ u v. 1) st.args.x st.args.y))
     st.args.blocks.now
-first-able st = able-first (frame st) st.args.x st.args.y st.args.add st.args.a st.args.b st.requires.x_lt_width.1.1
+first-able st = able-first (frame st) st.args.x st.args.y st.args.add st.args.a st.args.b st.requires.1.1.1
 
 counted : (k : tie.After-change) → let st = begin (valued (guided k)) in
     Put st.args.add st.args.plan.levels (block st.args.a (at_level (frame st) (λ u v. 1) st.args.x st.args.y))
@@ -75,23 +75,23 @@ counted k =
     let g = guided k in
     let st = begin (valued g) in
     count-put (frame st) st.args.x st.args.y (reads g.before) (λ u v. 1) st.args.add st.args.a _ 1 (value-is (valued g)) refl
-    (low g.before) (omega (arith, first-in g, st.requires.x_lt_width.1.0.2)) (first-able st) k.change.ensures
+    (low g.before) (omega (arith, first-in g, st.requires.1.1.0.2)) (first-able st) k.change.ensures
 
 second-able : (k : tie.After-change) → let st = begin (valued (guided k)) in
     Able st.args.add st.args.plan.levels (block st.args.b (at_level (frame st) (guide (frame st)) st.args.x st.args.y))
     k.change.new.0
 second-able k =
     let st = begin (valued (guided k)) in
-    able-second (frame st) st.args.x st.args.y st.args.add st.args.a st.args.b st.requires.x_lt_width.1.1 (counted k)
+    able-second (frame st) st.args.x st.args.y st.args.add st.args.a st.args.b st.requires.1.1.1 (counted k)
 
 mul-q : tie.Need-overflow_mul-q
-mul-q c = let st = c.before.before.before in omega (arith, place-small st.requires.planned (place st))
+mul-q c = let st = c.before.before.before in omega (arith, place-small st.requires.0 (place st))
 
 add-q : tie.Need-overflow_add-q
-add-q c = let st = c.before.before.before in omega (arith, place-small st.requires.planned (place st))
+add-q c = let st = c.before.before.before in omega (arith, place-small st.requires.0 (place st))
 
 value-at-requires : tie.Need-value_at-value-requires
-value-at-requires c κs = let st = c.before.before.before in (st.requires.planned, place st)
+value-at-requires c κs = let st = c.before.before.before in (st.requires.0, place st)
 
 returns : tie.Need-returns-then-value
 returns c =
@@ -100,22 +100,22 @@ returns c =
     (eq-eqb _ no_reading (sym (value-is c.before) ∙ c.if-value.true))
 
 guide-at-requires : tie.Need-guide_at-g-requires
-guide-at-requires c κs = let st = begin c.before in (st.requires.planned, place st)
+guide-at-requires c κs = let st = begin c.before in (st.requires.0, place st)
 
 cast-at : tie.Need-overflow_cast-at
 cast-at c = search rules
 
 mul-change : tie.Need-overflow_mul-a
-mul-change c = let g = c.before in let st = begin (valued g) in omega (arith, first-in g, st.requires.x_lt_width.1.0.2, st.good)
+mul-change c = let g = c.before in let st = begin (valued g) in omega (arith, first-in g, st.requires.1.1.0.2, st.good)
 
 add-change : tie.Need-overflow_add-a
-add-change c = let g = c.before in let st = begin (valued g) in omega (arith, first-in g, st.requires.x_lt_width.1.0.2, st.good)
+add-change c = let g = c.before in let st = begin (valued g) in omega (arith, first-in g, st.requires.1.1.0.2, st.good)
 
 change-requires : tie.Need-change-requires
 change-requires c κs =
     let g = c.before in
     let st = begin (valued g) in (
-      omega (arith, first-in g, st.requires.x_lt_width.1.0.2),
+      omega (arith, first-in g, st.requires.1.1.0.2),
       asks (frame st) st.args.x st.args.y (reads g.before) (λ u v. 1) st.args.add st.args.a _ 1 (value-is (valued g)) refl
           (low g.before) (first-able st),
     )
@@ -124,13 +124,13 @@ mul-change-2 : tie.Need-overflow_mul-b
 mul-change-2 c =
     let g = guided c.before.before.before in
     let st = begin (valued g) in
-    omega (arith, second-in g, st.requires.x_lt_width.1.0.2, st.good)
+    omega (arith, second-in g, st.requires.1.1.0.2, st.good)
 
 add-change-2 : tie.Need-overflow_add-b
 add-change-2 c =
     let g = guided c.before.before.before in
     let st = begin (valued g) in
-    omega (arith, second-in g, st.requires.x_lt_width.1.0.2, st.good)
+    omega (arith, second-in g, st.requires.1.1.0.2, st.good)
 
 cast-change : tie.Need-overflow_cast-g
 cast-change c = omega (arith, guide-small (guided (counting c)))
@@ -140,7 +140,7 @@ change-requires-2 c κs =
     let k = counting c in
     let g = guided k in
     let st = begin (valued g) in (
-      omega (arith, second-in g, st.requires.x_lt_width.1.0.2, (counted k).len),
+      omega (arith, second-in g, st.requires.1.1.0.2, (counted k).len),
       asks (frame st) st.args.x st.args.y (reads g.before) (guide (frame st)) st.args.add st.args.b _ _ (value-is (valued g))
           (guide-is g) (low g.before) (second-able k),
     )
@@ -156,7 +156,7 @@ returns-2 c =
     let st = begin (valued g) in
     put-pixel (frame st) st.args.x st.args.y st.args.add st.args.a st.args.b (counted k)
     (count-put (frame st) st.args.x st.args.y (reads g.before) (guide (frame st)) st.args.add st.args.b _ _ (value-is (valued g))
-    (guide-is g) (low g.before) (omega (arith, second-in g, st.requires.x_lt_width.1.0.2, (counted k).len)) (second-able k) o.change-2.ensures)
+    (guide-is g) (low g.before) (omega (arith, second-in g, st.requires.1.1.0.2, (counted k).len)) (second-able k) o.change-2.ensures)
 
 pub count_pixel_spec : {M : Type 1} → statement M
 count_pixel_spec = tie.close (tie.spec mul-q add-q value-at-requires returns guide-at-requires cast-at mul-change add-change change-requires mul-change-2 add-change-2 cast-change change-requires-2 same_length returns-2)

@@ -15,12 +15,12 @@ left_is : (c : tie.After-span_of-columns) →
     c.low-left.result ≡ c.args.s - (frame_of c.args.file.now).set.radius
 left_is c =
     c.low-left.ensures ∙ ap (λ (r : ℕ). c.args.s - r)
-    (facts c.requires.planned).radius
+    (facts c.requires.0).radius
 
 span-is : (c : tie.After-span_of-columns) →
     c.span_of-columns.result ≡ span (frame_of c.args.file.now).set.radius
     c.args.s (frame_of c.args.file.now).set.width
-span-is c = let f = facts c.requires.planned in c.span_of-columns.ensures ∙ rw (f.radius, f.width) refl
+span-is c = let f = facts c.requires.0 in c.span_of-columns.ensures ∙ rw (f.radius, f.width) refl
 
 span-end : (c : tie.After-span_of-columns) → c.low-left.result + c.span_of-columns.result ≤ c.args.plan.width
 unfolding span
@@ -30,47 +30,47 @@ low-requires : tie.Need-low-left-requires
 low-requires c κs = search rules
 
 span-of-requires : tie.Need-span_of-columns-requires
-span-of-requires c κs = let st = c.before.before.before in (st.requires.s_lt_width.0.0, (plan-limits st.requires.planned).width, (plan-limits st.requires.planned).radius)
+span-of-requires c κs = let st = c.before.before.before in (st.requires.1.0.0, (plan-limits st.requires.0).width, (plan-limits st.requires.0).radius)
 
 count-strip-requires : tie.Need-count_strip-requires
 count-strip-requires c κs = let st =
     c.before.before.before.before.before in (
-      st.requires.planned,
+      st.requires.0,
       (
-        (st.requires.s_lt_width.0.1, omega arith, st.requires.s_lt_width.0.2),
+        (st.requires.1.0.1, omega arith, st.requires.1.0.2),
         (
           (λ x h. (strips-in st.args.plan.width x h).0),
           row_first (frame_of st.args.file.now) st.args.add st.args.plan.width
-              st.args.s _ _ st.args.y (facts st.requires.planned).width (left_is c.before) (span-is c.before) st.requires.s_lt_width.1,
+              st.args.s _ _ st.args.y (facts st.requires.0).width (left_is c.before) (span-is c.before) st.requires.1.1,
         ),
       ),
     )
 
 mul-count-strip : tie.Need-overflow_mul-w
-mul-count-strip c = omega (arith, (plan-limits c.requires.planned).width)
+mul-count-strip c = omega (arith, (plan-limits c.requires.0).width)
 
 mul-count-strip-2 : tie.Need-overflow_mul-w-2
-mul-count-strip-2 c = omega (arith, (plan-limits c.requires.planned).width)
+mul-count-strip-2 c = omega (arith, (plan-limits c.requires.0).width)
 
 add-count-strip : tie.Need-overflow_add-w
-add-count-strip c = omega (arith, (plan-limits c.requires.planned).width)
+add-count-strip c = omega (arith, (plan-limits c.requires.0).width)
 
 count-strip-requires-2 : tie.Need-count_strip-requires-2
 count-strip-requires-2 c κs = let st =
     c.before.before.before.before.before.before.before.before.before in (
-      st.requires.planned,
+      st.requires.0,
       (
         (
-          st.requires.s_lt_width.0.1,
+          st.requires.1.0.1,
           span-end c.before.before.before.before.before,
           omega
-              (arith, st.requires.s_lt_width.0.2, c.count_strip.ensures.len),
+              (arith, st.requires.1.0.2, c.count_strip.ensures.len),
         ),
         (
           (λ x h. (strips-in st.args.plan.width x h).1),
           row-second (frame_of st.args.file.now) st.args.add st.args.plan.width
-              st.args.s _ _ st.args.y (facts st.requires.planned).width (left_is c.before.before.before.before.before)
-              (span-is c.before.before.before.before.before) st.requires.s_lt_width.1 c.count_strip.ensures,
+              st.args.s _ _ st.args.y (facts st.requires.0).width (left_is c.before.before.before.before.before)
+              (span-is c.before.before.before.before.before) st.requires.1.1 c.count_strip.ensures,
         ),
       ),
     )
@@ -81,7 +81,7 @@ same_length c = search rules
 returns : tie.Need-returns
 returns c = let st =
     c.before.before.before.before.before.before.before.before.before.before.before.before in row_put (frame_of st.args.file.now)
-    st.args.add st.args.plan.width st.args.s _ _ st.args.y (facts st.requires.planned).width
+    st.args.add st.args.plan.width st.args.s _ _ st.args.y (facts st.requires.0).width
     (left_is c.before.before.before.before.before.before.before.before)
     (span-is c.before.before.before.before.before.before.before.before)
     c.count_strip.ensures c.count_strip-2.ensures

@@ -12,7 +12,7 @@ row c = row_d (frame_of c.args.file.now) c.args.s c.args.y
 
 count-row-requires : tie.Need-count_row-requires
 count-row-requires c κs = let st = c.before.before.before.before in let on =
-    c.if-on.true in (st.requires.planned, ((st.requires.s_lt_width.0.0, st.requires.s_lt_width.0.1 on, st.requires.s_lt_width.0.2), when-able (row (st)) on st.requires.s_lt_width.1))
+    c.if-on.true in (st.requires.0, ((st.requires.1.0.0, st.requires.1.0.1 on, st.requires.1.0.2), when-able (row (st)) on st.requires.1.1))
 
 same_length : tie.Need-shape_of-blocks
 same_length c = search rules

@@ -17,41 +17,41 @@ decreases-loop file z blocks₀ y a b apart first count add k₀ blocks k = coun
 
 in-width : (c : tie.In-loop-k invariant-loop decreases-loop) →
     c.args.first + c.loop-k.k < c.args.plan.width
-in-width c = omega (arith, c.loop-k-test.true, c.requires.y_lt_height.0.1)
+in-width c = omega (arith, c.loop-k-test.true, c.requires.1.0.1)
 
 places : (c : tie.In-loop-k invariant-loop decreases-loop)
     →
     (c.args.a + (c.args.first + c.loop-k.k) * c.args.apart < 2 * c.args.plan.width + 2)
     ×
     (c.args.b + (c.args.first + c.loop-k.k) * c.args.apart < 2 * c.args.plan.width + 2)
-places c = c.requires.y_lt_height.1.0 (c.args.first + c.loop-k.k) (in-width c)
+places c = c.requires.1.1.0 (c.args.first + c.loop-k.k) (in-width c)
 
 loop-holds : tie.Need-loop-k-init invariant-loop decreases-loop
 loop-holds c = pile-start _ _ _ _ _ _
 
 add-x : tie.Need-overflow_add-x invariant-loop decreases-loop
-add-x c = omega (arith, in-width c, (plan-limits c.requires.planned).width)
+add-x c = omega (arith, in-width c, (plan-limits c.requires.0).width)
 
 mul-step : tie.Need-overflow_mul-step invariant-loop decreases-loop
-mul-step c = omega (arith, places c, (plan-limits c.requires.planned).width)
+mul-step c = omega (arith, places c, (plan-limits c.requires.0).width)
 
 add-count-pixel : tie.Need-overflow_add-a invariant-loop decreases-loop
-add-count-pixel c = omega (arith, places c.before, (plan-limits c.requires.planned).width)
+add-count-pixel c = omega (arith, places c.before, (plan-limits c.requires.0).width)
 
 add-count-pixel-2 : tie.Need-overflow_add-b invariant-loop decreases-loop
-add-count-pixel-2 c = omega (arith, places c.before, (plan-limits c.requires.planned).width)
+add-count-pixel-2 c = omega (arith, places c.before, (plan-limits c.requires.0).width)
 
 count-pixel-requires : tie.Need-count_pixel-requires invariant-loop decreases-loop
 count-pixel-requires c κs = let st = c.before.before.before.before.before in let v =
     c.loop-k.invariant in (
-      st.requires.planned,
+      st.requires.0,
       (
-        (in-width c.before, st.requires.y_lt_height.0.0),
+        (in-width c.before, st.requires.1.0.0),
         (
-          ((places c.before).0, (places c.before).1, omega (arith, v.put.len, st.requires.y_lt_height.0.2)),
+          ((places c.before).0, (places c.before).1, omega (arith, v.put.len, st.requires.1.0.2)),
           pile-able v c.loop-k-test.true
               (strip-able (frame_of st.args.file.now) st.args.add st.args.y st.args.a st.args.b st.args.apart
-              st.args.first st.args.count st.requires.y_lt_height.1.1),
+              st.args.first st.args.count st.requires.1.1.1),
         ),
       ),
     )
@@ -61,8 +61,8 @@ add-k c =
     omega (
       arith,
       c.loop-k-test.true,
-      c.requires.y_lt_height.0.1,
-      (plan-limits c.requires.planned).width,
+      c.requires.1.0.1,
+      (plan-limits c.requires.0).width,
     )
 
 loop-less : tie.Need-loop-k-smaller invariant-loop decreases-loop

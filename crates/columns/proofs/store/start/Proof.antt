@@ -30,19 +30,19 @@ in_rows c =
     (subst (λ (n : ℕ). c.loop-k.k < n) c.span_of-rows.ensures c.loop-k-test.true))
 
 mul-n : tie.Need-overflow_mul-n invariant-loop decreases-loop
-mul-n c = omega (arith, size_small c.requires.planned)
+mul-n c = omega (arith, size_small c.requires.0)
 
 mul-n-2 : tie.Need-overflow_mul-n-2 invariant-loop decreases-loop
-mul-n-2 c = omega (arith, size_small c.requires.planned)
+mul-n-2 c = omega (arith, size_small c.requires.0)
 
 mul-n-3 : tie.Need-overflow_mul-n-3 invariant-loop decreases-loop
-mul-n-3 c = omega (arith, levels_high c.requires.planned)
+mul-n-3 c = omega (arith, levels_high c.requires.0)
 
 add-n : tie.Need-overflow_add-n invariant-loop decreases-loop
-add-n c = omega (arith, size_small c.requires.planned, levels_high c.requires.planned)
+add-n c = omega (arith, size_small c.requires.0, levels_high c.requires.0)
 
 clear-requires : tie.Need-clear-requires invariant-loop decreases-loop
-clear-requires c κs = size_in_lem c.requires.planned c.requires.s_lt_width.2
+clear-requires c κs = size_in_lem c.requires.0 c.requires.1.2
 
 low-requires : tie.Need-low-top-requires invariant-loop decreases-loop
 low-requires c κs = tt
@@ -50,7 +50,7 @@ low-requires c κs = tt
 span-of-requires : tie.Need-span_of-rows-requires invariant-loop decreases-loop
 span-of-requires c κs = let st =
     c.before.before.before.before.before.before.before.before.before in
-    (st.requires.s_lt_width.1, (plan-limits st.requires.planned).height, (plan-limits st.requires.planned).radius)
+    (st.requires.1.1, (plan-limits st.requires.0).height, (plan-limits st.requires.0).radius)
 
 loop-holds : tie.Need-loop-k-init invariant-loop decreases-loop
 loop-holds c = pile-start _ _ _ _ _ _
@@ -61,7 +61,7 @@ add-count-row c =
       arith,
       in_rows c.before,
       (plan-limits
-          c.requires.planned).height,
+          c.requires.0).height,
     )
 
 count-row-requires : tie.Need-count_row-requires invariant-loop decreases-loop
@@ -69,12 +69,12 @@ count-row-requires c κs = let st =
     c.before.before.before.before.before.before.before.before.before.before.before.before.before in let cl =
     c.clear.ensures in let v =
     c.loop-k.invariant in (
-      st.requires.planned,
+      st.requires.0,
       (
-        (st.requires.s_lt_width.0, in_rows c.before, le_trans (size_in_lem st.requires.planned st.requires.s_lt_width.2) (le_of_eq (sym (v.put.len ∙ cl.len)))),
+        (st.requires.1.0, in_rows c.before, le_trans (size_in_lem st.requires.0 st.requires.1.2) (le_of_eq (sym (v.put.len ∙ cl.len)))),
         pile-able v
             c.loop-k-test.true
-            (start-able st.requires.planned st.args.s st.args.t c.low-top.ensures
+            (start-able st.requires.0 st.args.s st.args.t c.low-top.ensures
             c.span_of-rows.ensures st.args.blocks.now _ cl
             (λ j. omega (arith, c.slice_known-1.given j))),
       ),
@@ -86,7 +86,7 @@ add-k c =
       arith,
       in_rows c.before.before.before.before,
       (plan-limits
-          c.requires.planned
+          c.requires.0
           ).height,
     )
 
@@ -103,9 +103,9 @@ same_length c = c.loop-k.invariant.put.len ∙ c.clear.ensures.len
 
 returns : tie.Need-returns invariant-loop decreases-loop
 returns c = let st =
-    c.before.before.before.before.before.before.before.before.before.before.before.before in start-done st.requires.planned st.args.s
+    c.before.before.before.before.before.before.before.before.before.before.before.before in start-done st.requires.0 st.args.s
     st.args.t c.low-top.ensures c.span_of-rows.ensures st.args.blocks.now _
-    c.clear.ensures _ st.requires.s_lt_width.2 (pile-end c.loop-k.invariant c.loop-k-test.false)
+    c.clear.ensures _ st.requires.1.2 (pile-end c.loop-k.invariant c.loop-k-test.false)
 
 pub start_spec : {M : Type 1} → statement M
 start_spec = tie.close (tie.spec invariant-loop decreases-loop mul-n mul-n-2 mul-n-3 add-n clear-requires low-requires span-of-requires loop-holds add-count-row count-row-requires add-k loop-less loop-again same_length returns)

@@ -18,7 +18,7 @@ decreases-loop blocks₀ l at more gain less lose a b c i₀ blocks i = l - i
 
 products : (c : tie.Start invariant-loop decreases-loop) →
     (c.args.at * c.args.l ≤ 4194304) × (c.args.more * c.args.l ≤ 4194304) × (c.args.less * c.args.l ≤ 4194304)
-products c = let o = c.requires.l_bound in (mul-le-mul o.1 o.0, mul-le-mul o.2 o.0, mul-le-mul o.3 o.0)
+products c = let o = c.requires.0 in (mul-le-mul o.1 o.0, mul-le-mul o.2 o.0, mul-le-mul o.3 o.0)
 
 -- what a turn reads of the block that enters, and of the one that leaves
 entered : (c : tie.After-slice_known-in-loop-i-1 invariant-loop decreases-loop) →
@@ -31,7 +31,7 @@ entered c =
     c.pick-u.ensures ∙ slid-pick c.loop-i.invariant.1
     c.loop-i-test.true c.args.gain
     c.args.more
-    c.requires.more_lt_at.0.0
+    c.requires.1.0.0
 
 left : (c : tie.After-slice_known-in-loop-i-1 invariant-loop decreases-loop) →
     c.pick-v.result ≡ cell_of c.args.lose
@@ -43,7 +43,7 @@ left c =
     c.pick-v.ensures ∙ slid-pick c.loop-i.invariant.1
     c.loop-i-test.true c.args.lose
     c.args.less
-    c.requires.more_lt_at.0.1
+    c.requires.1.0.1
 
 mul-a : tie.Need-overflow_mul-a invariant-loop decreases-loop
 mul-a c = omega (arith, products c.before)
@@ -58,42 +58,42 @@ loop-holds : tie.Need-loop-i-init invariant-loop decreases-loop
 loop-holds c = (omega arith, slid-none _ _ _ _ _)
 
 add-pick : tie.Need-overflow_add-b invariant-loop decreases-loop
-add-pick c = omega (arith, products c.before.before.before.before, c.loop-i-test.true, c.requires.l_bound)
+add-pick c = omega (arith, products c.before.before.before, c.loop-i-test.true, c.requires.0)
 
 pick-requires : tie.Need-pick-u-requires invariant-loop decreases-loop
 pick-requires c κs =
     (λ q. omega (
       arith,
-      digits_lt (c.requires.more_lt_at.0.0 q) c.loop-i-test.true,
+      digits_lt (c.requires.1.0.0 q) c.loop-i-test.true,
       c.loop-i.invariant.1.len,
-      c.requires.l_bound.4,
+      c.requires.0.4,
     ))
 
 add-pick-2 : tie.Need-overflow_add-c invariant-loop decreases-loop
 add-pick-2 c =
     omega (
       arith,
-      products c.before.before.before.before.before.before,
+      products c.before.before.before.before,
       c.loop-i-test.true,
-      c.requires.l_bound,
+      c.requires.0,
     )
 
 pick-requires-2 : tie.Need-pick-v-requires invariant-loop decreases-loop
 pick-requires-2 c κs =
     (λ q. omega (
       arith,
-      digits_lt (c.requires.more_lt_at.0.1 q) c.loop-i-test.true,
+      digits_lt (c.requires.1.0.1 q) c.loop-i-test.true,
       c.loop-i.invariant.1.len,
-      c.requires.l_bound.4,
+      c.requires.0.4,
     ))
 
 add-blocks : tie.Need-overflow_add-blocks invariant-loop decreases-loop
 add-blocks c =
     omega (
       arith,
-      products c.before.before.before.before.before.before.before,
+      products c.before.before.before.before.before,
       c.loop-i-test.true,
-      c.requires.l_bound,
+      c.requires.0,
     )
 
 mul-blocks : tie.Need-offset_bounds-blocks-a invariant-loop decreases-loop
@@ -102,7 +102,7 @@ mul-blocks c =
       arith,
       c.well_formed,
       c.loop-i.invariant.1.len,
-      c.requires.l_bound.4,
+      c.requires.0.4,
       c.loop-i-test.true,
     )
 
@@ -111,7 +111,7 @@ slice-read-blocks c =
     omega (
       arith,
       c.loop-i.invariant.1.len,
-      c.requires.l_bound.4,
+      c.requires.0.4,
       c.loop-i-test.true,
     )
 
@@ -122,7 +122,7 @@ add-blocks-2 c =
       entered c,
       slid-here c.loop-i.invariant.1
           c.loop-i-test.true,
-      c.requires.more_lt_at.1.room
+      c.requires.1.1.room
           c.loop-i.i c.loop-i-test.true,
     )
 
@@ -134,16 +134,16 @@ sub-blocks c =
       left c,
       slid-here c.loop-i.invariant.1
           c.loop-i-test.true,
-      c.requires.more_lt_at.1.enough c.loop-i.i c.loop-i-test.true,
+      c.requires.1.1.enough c.loop-i.i c.loop-i-test.true,
     )
 
 add-blocks-3 : tie.Need-overflow_add-blocks-in-loop-i-2 invariant-loop decreases-loop
 add-blocks-3 c =
     omega (
       arith,
-      products c.before.before.before.before.before.before.before.before,
+      products c.before.before.before.before.before.before,
       c.loop-i-test.true,
-      c.requires.l_bound,
+      c.requires.0,
     )
 
 mul-blocks-2 : tie.Need-offset_bounds-blocks-a-in-loop-i invariant-loop decreases-loop
@@ -152,7 +152,7 @@ mul-blocks-2 c =
       arith,
       c.well_formed,
       c.loop-i.invariant.1.len,
-      c.requires.l_bound.4,
+      c.requires.0.4,
       c.loop-i-test.true,
     )
 
@@ -161,14 +161,14 @@ slice-write-blocks c =
     omega (
       arith,
       c.loop-i.invariant.1.len,
-      c.requires.l_bound.4,
+      c.requires.0.4,
       c.loop-i-test.true,
     )
 
 add-i : tie.Need-overflow_add-i invariant-loop decreases-loop
 add-i c =
     omega
-    (arith, c.loop-i-test.true, c.requires.l_bound)
+    (arith, c.loop-i-test.true, c.requires.0)
 
 loop-less : tie.Need-loop-i-smaller invariant-loop decreases-loop
 loop-less c = omega (arith, c.loop-i-test.true)
@@ -181,10 +181,10 @@ loop-again c = (
       (omega (
         arith,
         c.loop-i.invariant.1.len,
-        c.requires.l_bound.4,
+        c.requires.0.4,
         c.loop-i-test.true,
       ))
-      c.requires.more_lt_at.1 (entered c) (left c),
+      c.requires.1.1 (entered c) (left c),
 )
 
 same_length : tie.Need-shape_of-blocks invariant-loop decreases-loop

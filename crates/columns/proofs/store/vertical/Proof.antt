@@ -11,25 +11,25 @@ use Rattle.columns.proofs.store.vertical.Tie as tie
 
 exchange-of-requires : tie.Need-exchange_of-d-requires
 exchange-of-requires c κs = let st = c.before.before in let k =
-    st.requires.s_lt_width.0.1 in (k.in_old, k.in_new, (plan-limits st.requires.planned).height, (plan-limits st.requires.planned).radius)
+    st.requires.1.0.1 in (k.in_old, k.in_new, (plan-limits st.requires.0).height, (plan-limits st.requires.0).radius)
 
 count-row-if-requires : tie.Need-count_row_if-requires
 count-row-if-requires c κs = let st = c.before.before.before.before in let q =
-    row-enters st.requires.planned st.args.s st.args.t st.args.blocks.now st.requires.s_lt_width.1 st.requires.s_lt_width.0.1 c.exchange_of-d.ensures
+    row-enters st.requires.0 st.args.s st.args.t st.args.blocks.now st.requires.1.1 st.requires.1.0.1 c.exchange_of-d.ensures
     (λ j. omega (arith, c.slice_known-1.given j)) in
-    (st.requires.planned, ((st.requires.s_lt_width.0.0, q.0, held-long st.requires.planned st.args.s st.args.t st.args.blocks.now st.requires.s_lt_width.1), q.1))
+    (st.requires.0, ((st.requires.1.0.0, q.0, held-long st.requires.0 st.args.s st.args.t st.args.blocks.now st.requires.1.1), q.1))
 
 count-row-if-requires-2 : tie.Need-count_row_if-requires-2
 count-row-if-requires-2 c κs = let st = c.before.before.before.before.before.before.before.before in let u =
     c.count_row_if.ensures in let q =
-    row-leaves st.requires.planned st.args.s st.args.t st.args.blocks.now st.requires.s_lt_width.1 st.requires.s_lt_width.0.1
+    row-leaves st.requires.0 st.args.s st.args.t st.args.blocks.now st.requires.1.1 st.requires.1.0.1
     c.exchange_of-d.ensures _ u in (
-      st.requires.planned,
+      st.requires.0,
       (
         (
-          st.requires.s_lt_width.0.0,
+          st.requires.1.0.0,
           q.0,
-          le_trans (held-long st.requires.planned st.args.s st.args.t st.args.blocks.now st.requires.s_lt_width.1)
+          le_trans (held-long st.requires.0 st.args.s st.args.t st.args.blocks.now st.requires.1.1)
               (le_of_eq (sym u.len)),
         ),
         q.1,
@@ -41,8 +41,8 @@ same_length c = search rules
 
 returns : tie.Need-returns
 returns c = let st =
-    c.before.before.before.before.before.before.before.before.before.before.before in vertical-done st.requires.planned st.args.s
-    st.args.t st.args.blocks.now st.requires.s_lt_width.1 st.requires.s_lt_width.0.1
+    c.before.before.before.before.before.before.before.before.before.before.before in vertical-done st.requires.0 st.args.s
+    st.args.t st.args.blocks.now st.requires.1.1 st.requires.1.0.1
     c.exchange_of-d.ensures _ _
     c.count_row_if.ensures c.count_row_if-2.ensures
 

@@ -21,7 +21,7 @@ abbrev start : tie.Else-stops-2 → tie.Start
 start c = c.before.before.before.before.before.before.before.before
 
 -- where all checks have passed: the plan is the file's, and the outcome is accepted
-plan-at : (c : tie.Else-stops-2) → Planned (start c).args.file.now c.open_plan-opened.result.plan-1
+plan-at : (c : tie.Else-stops-2) → Planned (start c).args.file.now c.open_plan-opened.result.plan
 plan-at c =
     planned-of c.open_plan-opened.result
     c.open_plan-opened.ensures

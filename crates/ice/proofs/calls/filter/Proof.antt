@@ -25,10 +25,10 @@ use Rattle.ice.proofs.calls.filter.Statement.{statement}
 use Rattle.ice.proofs.calls.filter.Tie as tie
 
 abbrev held : tie.Start → Lent
-held at = lent at.args.counts-1.now at.args.words-1.now at.args.numbers-1.now at.args.summary-1.now
+held at = lent at.args.counts.now at.args.words.now at.args.numbers.now at.args.summary.now
 
 abbrev own : tie.Start → Settings → Outcome
-own at k = filter_checks k at.args.way (room_in (held at)) (length at.args.output-1.now)
+own at k = filter_checks k at.args.way (room_in (held at)) (length at.args.output.now)
 
 open-plan-requires : tie.Need-open_plan-opened-requires
 open-plan-requires c κs = search rules
@@ -44,7 +44,7 @@ unfolding filter_outcome
 returns c =
     let at = c.before.before.before.before.before.before.before.before.before in
     let f = known c.stops.ensures c.if-stops.true in
-    filters-refused _ _ c.refused.ensures f (held at) at.args.output-1.now _ _
+    filters-refused _ _ c.refused.ensures f (held at) at.args.output.now _ _
     (file-decides at.args.file.now (own at (settings_of at.args.file.now)) c.open_plan-opened.result.verdict
     c.open_plan-opened.ensures.0 f)
 
@@ -69,7 +69,7 @@ returns-2 c =
     c.open_plan-opened.ensures
     (known c.stops.ensures c.if-stops.false) in
     let f = known c.stops-2.ensures c.if-stops-2.true in
-    filters-refused _ _ c.refused-then-stops-2.ensures f (held at) at.args.output-1.now _ _
+    filters-refused _ _ c.refused-then-stops-2.ensures f (held at) at.args.output.now _ _
     (c.filter_verdict-w.ensures ∙ own-decides k (own at))
 
 way-of-requires : tie.Need-way_of-by-requires
@@ -82,7 +82,7 @@ start_of c = c.before.before.before.before.before.before.before.before.before.be
 -- where all checks have passed: the plan is the file's, and the outcome is accepted
 plan-at : (c : tie.After-sweep-arg-4-1) →
     Planned
-    c.args.file.now c.open_plan-opened.result.plan-1
+    c.args.file.now c.open_plan-opened.result.plan
 plan-at c =
     planned-of c.open_plan-opened.result
     c.open_plan-opened.ensures
@@ -91,7 +91,7 @@ plan-at c =
 
 outcome-at : (c : tie.After-sweep-arg-4-1) → let at =
     c.before.before.before.before.before.before.before.before.before.before.before.before.before.before.before.before.before.before in
-    filter_outcome at.args.file.now at.args.way (room_in (held at)) (length at.args.output-1.now) ≡ accepted
+    filter_outcome at.args.file.now at.args.way (room_in (held at)) (length at.args.output.now) ≡ accepted
 unfolding filter_outcome
 outcome-at c =
     sym
@@ -133,7 +133,7 @@ returns-3 c =
     let t = c.before.before.before.before.before.before.before.before.before in
     let d = t.before.before in
     let at = start_of d in
-    filters-done _ _ _ d.way_of-by.ensures (held at) _ at.args.output-1.now _ _ (outcome-at d)
+    filters-done _ _ _ d.way_of-by.ensures (held at) _ at.args.output.now _ _ (outcome-at d)
     t.sweep.ensures.0 t.sweep.ensures.1
 
 pub filter_spec : {M : Type 1} → statement M

@@ -25,12 +25,12 @@ use Rattle.ice.proofs.calls.walk.Statement.{statement}
 use Rattle.ice.proofs.calls.walk.Tie as tie
 
 abbrev held : tie.Start → Lent
-held at = lent at.args.counts-1.now at.args.words-1.now at.args.numbers-1.now at.args.summary-1.now
+held at = lent at.args.counts.now at.args.words.now at.args.numbers.now at.args.summary.now
 
 abbrev own : tie.Start → Settings → Outcome
 own at k =
     walk_checks k at.args.way at.args.column at.args.row (length at.args.moves.now) (room_in (held at))
-    (length at.args.answers-1.now)
+    (length at.args.answers.now)
 
 open-plan-requires : tie.Need-open_plan-opened-requires
 open-plan-requires c κs = search rules
@@ -46,7 +46,7 @@ unfolding walk_outcome
 returns c =
     let at = c.before.before.before.before.before.before.before.before.before.before in
     let f = known c.stops.ensures c.if-stops.true in
-    walks-refused _ _ c.refused.ensures f (held at) at.args.answers-1.now _ _ _ _ at.args.moves.now
+    walks-refused _ _ c.refused.ensures f (held at) at.args.answers.now _ _ _ _ at.args.moves.now
     (file-decides at.args.file.now (own at (settings_of at.args.file.now)) c.open_plan-opened.result.verdict
     c.open_plan-opened.ensures.0 f)
 
@@ -71,7 +71,7 @@ returns-2 c =
     c.open_plan-opened.ensures
     (known c.stops.ensures c.if-stops.false) in
     let f = known c.stops-2.ensures c.if-stops-2.true in
-    walks-refused _ _ c.refused-then-stops-2.ensures f (held at) at.args.answers-1.now _ _ _ _ at.args.moves.now
+    walks-refused _ _ c.refused-then-stops-2.ensures f (held at) at.args.answers.now _ _ _ _ at.args.moves.now
     (c.walk_verdict-w.ensures ∙ own-decides k (own at))
 
 way-of-requires : tie.Need-way_of-by-requires
@@ -86,7 +86,7 @@ start_of c =
 -- where all checks have passed: the plan is the file's, and the outcome is accepted
 plan-at : (c : tie.After-travel-arg-4-1) →
     Planned
-    c.args.file.now c.open_plan-opened.result.plan-1
+    c.args.file.now c.open_plan-opened.result.plan
 plan-at c =
     planned-of c.open_plan-opened.result
     c.open_plan-opened.ensures
@@ -96,7 +96,7 @@ plan-at c =
 outcome-at : (c : tie.After-travel-arg-4-1) → let at =
     c.before.before.before.before.before.before.before.before.before.before.before.before.before.before.before.before.before.before
     in walk_outcome at.args.file.now at.args.way at.args.column at.args.row (length at.args.moves.now) (room_in (held at))
-    (length at.args.answers-1.now) ≡ accepted
+    (length at.args.answers.now) ≡ accepted
 unfolding walk_outcome
 outcome-at c =
     sym
@@ -112,7 +112,7 @@ travel-requires c κs =
     let at = start_of d in
     let k = plan-at d in
     let g = granted k _ _ d.way_of-by.ensures _ _ _ (held at) _ (outcome-at d) in
-    ((k, g.serves), (g.pixel, (g.moves, (g.fit, g.answers-1))))
+    ((k, g.serves), (g.pixel, (g.moves, (g.fit, g.answers))))
 
 same_length : tie.Need-shape_of-counts
 same_length c = search rules
@@ -134,7 +134,7 @@ returns-3 c =
     let t = c.before.before.before.before.before.before.before.before.before in
     let d = t.before.before in
     let at = start_of d in
-    walks-done _ _ _ d.way_of-by.ensures (held at) _ at.args.answers-1.now _ _ _ _ at.args.moves.now
+    walks-done _ _ _ d.way_of-by.ensures (held at) _ at.args.answers.now _ _ _ _ at.args.moves.now
     (outcome-at d) t.travel.ensures.0 t.travel.ensures.1
 
 pub walk_spec : {M : Type 1} → statement M

@@ -18,6 +18,6 @@ change_pixels-requires-2 c =
 pub returns : goal.returns
 returns c =
     (
-      λ x. counts-exchanged x (c.change_pixels.ensures.0 x.entering) c.change_pixels-2.ensures.0 (λ k. (c.slice_known-6-1.given k).fits),
+      λ x. counts-exchanged x (c.change_pixels.ensures.0 x.entering) c.change_pixels-2.ensures.0 (λ k. (c.type_inv.words k).fits),
       box-exchanged c.args.entering.now c.args.leaving.now c.requires.1 c.change_pixels.ensures.1 c.change_pixels-2.ensures.1,
     )

@@ -23,7 +23,7 @@ mul-clear-words c = let at = c.before.before.before.before.before.before.before.
 
 clear-words-requires : tie.Need-clear_words-requires
 clear-words-requires c κs = let at =
-    c.before.before.before.before.before.before.before.before.before in omega (arith, plan-words at.requires.pictured, at.requires.words-1)
+    c.before.before.before.before.before.before.before.before.before in omega (arith, plan-words at.requires.pictured, at.requires.words)
 
 low-requires : tie.Need-low-x-requires
 low-requires c κs = search rules

@@ -35,15 +35,15 @@ listed : (r : tie.After-read_in-p invariant-loop decreases-loop) → let at =
 listed r = line-part r.read_in-p.result r.read_in-p.new.1.1.1.1.0 r.read_in-p.ensures.1
 
 loop-holds : tie.Need-loop-k-init invariant-loop decreases-loop
-loop-holds c = (omega arith, c.requires.filled)
+loop-holds c = (omega arith, c.requires.1)
 
 add-column-line : tie.Need-overflow_add-x invariant-loop decreases-loop
-add-column-line c = let at = start c.before in omega (arith, at.requires.pictured.1.wide, (plan-limits at.requires.pictured.0).width, c.loop-k-test.true)
+add-column-line c = let at = start c.before in omega (arith, at.requires.0.1.wide, (plan-limits at.requires.0.0).width, c.loop-k-test.true)
 
 column-line-requires : tie.Need-column_line-line-requires invariant-loop decreases-loop
 column-line-requires c κs =
     let at = start c.before in
-    (plan-limits at.requires.pictured.0, (omega (arith, at.requires.pictured.1.wide, (plan-limits at.requires.pictured.0).width, c.loop-k-test.true), at.requires.pictured.1.row))
+    (plan-limits at.requires.0.0, (omega (arith, at.requires.0.1.wide, (plan-limits at.requires.0.0).width, c.loop-k-test.true), at.requires.0.1.row))
 
 slice-aggregate-read-in : tie.Need-slice_bounds-read_in-end invariant-loop decreases-loop
 slice-aggregate-read-in c = search rules
@@ -53,8 +53,8 @@ read-in-requires c κs =
     let d = c.before in
     let h = d.before.before in
     let at = start h in (
-      at.requires.pictured.0,
-      column-planes at.requires.pictured.0 at.requires.pictured.1 d.loop-k-test.true h.loop-k.invariant.1 d.column_line-line.ensures,
+      at.requires.0.0,
+      column-planes at.requires.0.0 at.requires.0.1 d.loop-k-test.true h.loop-k.invariant.1 d.column_line-line.ensures,
       omega
           arith,
     )
@@ -73,15 +73,15 @@ change-pixels-requires c κs =
     let r = c.before.before.before.before.before.before in
     let h = (turn r).before in
     let at = start h in
-    fill-asks at.requires.pictured.0 at.requires.pictured.1 (turn r).loop-k-test.true h.loop-k.inv.1 (line r).column_line-line.ensures (listed r)
+    fill-asks at.requires.0.0 at.requires.0.1 (turn r).loop-k-test.true h.loop-k.inv.1 (line r).column_line-line.ensures (listed r)
 
 add-k : tie.Need-overflow_add-k invariant-loop decreases-loop
 add-k c =
-    let i = turn c.before.before.before.before.before.before.before.before.before.before.before in
-    omega (arith, i.loop-k-test.taken, (start i.before).requires.pictured.1.few)
+    let i = turn c.before.before.before.before.before.before.before.before.before.before in
+    omega (arith, i.loop-k-test.taken, (start i.before).requires.0.1.few)
 
 loop-less : tie.Need-loop-k-smaller invariant-loop decreases-loop
-loop-less c = omega (arith, (turn c.before.before.before.before.before.before.before.before.before.before.before).loop-k-test.taken)
+loop-less c = omega (arith, (turn c.before.before.before.before.before.before.before.before.before.before).loop-k-test.taken)
 
 loop-again : tie.Need-loop-k-preserved invariant-loop decreases-loop
 loop-again c =
@@ -90,7 +90,7 @@ loop-again c =
     let h = (turn r).before in
     let at = start h in (
       omega (arith, (turn r).loop-k-test.true),
-      fill-again at.requires.pictured.0 at.requires.pictured.1 (turn r).loop-k-test.true h.loop-k.inv.1 (line r).column_line-line.ensures (listed r)
+      fill-again at.requires.0.0 at.requires.0.1 (turn r).loop-k-test.true h.loop-k.inv.1 (line r).column_line-line.ensures (listed r)
           g.change_pixels.ensures.0 g.change_pixels.ensures.1,
     )
 

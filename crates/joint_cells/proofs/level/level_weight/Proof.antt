@@ -81,10 +81,10 @@ loop-holds : tie.Need-loop-c-init invariant-loop decreases-loop
 loop-holds c =
     let f = c.begin-c.ensures in
     let at = c.before.before.before.before.before in (
-      f.next-c.most,
+      f.next.most,
       f.scans,
       walk_start at.requires.0 _ (term-zero at.requires.0 at.requires.1) _
-          f.next-c,
+          f.next,
     )
 
 guide-requires : tie.Need-guide-g-requires invariant-loop decreases-loop
@@ -132,14 +132,14 @@ loop-less : tie.Need-loop-c-smaller invariant-loop decreases-loop
 loop-less c =
     let g = c.before.before.before.before in
     let h = head g in
-    omega (arith, c.next-c.ensures.next-c.from, low g.before, (start h).requires.0.guides)
+    omega (arith, c.next-c.ensures.next.from, low g.before, (start h).requires.0.guides)
 
 loop-again : tie.Need-loop-c-preserved invariant-loop decreases-loop
 loop-again c =
     let g = c.before.before.before.before in
     let h = head g in
     let at = start h in
-    let n = c.next-c.ensures.next-c in
+    let n = c.next-c.ensures.next in
     let l = low g.before in (
       n.most,
       c.next-c.ensures.scans,

@@ -98,10 +98,10 @@ loop-holds : tie.Need-loop-c-init invariant-loop decreases-loop
 loop-holds c =
     let f = c.begin-c.ensures in
     let at = c.before.before.before.before.before in (
-      f.next-c.most,
+      f.next.most,
       f.scans,
-      walk_start at.requires.0 _ (term-zero at.requires.0 at.requires.1) _ f.next-c,
-      shift-start at.requires.0 _ _ _ f.next-c,
+      walk_start at.requires.0 _ (term-zero at.requires.0 at.requires.1) _ f.next,
+      shift-start at.requires.0 _ _ _ f.next,
     )
 
 guide-requires : tie.Need-guide-g-requires invariant-loop decreases-loop
@@ -167,7 +167,7 @@ next-requires c κs =
 loop-less : tie.Need-loop-c-smaller invariant-loop decreases-loop
 loop-less c =
     let g = c.before.before.before.before.before.before in
-    omega (arith, c.next-c.ensures.next-c.from, low g.before, (start (head g)).requires.0.guides)
+    omega (arith, c.next-c.ensures.next.from, low g.before, (start (head g)).requires.0.guides)
 
 loop-again : tie.Need-loop-c-preserved invariant-loop decreases-loop
 loop-again c =
@@ -176,7 +176,7 @@ loop-again c =
     let h = head g in
     let at = start h in
     let r = g.guide-g.result.0 in
-    let n = c.next-c.ensures.next-c in (
+    let n = c.next-c.ensures.next in (
       n.most,
       c.next-c.ensures.scans,
       walk-again at.requires.0 _ (term-zero at.requires.0 at.requires.1) _ _ _ _ (low g.before) n h.loop-c.inv.2
@@ -186,7 +186,7 @@ loop-again c =
       shift-again at.requires.0 _ _ r _ _ _ (guide-low g) at.requires.2.long (rw (sym g.guide-g.ensures) at n) (moved g)
           (shift-stored (get_or h.loop-c.balance-box r (pos 0)) (pos 2) e.plus_times.result
           (get_or at.args.counts.now (level h * at.args.m + r) 0)
-          (shift-low _ (level h) _ _ _ _ r at.requires.2 (guide-low g) (moved g)) e.plus_times.type_inv e.plus_times.ensures),
+          (shift-low _ (level h) _ _ _ _ r at.requires.2 (guide-low g) (moved g)) e.plus_times.type-inv e.plus_times.ensures),
     )
 
 cast-result : tie.Need-overflow_cast-result invariant-loop decreases-loop

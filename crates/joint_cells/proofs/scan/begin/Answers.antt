@@ -19,7 +19,7 @@ bounds-words-first c = omega (arith, c.requires, c.loop-i-test.true)
 pub returns-then-rest-ne0 : goal.returns-then-rest-ne0
 returns-then-rest-ne0 c =
     begins-at c.args.words.now c.args.first c.args.k c.requires.1 (c.args.j * 64) c.loop-i.i c.loop-i-test.true
-    (omega (arith, c.loop-i.invariant.0)) c.loop-i.invariant.2 (c.shared_slice_known-1.given _).fits c.if-rest-ne0.true
+    (omega (arith, c.loop-i.invariant.0)) c.loop-i.invariant.2 (c.type_inv.words _).fits c.if-rest-ne0.true
 
 pub overflow_add-i : goal.overflow_add-i
 overflow_add-i c = omega (arith, c.loop-i.invariant.1)

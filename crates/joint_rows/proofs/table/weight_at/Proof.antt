@@ -25,12 +25,12 @@ mul-result : tie.Need-offset_bounds-built-apart
 mul-result c = search rules
 
 element-copy-out-result : tie.Need-bounds-built-apart
-element-copy-out-result c = let h = (start c.before).requires in omega (arith, apart_low h.1 h.2 h.3 c.apart.ensures)
+element-copy-out-result c = let h = (start c.before.before).requires in omega (arith, apart_low h.1 h.2 h.3 c.apart.ensures)
 
 returns : tie.Need-returns-then-plan-eq0
 returns c =
     let e = c.before in
-    let h = (start e.before).requires in
+    let h = (start e.before.before).requires in
     let is = built-entry _ _ _ h.0 (apart_low h.1 h.2 h.3 e.apart.ensures) e.apart.ensures in
     (is ∙ sym (table-built h.1 e.if-plan-eq0.true _ _), subst (λ (n : ℕ). n ≤ heaviest) (sym is) (built-in-low _ _))
 
@@ -88,7 +88,7 @@ be16-requires c κs = let h =
 returns-2 : tie.Need-returns
 returns-2 c =
     let h = c.requires in
-    (c.be16.ensures ∙ sym (table-own h.1 c.if-plan-eq0.false _ _), omega (arith, c.be16.type_inv))
+    (c.be16.ensures ∙ sym (table-own h.1 c.if-plan-eq0.false _ _), omega (arith, c.be16.type-inv))
 
 pub weight_at_spec : {M : Type 1} → statement M
 weight_at_spec = tie.close (tie.spec apart-requires cast-result mul-result element-copy-out-result returns cast-k mul-k cast-k-2 add-k mul-be16 add-be16 be16-requires returns-2)

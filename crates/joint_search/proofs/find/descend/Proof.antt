@@ -29,7 +29,7 @@ abbrev bal : tie.Start invariant-loop decreases-loop → ℕ → ℤ
 bal at j = balance_in at.args.sizes at.args.counts.now at.args.row.now j
 
 inside : (c : tie.In-loop-i invariant-loop decreases-loop) → c.loop-i.i < (start c.before).args.sizes.levels
-inside c = omega (arith, (start c.before).requires.from_lt_levels.0, c.loop-i.invariant.0)
+inside c = omega (arith, (start c.before).requires.1.0, c.loop-i.invariant.0)
 
 lower : (v : tie.After-step_balance-lower invariant-loop decreases-loop) →
     to_z w32 (of_z w32 v.step_balance-lower.result) ≡ bal (start v.before.before.before) (v.loop-i.i - 1)
@@ -37,29 +37,29 @@ lower v =
     let e = v.before in
     let h = e.before.before in
     let at = start h in
-    step_down at.requires.searchable.0 at.requires.searchable.1 h.loop-i.i (to_z w32 h.loop-i.b) e.level_weight.result v.step_balance-lower.result
-    e.loop-i-test.true (inside e.before) h.loop-i.invariant.1 e.level_weight.ensures v.step_balance-lower.type_inv
+    step_down at.requires.0.0 at.requires.0.1 h.loop-i.i (to_z w32 h.loop-i.b) e.level_weight.result v.step_balance-lower.result
+    e.loop-i-test.true (inside e.before) h.loop-i.invariant.1 e.level_weight.ensures v.step_balance-lower.type-inv
     v.step_balance-lower.ensures
 
 loop-holds : tie.Need-loop-i-init invariant-loop decreases-loop
 loop-holds c =
     let at = c.before.before.before in (
       omega arith,
-      balance-back at.requires.searchable.0 at.requires.searchable.1 at.args.from.0 at.args.bal at.requires.from_lt_levels.0 at.requires.from_lt_levels.1,
+      balance-back at.requires.0.0 at.requires.0.1 at.args.from.0 at.args.bal at.requires.1.0 at.requires.1.1,
       subst
-          (λ (q : ℤ). pos 0 ≤ℤ q) at.requires.from_lt_levels.1 at.requires.from_lt_levels.3,
+          (λ (q : ℤ). pos 0 ≤ℤ q) at.requires.1.1 at.requires.1.3,
       refl,
-      at.requires.from_lt_levels.4,
+      at.requires.1.4,
     )
 
 level-weight-requires : tie.Need-level_weight-requires invariant-loop decreases-loop
-level-weight-requires c κs = let at = start c.before in level-asks at.requires.searchable.0 at.requires.searchable.1 c.loop-i.i (inside c)
+level-weight-requires c κs = let at = start c.before in level-asks at.requires.0.0 at.requires.0.1 c.loop-i.i (inside c)
 
 step-balance-requires : tie.Need-step_balance-lower-requires invariant-loop decreases-loop
 step-balance-requires c κs =
     let h = c.before.before in
     let at = start h in
-    step-asks at.requires.searchable.0 at.requires.searchable.1 h.loop-i.i h.loop-i.i (to_z w32 h.loop-i.b) c.level_weight.result (negsuc 1)
+    step-asks at.requires.0.0 at.requires.0.1 h.loop-i.i h.loop-i.i (to_z w32 h.loop-i.b) c.level_weight.result (negsuc 1)
     (inside c.before) (inside c.before) h.loop-i.invariant.1 c.level_weight.ensures (omega arith)
 
 -- the balance below falls short
@@ -82,7 +82,7 @@ shift-level-requires : tie.Need-shift_level-requires invariant-loop decreases-lo
 shift-level-requires c κs =
     let t = c.before.before.before.before in
     let h = t.before in
-    let q = (start h).requires.searchable.0 in
+    let q = (start h).requires.0.0 in
     (q.marked h.loop-i.i (inside t), (omega arith, box-bounds q h.loop-i.i _ (inside t) h.loop-i.invariant.4))
 
 sub-i : tie.Need-overflow_sub-i invariant-loop decreases-loop
@@ -92,7 +92,7 @@ add-counted : tie.Need-overflow_add-counted invariant-loop decreases-loop
 add-counted c =
     let h = c.before.before.before.before.before.before in
     let at = start h in
-    omega (arith, at.requires.searchable.0.levels, at.requires.from_lt_levels.0, at.requires.from_lt_levels.2, h.loop-i.invariant.3)
+    omega (arith, at.requires.0.0.levels, at.requires.1.0, at.requires.1.2, h.loop-i.invariant.3)
 
 loop-less : tie.Need-loop-i-smaller invariant-loop decreases-loop
 loop-less c = omega (arith, c.loop-i-test.true)

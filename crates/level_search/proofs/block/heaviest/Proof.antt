@@ -16,12 +16,12 @@ use Rattle.level_search.proofs.block.heaviest.Statement.{statement}
 use Rattle.level_search.proofs.block.heaviest.Tie as tie
 
 guides_low : (c : tie.Start) → c.args.guides - 1 ≤ 255
-guides_low c = omega (arith, c.requires.le_guides)
+guides_low c = omega (arith, c.requires.1)
 
 abbrev env : tie.Start → List Cell
 env c =
-    param_cell w64 c.args.coefficients.slope 235497855 c.requires.coefficients_small.slope tt
-    ∷ param_cell w64 c.args.coefficients.offset 180155859075 c.requires.coefficients_small.offset tt
+    param_cell w64 c.args.coefficients.slope 235497855 c.requires.0.slope tt
+    ∷ param_cell w64 c.args.coefficients.offset 180155859075 c.requires.0.offset tt
     ∷ unsigned_cell w64 (c.args.guides - 1) 255 (guides_low c) tt
     ∷ []
 
@@ -31,7 +31,7 @@ larger-is c = read-bounded w64 240207812100 c.larger-low.ensures.2 tt
 larger-requires : tie.Need-larger-low-requires
 larger-requires c κs =
     let st = c.before in
-    (subst (λ (r : ℤ). nat_abs r ≤ 240207812100) (sym (computes w64 (env st) x₁ tt)) (omega (arith, st.requires.coefficients_small.offset)), omega arith)
+    (subst (λ (r : ℤ). nat_abs r ≤ 240207812100) (sym (computes w64 (env st) x₁ tt)) (omega (arith, st.requires.0.offset)), omega arith)
 
 sub-high : tie.Need-overflow_sub-high
 sub-high c = search rules

@@ -27,17 +27,17 @@ pixels_is c = omega (arith, c.total-pixels.ensures)
 
 pixels-few : (c : tie.After-total-pixels) → c.total-pixels.result ≤ 961
 pixels-few c = let st =
-    c.before.before.before.before in omega (arith, c.total-pixels.ensures, st.requires.from_in_bounds.2 (st.args.from.0 + 16) (whole c.before))
+    c.before.before.before.before in omega (arith, c.total-pixels.ensures, st.requires.1.2 (st.args.from.0 + 16) (whole c.before))
 
 abbrev env : tie.After-total-pixels → List Cell
 env c =
     let st = c.before.before.before.before in
-    param_cell w64 st.args.coefficients.slope 235497855 st.requires.coefficients_small.0.slope tt
-    ∷ param_cell w64 st.args.coefficients.offset 180155859075 st.requires.coefficients_small.0.offset tt
-    ∷ param_cell w64 st.args.coefficients.total-pixels 173129780571075 st.requires.coefficients_small.0.total-pixels tt
-    ∷ unsigned_cell w64 st.args.count 961 st.requires.coefficients_small.2 tt
-    ∷ unsigned_cell w64 st.args.sum 245055 st.requires.coefficients_small.3 tt
-    ∷ param_cell w64 st.args.heaviest 240207812100 st.requires.coefficients_small.1 tt
+    param_cell w64 st.args.coefficients.slope 235497855 st.requires.0.0.slope tt
+    ∷ param_cell w64 st.args.coefficients.offset 180155859075 st.requires.0.0.offset tt
+    ∷ param_cell w64 st.args.coefficients.total 173129780571075 st.requires.0.0.total tt
+    ∷ unsigned_cell w64 st.args.count 961 st.requires.0.2 tt
+    ∷ unsigned_cell w64 st.args.sum 245055 st.requires.0.3 tt
+    ∷ param_cell w64 st.args.heaviest 240207812100 st.requires.0.1 tt
     ∷ unsigned_cell w64 c.total-pixels.result 961 (pixels-few c) tt
     ∷ []
 
@@ -51,7 +51,7 @@ returns : tie.Need-returns-then-counts-i
 returns c = λ e. absurd (true≢false (sym e))
 
 total-requires : tie.Need-total-pixels-requires
-total-requires c κs = let st = c.before.before.before in (whole c, st.requires.from_in_bounds.1, omega (arith, st.requires.from_in_bounds.2 (st.args.from.0 + 16) (whole c)))
+total-requires c κs = let st = c.before.before.before in (whole c, st.requires.1.1, omega (arith, st.requires.1.2 (st.args.from.0 + 16) (whole c)))
 
 cast-most : tie.Need-overflow_cast-most
 cast-most c = search rules
@@ -88,7 +88,7 @@ returns-2 c = λ e.
       whole = whole a.before;
       short =
           subst
-          (λ (n : ℕ). (pos 2 *ℤ (weight_of st.args.coefficients st.args.count st.args.sum +ℤ st.args.heaviest *ℤ pos n)) <ℤ st.args.coefficients.total-pixels) (pixels_is a)
+          (λ (n : ℕ). (pos 2 *ℤ (weight_of st.args.coefficients st.args.count st.args.sum +ℤ st.args.heaviest *ℤ pos n)) <ℤ st.args.coefficients.total) (pixels_is a)
           (lt-true (computes w64 (env a) (# 2 ⊗ (x₀ ⊗ x₄ ⊕ x₁ ⊗ x₃ ⊕ var 5 ⊗ var 6)) tt) (computes w64 (env a) x₂ tt) e);
     }
 

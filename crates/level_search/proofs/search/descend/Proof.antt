@@ -28,7 +28,7 @@ abbrev decreases-loop : tie.decreases-loop-c
 decreases-loop counts sums k shifts count₀ sum₀ n₀ c₀ count sum n c = c
 
 in-levels : (c : tie.In-loop-c invariant-loop decreases-loop) → c.loop-c.c < length c.args.counts.now
-in-levels c = omega (arith, c.loop-c.invariant.to, c.requires.cut_in_bounds.0.0)
+in-levels c = omega (arith, c.loop-c.invariant.to, c.requires.1.0.0)
 
 -- the tally of the levels below the one that passes
 lower : (c : tie.After-shared_slice_known-in-loop-c-1 invariant-loop decreases-loop)
@@ -54,7 +54,7 @@ short c =
     (FailTo c.args.coefficients
     c.args.counts.now
     c.args.sums.now) e
-    (fail-below c.requires.cut_in_bounds.1.1.0
+    (fail-below c.requires.1.1.1.0
     (omega (arith, in-levels c.before.before.before.before))
     (sym
     (half_at c.args.coefficients
@@ -62,10 +62,10 @@ short c =
     _ c.if-not-reached.true))
 
 cast-c : tie.Need-overflow_cast-c invariant-loop decreases-loop
-cast-c c = omega (arith, c.requires.cut_in_bounds.0.0, c.requires.lists_searchable.cells.levels)
+cast-c c = omega (arith, c.requires.1.0.0, c.requires.0.cells.levels)
 
 loop-holds : tie.Need-loop-c-init invariant-loop decreases-loop
-loop-holds c = let st = c.before.before.before in record { to = omega arith; tally = st.requires.cut_in_bounds.1.0; pass = st.requires.cut_in_bounds.1.1.1; counted = refl }
+loop-holds c = let st = c.before.before.before in record { to = omega arith; tally = st.requires.1.1.0; pass = st.requires.1.1.1.1; counted = refl }
 
 mul-count2 : tie.Need-offset_bounds-counts-c invariant-loop decreases-loop
 mul-count2 c = omega (arith, in-levels c, c.well_formed)
@@ -84,13 +84,13 @@ mul-sum2 c =
     omega (
       arith,
       in-levels c.before,
-      c.requires.lists_searchable.cells.long,
+      c.requires.0.cells.long,
       c.well_formed,
     )
 
 shared-slice-read-sum2 : tie.Need-bounds-sums-c invariant-loop decreases-loop
 shared-slice-read-sum2 c =
-    omega (arith, in-levels c.before.before, c.requires.lists_searchable.cells.long)
+    omega (arith, in-levels c.before.before, c.requires.0.cells.long)
 
 cast-sum2 : tie.Need-overflow_cast-sum2 invariant-loop decreases-loop
 cast-sum2 c = omega (arith, c.shared_slice_known-in-loop-c-2-1.given c.loop-c.c)
@@ -101,10 +101,10 @@ sub-sum2 c = (tally-enough c.loop-c.c c.loop-c.invariant.tally).1
 reached-requires : tie.Need-reached-requires invariant-loop decreases-loop
 reached-requires c κs = let st = c.before.before.before.before.before.before.before in let a =
     tally-back c.loop-c.c c.loop-c.invariant.tally in (
-      st.requires.lists_searchable.small,
+      st.requires.0.small,
       (
-        omega (arith, a.count, st.requires.lists_searchable.cells.count_high c.loop-c.c (omega (arith, in-levels c.before.before))),
-        omega (arith, a.sum, st.requires.lists_searchable.cells.sum_high c.loop-c.c (omega (arith, in-levels c.before.before))),
+        omega (arith, a.count, st.requires.0.cells.count_high c.loop-c.c (omega (arith, in-levels c.before.before))),
+        omega (arith, a.sum, st.requires.0.cells.sum_high c.loop-c.c (omega (arith, in-levels c.before.before))),
       ),
     )
 
@@ -113,7 +113,7 @@ cast-t20 c =
     omega (
       arith,
       in-levels c.before.before.before.before,
-      c.requires.lists_searchable.cells.levels,
+      c.requires.0.cells.levels,
     )
 
 ended-requires : tie.Need-ended-requires invariant-loop decreases-loop
@@ -143,9 +143,9 @@ add-n c =
     omega (
       arith,
       c.loop-c.invariant.counted,
-      c.requires.cut_in_bounds.0.1,
-      c.requires.cut_in_bounds.0.0,
-      c.requires.lists_searchable.cells.levels,
+      c.requires.1.0.1,
+      c.requires.1.0.0,
+      c.requires.0.cells.levels,
     )
 
 loop-less : tie.Need-loop-c-smaller invariant-loop decreases-loop
@@ -169,8 +169,8 @@ cast-t22 c =
     omega (
       arith,
       c.loop-c.invariant.to,
-      c.requires.cut_in_bounds.0.0,
-      c.requires.lists_searchable.cells.levels,
+      c.requires.1.0.0,
+      c.requires.0.cells.levels,
     )
 
 ended-requires-2 : tie.Need-ended-requires-2 invariant-loop decreases-loop
@@ -186,7 +186,7 @@ returns-2 : tie.Need-returns invariant-loop decreases-loop
 returns-2 c = let v =
     c.loop-c.invariant in (
       found-at c.ended-2.ensures (fail-to c.loop-c-test.false)
-          (omega (arith, v.to, c.requires.cut_in_bounds.0.0)) v.pass v.tally,
+          (omega (arith, v.to, c.requires.1.0.0)) v.pass v.tally,
       (shifts-of-2 c).0,
       (shifts-of-2 c).1,
     )

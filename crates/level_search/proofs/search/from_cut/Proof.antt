@@ -10,26 +10,26 @@ use Rattle.level_search.proofs.search.from_cut.Tie as tie
 
 reached-requires : tie.Need-reached-requires
 reached-requires c κs = let st = c.before.before in let a =
-    st.requires.cut_in_bounds.1.0 in (
-      st.requires.lists_searchable.0.small,
+    st.requires.1.1.0 in (
+      st.requires.0.0.small,
       (
-        omega (arith, a.count, st.requires.lists_searchable.0.cells.count_high (st.args.cut.0 + 1) (omega (arith, st.requires.cut_in_bounds.0.0))),
+        omega (arith, a.count, st.requires.0.0.cells.count_high (st.args.cut.0 + 1) (omega (arith, st.requires.1.0.0))),
         omega
-            (arith, a.sum, st.requires.lists_searchable.0.cells.sum_high (st.args.cut.0 + 1) (omega (arith, st.requires.cut_in_bounds.0.0))),
+            (arith, a.sum, st.requires.0.0.cells.sum_high (st.args.cut.0 + 1) (omega (arith, st.requires.1.0.0))),
       ),
     )
 
 descend-requires : tie.Need-descend-requires
 descend-requires c κs = let st =
     c.before.before.before.before in (
-      st.requires.lists_searchable.0,
+      st.requires.0.0,
       (
-        st.requires.cut_in_bounds.0,
+        st.requires.1.0,
         (
-          st.requires.cut_in_bounds.1.0,
+          st.requires.1.1.0,
           (
-            st.requires.cut_in_bounds.1.1,
-            sym (half_at st.args.coefficients st.args.cut.0 st.requires.cut_in_bounds.1.0) ∙ sym c.reached.ensures ∙ c.if-reached.true,
+            st.requires.1.1.1,
+            sym (half_at st.args.coefficients st.args.cut.0 st.requires.1.1.0) ∙ sym c.reached.ensures ∙ c.if-reached.true,
           ),
         ),
       ),
@@ -49,9 +49,9 @@ ascend-requires : tie.Need-ascend-requires
 ascend-requires c κs =
     let st = c.before.before.before.before.before in
     let f =
-    fail-below st.requires.cut_in_bounds.1.1 st.requires.cut_in_bounds.0.0
-    (sym (half_at st.args.coefficients st.args.cut.0 st.requires.cut_in_bounds.1.0) ∙ sym c.reached.ensures ∙ c.if-reached.false) in
-    ((st.requires.lists_searchable.0, handed-on st.requires.lists_searchable.1), ((fail-inside st.requires.lists_searchable.0 f, omega (arith, st.requires.cut_in_bounds.0.1)), (st.requires.cut_in_bounds.1.0, f)))
+    fail-below st.requires.1.1.1 st.requires.1.0.0
+    (sym (half_at st.args.coefficients st.args.cut.0 st.requires.1.1.0) ∙ sym c.reached.ensures ∙ c.if-reached.false) in
+    ((st.requires.0.0, handed-on st.requires.0.1), ((fail-inside st.requires.0.0 f, omega (arith, st.requires.1.0.1)), (st.requires.1.1.0, f)))
 
 returns-2 : tie.Need-returns
 returns-2 c = let st = c.before.before.before.before.before.before in let e =

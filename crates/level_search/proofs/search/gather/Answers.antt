@@ -15,7 +15,7 @@ pub bounds-counts-i : goal.bounds-counts-i
 bounds-counts-i c = omega (arith, c.loop-i-test.true, c.requires.end_in_bounds)
 
 pub overflow_cast-count : goal.overflow_cast-count
-overflow_cast-count c = omega (arith, c.shared_slice_known-1.given c.loop-i.i)
+overflow_cast-count c = omega (arith, c.type_inv.counts c.loop-i.i)
 
 pub overflow_add-count : goal.overflow_add-count
 overflow_add-count c =
@@ -36,7 +36,7 @@ bounds-sums-i c =
     omega (arith, c.loop-i-test.true, c.requires.end_in_bounds, c.requires.level_cells.long)
 
 pub overflow_cast-sum : goal.overflow_cast-sum
-overflow_cast-sum c = omega (arith, c.shared_slice_known-in-loop-i-1.given c.loop-i.i)
+overflow_cast-sum c = omega (arith, c.type_inv.sums c.loop-i.i)
 
 pub overflow_add-sum : goal.overflow_add-sum
 overflow_add-sum c =

@@ -17,7 +17,7 @@ from-cut-requires c κs =
     let p = (start h).requires.0 in
     let from = (start h).requires.1 in
     let m = c.if-monotone.true in
-    ((p.search, handed-on (p.heaviest-heaviest _ h.heaviest-heaviest.ensures)), ((from.cut, p.shifts), (from.tally m, p.rising m)))
+    ((p.search, handed-on (p.heaviest _ h.heaviest-heaviest.ensures)), ((from.cut, p.shifts), (from.tally m, p.rising m)))
 
 returns : tie.Need-returns-then-monotone
 returns c = rw c.if-monotone.true c.from_cut.ensures
@@ -27,7 +27,7 @@ ascend-requires c κs =
     let h = c.before in
     let p = (start h).requires.0 in
     let from = (start h).requires.1 in
-    ((p.search, handed-on (p.heaviest-heaviest _ h.heaviest-heaviest.ensures)), ((omega (arith, from.cut), omega (arith, p.shifts)), (tally-none, fail-none)))
+    ((p.search, handed-on (p.heaviest _ h.heaviest-heaviest.ensures)), ((omega (arith, from.cut), omega (arith, p.shifts)), (tally-none, fail-none)))
 
 returns-2 : tie.Need-returns
 returns-2 c = rw c.if-monotone.false ((c.ascend.ensures.0, omega (arith, c.ascend.ensures.1)))

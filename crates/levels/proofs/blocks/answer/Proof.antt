@@ -22,7 +22,7 @@ ascend-requires c κs =
     let h = c.before.before.before.before in
     let p = (start h).requires in
     let near = c.first_block-near.ensures in
-    ((p.search, handed-on (p.heaviest-heaviest _ h.heaviest-heaviest.ensures)), ((near.low, omega arith), (near.tally-1, near.fails)))
+    ((p.search, handed-on (p.heaviest _ h.heaviest-heaviest.ensures)), ((near.low, omega arith), (near.tally, near.fails)))
 
 shifts-to-requires : tie.Need-shifts_to-requires
 shifts-to-requires c κs = search rules
@@ -35,13 +35,13 @@ returns c =
     let at = start c.before.before.before.before.before.before.before.before in
     let found = c.ascend-found.ensures.0 in
     rw c.if-monotone.true
-    (record { level = found.level-1; tally = found.tally-1 }, ap (λ (n : ℕ). at.args.shifts + n) c.shifts_to.ensures)
+    (record { level = found.level; tally = found.tally }, ap (λ (n : ℕ). at.args.shifts + n) c.shifts_to.ensures)
 
 ascend-requires-2 : tie.Need-ascend-requires
 ascend-requires-2 c κs =
     let h = c.before in
     let p = (start h).requires in (
-      (p.search, handed-on (p.heaviest-heaviest _ h.heaviest-heaviest.ensures)),
+      (p.search, handed-on (p.heaviest _ h.heaviest-heaviest.ensures)),
       ((omega (arith, p.search.some), omega (arith, p.shifts)), (tally-none, fail-none)),
     )
 

@@ -46,7 +46,7 @@ few c =
     omega (
       arith,
       c.loop-k-test.true,
-      span-high at.args.plan.radius at.args.s at.args.plan.width (plan-limits at.requires.planned).radius,
+      span-high at.args.plan.radius at.args.s at.args.plan.width (plan-limits at.requires.0).radius,
       h.span_of-n.ensures,
     )
 
@@ -63,7 +63,7 @@ listed : (r : tie.After-read-p invariant-loop decreases-loop) → let at =
 listed r = line-part r.read-p.result r.read-p.new.1.1.1.0 r.read-p.ensures.1
 
 abbrev read_at : tie.After-list_sums-a invariant-loop decreases-loop → tie.After-read-p invariant-loop decreases-loop
-read_at g = g.before.before.before.before
+read_at g = g.before.before.before
 
 -- the three have room for the column's
 sums-room : (g : tie.After-list_sums-a invariant-loop decreases-loop) → ((turn (read_at g)).loop-k.count + g.list_sums-a.result.count ≤ 961)
@@ -83,16 +83,16 @@ low-requires : tie.Need-low-x-requires invariant-loop decreases-loop
 low-requires c κs = tt
 
 span-of-requires : tie.Need-span_of-n-requires invariant-loop decreases-loop
-span-of-requires c κs = let at = c.before.before in let l = plan-limits at.requires.planned in (at.requires.s_lt_width.0, l.width, l.radius)
+span-of-requires c κs = let at = c.before.before in let l = plan-limits at.requires.0 in (at.requires.1.0, l.width, l.radius)
 
 loop-holds : tie.Need-loop-k-init invariant-loop decreases-loop
 loop-holds c = (omega arith, columns-start _ _ _ _ _)
 
 add-column-line : tie.Need-overflow_add-x invariant-loop decreases-loop
-add-column-line c = let at = begin c.before in omega (arith, wide c, (plan-limits at.requires.planned).width)
+add-column-line c = let at = begin c.before in omega (arith, wide c, (plan-limits at.requires.0).width)
 
 column-line-requires : tie.Need-column_line-line-requires invariant-loop decreases-loop
-column-line-requires c κs = let at = begin c.before in let l = plan-limits at.requires.planned in (l, (omega (arith, wide c, l.width), at.requires.s_lt_width.1))
+column-line-requires c κs = let at = begin c.before in let l = plan-limits at.requires.0 in (l, (omega (arith, wide c, l.width), at.requires.1.1))
 
 slice-aggregate-read : tie.Need-slice_bounds-read-end invariant-loop decreases-loop
 slice-aggregate-read c = search rules
@@ -100,7 +100,7 @@ slice-aggregate-read c = search rules
 read-requires : tie.Need-read-p-requires invariant-loop decreases-loop
 read-requires c κs =
     let at = begin c.before.before.before in
-    let pl = at.requires.planned in
+    let pl = at.requires.0 in
     (pl, rw c.column_line-line.ensures (column-in (plan-limits pl) _ at.args.t (wide c.before.before)), omega arith)
 
 sub-list-sums : tie.Need-slice_bounds-list_sums-count invariant-loop decreases-loop
@@ -113,7 +113,7 @@ part-list-sums-end : tie.Need-slice_bounds-list_sums-end invariant-loop decrease
 part-list-sums-end c = search rules
 
 list-sums-requires : tie.Need-list_sums-a-requires invariant-loop decreases-loop
-list-sums-requires c κs = let r = c.before.before.before in below-most (begin (turn r).before).requires.planned (listed r).below
+list-sums-requires c κs = let r = c.before.before.before in below-most (begin (turn r).before).requires.0 (listed r).below
 
 add-count : tie.Need-overflow_add-count invariant-loop decreases-loop
 add-count c = omega (arith, (sums-room c.before).0)
@@ -142,7 +142,7 @@ returns : tie.Need-returns invariant-loop decreases-loop
 returns c =
     let h = c.before in
     let done : h.loop-k.k ≡ h.span_of-n.result = omega (arith, h.loop-k.invariant.0, c.loop-k-test.false) in
-    columns-end (begin h).requires.planned (begin h).args.s h.low-x.ensures (done ∙ h.span_of-n.ensures) h.loop-k.invariant.1
+    columns-end (begin h).requires.0 (begin h).args.s h.low-x.ensures (done ∙ h.span_of-n.ensures) h.loop-k.invariant.1
 
 pub start_spec : {M : Type 1} → statement M
 start_spec = tie.close (tie.spec invariant-loop decreases-loop low-requires span-of-requires loop-holds add-column-line column-line-requires slice-aggregate-read read-requires sub-list-sums part-list-sums-start part-list-sums-end list-sums-requires add-count add-sum add-squares add-k loop-less loop-again returns)

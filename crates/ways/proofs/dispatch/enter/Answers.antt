@@ -28,14 +28,14 @@ enter-requires c =
 
 pub enter-requires-in-Columns : goal.enter-requires-in-Columns
 enter-requires-in-Columns c =
-    let e = c.enum_told-1.given.1 in (
+    let e = c.in-Columns.is in (
       (with-own c.requires.pictured.0, guided-columns _ c.args.plan c.requires.pictured.2 e),
       (c.requires.column_lt_width.0, fit-columns _ (with-own c.requires.pictured.0) _ _ _ c.requires.column_lt_width.1.0 e),
     )
 
 pub enter-requires-in-Chain : goal.enter-requires-in-Chain
 enter-requires-in-Chain c =
-    let e = c.enum_told-in-Chain-1.given.1 in (
+    let e = c.in-Chain.is in (
       (with-own c.requires.pictured.0, guided-chain _ c.args.plan c.requires.pictured.2 e),
       (c.requires.column_lt_width.0, fit-chain _ (with-own c.requires.pictured.0) _ _ _ c.requires.column_lt_width.1.0 e),
     )
@@ -48,14 +48,14 @@ returns-in-Joint c =
 
 pub returns-in-Columns : goal.returns-in-Columns
 returns-in-Columns c =
-    let e = c.enum_told-1.given.1 in
+    let e = c.in-Columns.is in
     visited-own c.args.way c.args.file.now (none-columns _ c.args.plan c.requires.pictured.2 e) c.args.column c.args.row 0 0
     (columns-visited _ (with-own c.requires.pictured.0) _ _ _ c.requires.column_lt_width.1.0 _ _ _ c.args.column c.args.row 0 0 _ e
     c.enter-in-Columns.ensures c.requires.column_lt_width.1.1.0)
 
 pub returns-in-Chain : goal.returns-in-Chain
 returns-in-Chain c =
-    let e = c.enum_told-in-Chain-1.given.1 in
+    let e = c.in-Chain.is in
     visited-own c.args.way c.args.file.now (none-chain _ c.args.plan c.requires.pictured.2 e) c.args.column c.args.row 0 0
     (chain-visited _ (with-own c.requires.pictured.0) _ _ _ c.requires.column_lt_width.1.0 _ _ _ c.args.column c.args.row 0 0 _ e
     c.enter-in-Chain.ensures c.requires.column_lt_width.1.1.0)

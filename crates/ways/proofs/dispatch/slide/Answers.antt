@@ -28,7 +28,7 @@ slide-requires c =
 
 pub slide-requires-in-Columns : goal.slide-requires-in-Columns
 slide-requires-in-Columns c =
-    let e = c.enum_told-1.given.1 in (
+    let e = c.in-Columns.is in (
       (with-own c.requires.pictured.0, guided-columns _ c.args.plan c.requires.pictured.2 e),
       (
         (c.requires.within.0, c.requires.within.1.0),
@@ -39,7 +39,7 @@ slide-requires-in-Columns c =
 
 pub slide-requires-in-Chain : goal.slide-requires-in-Chain
 slide-requires-in-Chain c =
-    let e = c.enum_told-in-Chain-1.given.1 in (
+    let e = c.in-Chain.is in (
       (with-own c.requires.pictured.0, guided-chain _ c.args.plan c.requires.pictured.2 e),
       (
         (c.requires.within.0, c.requires.within.1.0),
@@ -56,7 +56,7 @@ returns-in-Joint c =
 
 pub returns-in-Columns : goal.returns-in-Columns
 returns-in-Columns c =
-    let e = c.enum_told-1.given.1 in
+    let e = c.in-Columns.is in
     visited-own c.args.way c.args.file.now (none-columns _ c.args.plan c.requires.pictured.2 e) c.args.column c.args.row
     c.args.from.cut.0
     c.args.from.shifts
@@ -67,7 +67,7 @@ returns-in-Columns c =
 
 pub returns-in-Chain : goal.returns-in-Chain
 returns-in-Chain c =
-    let e = c.enum_told-in-Chain-1.given.1 in
+    let e = c.in-Chain.is in
     visited-own c.args.way c.args.file.now (none-chain _ c.args.plan c.requires.pictured.2 e) c.args.column c.args.row
     c.args.from.cut.0
     c.args.from.shifts

@@ -14,7 +14,7 @@ column-line-requires c κs = search rules
 forward-requires : tie.Need-forward-requires
 forward-requires c κs = let s =
     c.before in (
-      rw c.column_line-d.ensures (column-low s.args.plan s.requires.plan_limits 0 s.args.t (omega arith) s.requires.c_lt_width.1),
+      rw c.column_line-d.ensures (column-low s.args.plan s.requires.0 0 s.args.t (omega arith) s.requires.1.1),
       omega arith,
       omega arith,
       omega arith,

@@ -14,7 +14,7 @@ row-line-requires c κs = search rules
 forward-requires : tie.Need-forward-requires
 forward-requires c κs = let s =
     c.before in (
-      rw c.row_line-d.ensures (row_low s.args.plan s.requires.plan_limits s.args.s 0 (omega arith) s.requires.s_lt_width.0),
+      rw c.row_line-d.ensures (row_low s.args.plan s.requires.0 s.args.s 0 (omega arith) s.requires.1.0),
       omega arith,
       omega arith,
       omega

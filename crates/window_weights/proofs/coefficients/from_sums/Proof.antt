@@ -11,11 +11,11 @@ use Rattle.window_weights.proofs.coefficients.from_sums.Tie as tie
 -- src/coefficients.rt:22:13
 abbrev env : tie.Start → List Cell
 env c =
-    unsigned_cell w64 c.args.a.count 961 c.requires.sums_small.count tt
-    ∷ unsigned_cell w64 c.args.a.sum 245055 c.requires.sums_small.sum tt
-    ∷ unsigned_cell w64 c.args.a.squares 62489025 c.requires.sums_small.squares tt
-    ∷ unsigned_cell w64 c.args.plan.smoothing 65025 c.requires.smoothing_bound.0 tt
-    ∷ unsigned_cell w64 c.args.centre.0 255 c.requires.smoothing_bound.1 tt
+    unsigned_cell w64 c.args.a.count 961 c.requires.0.count tt
+    ∷ unsigned_cell w64 c.args.a.sum 245055 c.requires.0.sum tt
+    ∷ unsigned_cell w64 c.args.a.squares 62489025 c.requires.0.squares tt
+    ∷ unsigned_cell w64 c.args.plan.smoothing 65025 c.requires.1.0 tt
+    ∷ unsigned_cell w64 c.args.centre.0 255 c.requires.1.1 tt
     ∷ []
 
 abbrev known : tie.After-struct_known-5-1 → List Cell

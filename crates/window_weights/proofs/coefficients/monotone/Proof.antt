@@ -17,12 +17,12 @@ use Rattle.window_weights.proofs.coefficients.monotone.Statement.{statement}
 use Rattle.window_weights.proofs.coefficients.monotone.Tie as tie
 
 guides_low : (c : tie.Start) → c.args.plan.guides - 1 ≤ 255
-guides_low c = omega (arith, c.requires.le_guides)
+guides_low c = omega (arith, c.requires.0)
 
 abbrev env : tie.Start → List Cell
 env c =
-    param_cell w64 c.args.coefficients.slope 235497855 c.requires.coefficients_small.slope tt
-    ∷ param_cell w64 c.args.coefficients.offset 180155859075 c.requires.coefficients_small.offset tt
+    param_cell w64 c.args.coefficients.slope 235497855 c.requires.1.slope tt
+    ∷ param_cell w64 c.args.coefficients.offset 180155859075 c.requires.1.offset tt
     ∷ unsigned_cell w64 (c.args.plan.guides - 1) 255 (guides_low c) tt
     ∷ []
 

@@ -13,11 +13,11 @@ use Rattle.window_weights.proofs.coefficients.reached.Tie as tie
 
 abbrev env : tie.Start → List Cell
 env c =
-    param_cell w64 c.args.coefficients.slope 235497855 c.requires.coefficients_small.slope tt
-    ∷ param_cell w64 c.args.coefficients.offset 180155859075 c.requires.coefficients_small.offset tt
-    ∷ param_cell w64 c.args.coefficients.total 173129780571075 c.requires.coefficients_small.total tt
-    ∷ unsigned_cell w64 c.args.count 961 c.requires.count_bound.0 tt
-    ∷ unsigned_cell w64 c.args.sum 245055 c.requires.count_bound.1 tt
+    param_cell w64 c.args.coefficients.slope 235497855 c.requires.0.slope tt
+    ∷ param_cell w64 c.args.coefficients.offset 180155859075 c.requires.0.offset tt
+    ∷ param_cell w64 c.args.coefficients.total 173129780571075 c.requires.0.total tt
+    ∷ unsigned_cell w64 c.args.count 961 c.requires.1.0 tt
+    ∷ unsigned_cell w64 c.args.sum 245055 c.requires.1.1 tt
     ∷ []
 
 cast-result : tie.Need-overflow_cast-result
