@@ -9,7 +9,10 @@ use Rattle.balance.proofs.BalanceLaws.{by-balance}
 use Rattle.balance.proofs.guided_balance.Goals as goal
 
 pub guided_formula-w-requires : goal.guided_formula-w-requires
-guided_formula-w-requires c = (c.requires.planned, (c.requires.sums_at, length-replicate {A = ℕ} 256 0))
+guided_formula-w-requires c = record {
+  planned = c.requires.planned;
+  sums_at = (c.requires.sums_at, length-replicate {A = ℕ} 256 0);
+}
 
 pub window_balance-requires : goal.window_balance-requires
 window_balance-requires c =

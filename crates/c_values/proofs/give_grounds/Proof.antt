@@ -1,6 +1,7 @@
 -- `c_values::give_grounds` meets its contract, verdict by verdict.
 -- Assumes nothing.
 use mathlib.Core.Path.{refl}
+use mir.Syntax.{w64}
 use mir.Facts.{to_z-of_z}
 use borrow.Author.Rules.{rules}
 use Rattle.c_values.proofs.give_grounds.Statement.{statement}
@@ -27,10 +28,10 @@ returns c =
     rw total.in-Accepted.is
     (record {
       pixels = refl;
-      total = to_z-of_z (record { sfits = total.struct_told-1.given.1.0.1 });
+      total = to_z-of_z {w = w64} (record { sfits = total.struct_told-1.given.1.0.1 });
       level = level.answer_number.ensures;
-      below = to_z-of_z (record { sfits = below.struct_told-in-Accepted-1.given.1.1.1.0.1 });
-      reached = to_z-of_z (record { sfits = reached.struct_told-in-Accepted-2-1.given.1.1.1.1.0.1 });
+      below = to_z-of_z {w = w64} (record { sfits = below.struct_told-in-Accepted-1.given.1.1.1.0.1 });
+      reached = to_z-of_z {w = w64} (record { sfits = reached.struct_told-in-Accepted-2-1.given.1.1.1.1.0.1 });
       cause = c.cause_number.ensures;
     })
 

@@ -37,7 +37,7 @@ pub returns-then-tallies-k : goal.returns-then-tallies-k
 unfolding unfinished
 returns-then-tallies-k c =
     let l = c.loop-j in
-    let sizes = c.args.t1 in
+    let sizes = c.args.sizes in
     let x = c.args.x in
     let k = (x.next + l.j) % 8 in
     over-unique sizes x l.j
@@ -60,5 +60,5 @@ pub returns : goal.returns
 unfolding unfinished
 returns c =
     let l = c.loop-j in
-    over-unique c.args.t1 c.args.x 8
+    over-unique c.args.sizes c.args.x 8
     (record { within = omega arith; passes = λ q. absurd (omega arith); before = λ i q. l.invariant.1 i (omega (arith, c.loop-j-test.false)) })

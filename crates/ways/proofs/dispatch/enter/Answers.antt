@@ -21,24 +21,24 @@ use Rattle.ways.proofs.dispatch.enter.Goals as goal
 
 pub enter-requires : goal.enter-requires
 enter-requires c =
-    let w = joint-key c.args.way c.in-Chain.keys1 in (
-      (fit-joint _ c.requires.pictured.0 _ _ _ c.requires.column_lt_width.1.0 _ _ w c.requires.column_lt_width.0, c.requires.column_lt_width.1.1.1),
-      (c.requires.pictured.1, w, plane-serves _ c.args.plan c.requires.pictured.2),
-    )
+    let w = joint-key c.args.way c.in-Chain.keys1 in record {
+  fresh = (fit-joint _ c.requires.pictured.0 _ _ _ c.requires.column_lt_width.1.0 _ _ w c.requires.column_lt_width.0, c.requires.column_lt_width.1.1.1);
+  weight_rows = (c.requires.pictured.1, w, plane-serves _ c.args.plan c.requires.pictured.2);
+}
 
 pub enter-requires-in-Columns : goal.enter-requires-in-Columns
 enter-requires-in-Columns c =
-    let e = c.in-Columns.is in (
-      (with-own c.requires.pictured.0, guided-columns _ c.args.plan c.requires.pictured.2 e),
-      (c.requires.column_lt_width.0, fit-columns _ (with-own c.requires.pictured.0) _ _ _ c.requires.column_lt_width.1.0 e),
-    )
+    let e = c.in-Columns.is in record {
+  fresh = (with-own c.requires.pictured.0, guided-columns _ c.args.plan c.requires.pictured.2 e);
+  weight_rows = (c.requires.column_lt_width.0, fit-columns _ (with-own c.requires.pictured.0) _ _ _ c.requires.column_lt_width.1.0 e);
+}
 
 pub enter-requires-in-Chain : goal.enter-requires-in-Chain
 enter-requires-in-Chain c =
-    let e = c.in-Chain.is in (
-      (with-own c.requires.pictured.0, guided-chain _ c.args.plan c.requires.pictured.2 e),
-      (c.requires.column_lt_width.0, fit-chain _ (with-own c.requires.pictured.0) _ _ _ c.requires.column_lt_width.1.0 e),
-    )
+    let e = c.in-Chain.is in record {
+  fresh = (with-own c.requires.pictured.0, guided-chain _ c.args.plan c.requires.pictured.2 e);
+  weight_rows = (c.requires.column_lt_width.0, fit-chain _ (with-own c.requires.pictured.0) _ _ _ c.requires.column_lt_width.1.0 e);
+}
 
 pub returns-in-Joint : goal.returns-in-Joint
 returns-in-Joint c =

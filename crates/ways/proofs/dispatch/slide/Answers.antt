@@ -24,29 +24,32 @@ pub slide-requires : goal.slide-requires
 slide-requires c =
     let w = joint-key c.args.way c.in-Chain.keys1 in
     let h = joint-at _ c.requires.pictured.0 _ _ _ c.requires.within.1.1.0 _ _ _ w c.requires.within.1.1.1 c.requires.within.0 in
-    ((h.0, c.requires.within.1.0, h.1), (c.requires.pictured.1, c.requires.within.0, w, plane-serves _ c.args.plan c.requires.pictured.2))
+    record {
+  held = (h.0, c.requires.within.1.0, h.1);
+  weight_rows = (c.requires.pictured.1, c.requires.within.0, w, plane-serves _ c.args.plan c.requires.pictured.2);
+}
 
 pub slide-requires-in-Columns : goal.slide-requires-in-Columns
 slide-requires-in-Columns c =
-    let e = c.in-Columns.is in (
-      (with-own c.requires.pictured.0, guided-columns _ c.args.plan c.requires.pictured.2 e),
-      (
+    let e = c.in-Columns.is in record {
+  held = (with-own c.requires.pictured.0, guided-columns _ c.args.plan c.requires.pictured.2 e);
+  weight_rows = (
         (c.requires.within.0, c.requires.within.1.0),
         (columns-at _ (with-own c.requires.pictured.0) _ _ _ c.requires.within.1.1.0 _ _ _ e
             (at_own c.args.way c.args.file.now (none-columns _ c.args.plan c.requires.pictured.2 e) c.requires.within.1.1.1)).0,
-      ),
-    )
+      );
+}
 
 pub slide-requires-in-Chain : goal.slide-requires-in-Chain
 slide-requires-in-Chain c =
-    let e = c.in-Chain.is in (
-      (with-own c.requires.pictured.0, guided-chain _ c.args.plan c.requires.pictured.2 e),
-      (
+    let e = c.in-Chain.is in record {
+  held = (with-own c.requires.pictured.0, guided-chain _ c.args.plan c.requires.pictured.2 e);
+  weight_rows = (
         (c.requires.within.0, c.requires.within.1.0),
         (chain-at _ (with-own c.requires.pictured.0) _ _ _ c.requires.within.1.1.0 _ _ _ e
             (at_own c.args.way c.args.file.now (none-chain _ c.args.plan c.requires.pictured.2 e) c.requires.within.1.1.1)).0,
-      ),
-    )
+      );
+}
 
 pub returns-in-Joint : goal.returns-in-Joint
 returns-in-Joint c =

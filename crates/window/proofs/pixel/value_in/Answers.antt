@@ -6,7 +6,10 @@ use Rattle.window.proofs.PixelLaws.{place-small, plane-in, plane-none}
 use Rattle.window.proofs.pixel.value_in.Goals as goal
 
 pub value_at-requires : goal.value_at-requires
-value_at-requires c = (with-own c.requires.pictured, c.requires.q_bound)
+value_at-requires c = record {
+  planned = with-own c.requires.pictured;
+  q_bound = c.requires.q_bound;
+}
 
 pub returns-then-plane-eq0 : goal.returns-then-plane-eq0
 returns-then-plane-eq0 c = c.value_at.ensures ∙ plane-none c.requires.pictured c.requires.q_bound c.if-plane-eq0.true
