@@ -73,7 +73,7 @@ mul-x-2 c = omega (arith, turn_low c.before)
 
 shared-slice-read-x-2 : tie.Need-bounds-p-next invariant-loop decreases-loop
 shared-slice-read-x-2 c = let t =
-    c.before.before in omega (arith, (places-in (start t.before).args.p.now t.loop-k.k t.loop-k-test.taken).1)
+    c.before.before in omega (arith, (places-in (start t.before).args.p.now t.loop-k.k t.loop-k-test.true).1)
 
 cast-x : tie.Need-overflow_cast-x invariant-loop decreases-loop
 cast-x c = omega (arith, inside c, (start (turn c).before).good.1.0, numbers c)
@@ -92,7 +92,7 @@ weigh-requires c κs =
     let r = c.before.before in
     let t = turn r.before in
     let at = start t.before in
-    weight-asks at.requires at.args.top.0 t.loop-k-test.taken (number-low r)
+    weight-asks at.requires at.args.top.0 t.loop-k-test.true (number-low r)
 
 -- what the call gave is the guide's weight
 weighed : (e : tie.After-weigh invariant-loop decreases-loop) → let t = turn (read e).before in let at =
@@ -100,20 +100,20 @@ weighed : (e : tie.After-weigh invariant-loop decreases-loop) → let t = turn (
 weighed e =
     let t = turn (read e).before in
     let at = start t.before in
-    weight_is at.requires at.args.top.0 t.loop-k-test.taken (number-low (read e)) e.weigh.result e.weigh.ensures
+    weight_is at.requires at.args.top.0 t.loop-k-test.true (number-low (read e)) e.weigh.result e.weigh.ensures
 
 add-signed-requires : tie.Need-add_signed-sum-requires invariant-loop decreases-loop
 add-signed-requires c κs =
     let t = turn (read c).before in
     let h = t.before in
     let at = start h in
-    sum-asks at.requires at.args.top.0 t.loop-k-test.taken (to_z w64 h.loop-k.sum) c.weigh.result h.loop-k.inv.1 (weighed c)
+    sum-asks at.requires at.args.top.0 t.loop-k-test.true (to_z w64 h.loop-k.sum) c.weigh.result h.loop-k.invariant.1 (weighed c)
 
 add-k : tie.Need-overflow_add-k invariant-loop decreases-loop
 add-k c = omega (arith, turn_low (turn (read c.before).before))
 
 loop-less : tie.Need-loop-k-smaller invariant-loop decreases-loop
-loop-less c = omega (arith, (turn (read c.before).before).loop-k-test.taken)
+loop-less c = omega (arith, (turn (read c.before).before).loop-k-test.true)
 
 loop-again : tie.Need-loop-k-preserved invariant-loop decreases-loop
 loop-again c =
@@ -121,9 +121,9 @@ loop-again c =
     let t = turn (read e).before in
     let h = t.before in
     let at = start h in (
-      omega (arith, t.loop-k-test.taken),
-      sum-again at.requires at.args.top.0 t.loop-k-test.taken (to_z w64 h.loop-k.sum) e.weigh.result h.loop-k.inv.1 (weighed e)
-          c.add_signed-sum.result c.add_signed-sum.type-inv c.add_signed-sum.ensures,
+      omega (arith, t.loop-k-test.true),
+      sum-again at.requires at.args.top.0 t.loop-k-test.true (to_z w64 h.loop-k.sum) e.weigh.result h.loop-k.invariant.1 (weighed e)
+          c.add_signed-sum.result c.add_signed-sum.type_inv c.add_signed-sum.ensures,
     )
 
 returns : tie.Need-returns invariant-loop decreases-loop

@@ -65,8 +65,8 @@ list e = e.before.before.before
 
 listed : (r : tie.After-read-e invariant-loop decreases-loop) → let at =
     start (turn r).before in LinePixels at.args.file.now [] at.args.plan (line r).column_line-line.result
-    (take (r.read-e.result - 0) (drop 0 r.read-e.new.1.1.1.0))
-listed r = line-part r.read-e.result r.read-e.new.1.1.1.0 r.read-e.ensures.1
+    (take (r.read-e.result - 0) (drop 0 r.read-e.new.places))
+listed r = line-part r.read-e.result r.read-e.new.places r.read-e.ensures.1
 
 low-requires : tie.Need-low-x-requires invariant-loop decreases-loop
 low-requires c κs = tt
@@ -118,14 +118,14 @@ add-requires c κs =
     let r = list c in
     let h = (turn r).before in
     let at = start h in
-    column-asks at.requires (listed r) at.args.top.0 c.line_balance.ensures h.loop-k.k (to_z w64 h.loop-k.sum) h.loop-k.inv.2
+    column-asks at.requires (listed r) at.args.top.0 c.line_balance.ensures h.loop-k.k (to_z w64 h.loop-k.sum) h.loop-k.invariant.2
     (few (turn r))
 
 add-k : tie.Need-overflow_add-k invariant-loop decreases-loop
 add-k c = omega (arith, few (turn (list c.before)))
 
 loop-less : tie.Need-loop-k-smaller invariant-loop decreases-loop
-loop-less c = omega (arith, (turn (list c.before)).loop-k-test.taken)
+loop-less c = omega (arith, (turn (list c.before)).loop-k-test.true)
 
 loop-again : tie.Need-loop-k-preserved invariant-loop decreases-loop
 loop-again c =
@@ -134,10 +134,10 @@ loop-again c =
     let h = (turn r).before in
     let at = start h in
     let q =
-    column_again at.requires (listed r) at.args.top.0 e.line_balance.ensures h.loop-k.k (to_z w64 h.loop-k.sum) h.loop-k.inv.2
-    h.low-x.result (line r).column_line-line.ensures h.loop-k.inv.1
-    c.add-sum.type-inv c.add-sum.ensures in
-    (omega (arith, (turn r).loop-k-test.taken), q.0, q.1)
+    column_again at.requires (listed r) at.args.top.0 e.line_balance.ensures h.loop-k.k (to_z w64 h.loop-k.sum) h.loop-k.invariant.2
+    h.low-x.result (line r).column_line-line.ensures h.loop-k.invariant.1
+    c.add-sum.type_inv c.add-sum.ensures in
+    (omega (arith, (turn r).loop-k-test.true), q.0, q.1)
 
 returns : tie.Need-returns invariant-loop decreases-loop
 returns c =

@@ -37,13 +37,13 @@ carried n = n.before.before.before.before
 -- the lists are the step's lines
 enters : (r : tie.After-read-k) → let d = step (first r) in LinePixels (begin d).args.file.now [] (begin d).args.plan
     d.step_to-step.result.entering
-    (take ((first r).read-n.result - 0) (drop 0 (first r).read-n.new.1.1.1.0))
-enters r = line-part (first r).read-n.result (first r).read-n.new.1.1.1.0 (first r).read-n.ensures.1
+    (take ((first r).read-n.result - 0) (drop 0 (first r).read-n.new.places))
+enters r = line-part (first r).read-n.result (first r).read-n.new.places (first r).read-n.ensures.1
 
 leaves : (r : tie.After-read-k) → let d = step (first r) in LinePixels (begin d).args.file.now [] (begin d).args.plan
     d.step_to-step.result.leaving
-    (take (r.read-k.result - 0) (drop 0 r.read-k.new.1.1.1.0))
-leaves r = line-part r.read-k.result r.read-k.new.1.1.1.0 r.read-k.ensures.1
+    (take (r.read-k.result - 0) (drop 0 r.read-k.new.places))
+leaves r = line-part r.read-k.result r.read-k.new.places r.read-k.ensures.1
 
 -- the sums and the list are the neighbour's
 summed : (a : tie.After-moved-sums) → let at =
@@ -56,7 +56,7 @@ summed a =
 
 stored : (n : tie.After-slide-free) → let at = begin (step (first (both (carried n)))) in
     Stored at.args.file.now at.args.plan at.args.column at.args.row at.args.numbers.now n.slide-free.result
-    n.slide-free.new.1.1.1.0
+    n.slide-free.new.nodes
 stored n =
     let r = both (carried n) in
     let d = step (first r) in

@@ -23,8 +23,8 @@ abbrev summing : tie.Else-sums-eq0 → tie.After-start-sums
 summing r = r.before.before
 
 cells : (m : tie.After-start) → let st = begin m in
-    Profiled (frame_of st.args.file.now) st.args.column st.args.row (window_counts st.args.plan m.start.new.1.1.0)
-    (window_guides st.args.plan m.start.new.1.1.0)
+    Profiled (frame_of st.args.file.now) st.args.column st.args.row (window_counts st.args.plan m.start.new.blocks)
+    (window_guides st.args.plan m.start.new.blocks)
 cells m =
     let st = begin m in
     window-cells st.requires.0.0 st.args.column st.args.row _

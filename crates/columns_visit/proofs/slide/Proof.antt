@@ -60,13 +60,13 @@ steady t = t.before.before.before.before
 -- the lists are the step's lines
 enters : (r : tie.After-read-k) → let d = step (first r) in LinePixels (begin d).args.file.now [] (begin d).args.plan
     d.step_to-step.result.entering
-    (take ((first r).read-n.result - 0) (drop 0 (first r).read-n.new.1.1.1.0))
-enters r = line-part (first r).read-n.result (first r).read-n.new.1.1.1.0 (first r).read-n.ensures.1
+    (take ((first r).read-n.result - 0) (drop 0 (first r).read-n.new.places))
+enters r = line-part (first r).read-n.result (first r).read-n.new.places (first r).read-n.ensures.1
 
 leaves : (r : tie.After-read-k) → let d = step (first r) in LinePixels (begin d).args.file.now [] (begin d).args.plan
     d.step_to-step.result.leaving
-    (take (r.read-k.result - 0) (drop 0 r.read-k.new.1.1.1.0))
-leaves r = line-part r.read-k.result r.read-k.new.1.1.1.0 r.read-k.ensures.1
+    (take (r.read-k.result - 0) (drop 0 r.read-k.new.places))
+leaves r = line-part r.read-k.result r.read-k.new.places r.read-k.ensures.1
 
 -- the sums and the store are the neighbour's
 summed : (a : tie.After-moved-present) → let at =
@@ -78,8 +78,8 @@ summed a =
     sums_moved at.requires.0.0 at.requires.1.0.1 d.step_to-step.ensures (enters r) (leaves r) at.requires.1.1.sums a.moved-present.ensures
 
 cells : (n : tie.After-slide) → let at = opened n in
-    Profiled (frame_of at.args.file.now) at.args.column at.args.row (window_counts at.args.plan n.slide.new.1.1.0)
-    (window_guides at.args.plan n.slide.new.1.1.0)
+    Profiled (frame_of at.args.file.now) at.args.column at.args.row (window_counts at.args.plan n.slide.new.blocks)
+    (window_guides at.args.plan n.slide.new.blocks)
 cells n =
     let at = opened n in
     window-cells at.requires.0.0 at.args.column at.args.row _

@@ -27,7 +27,7 @@ start w = w.before.before.before.before
 total_is : (w : tie.After-add_window-total) → let at = start w in
     to_z w64 (of_z w64 w.add_window-total.result) ≡ total_weight (frame_of at.args.file.now) at.args.s at.args.t
 total_is w = let at = start w in
-    to_z-of_z (record { sfits = w.add_window-total.type-inv }) ∙ w.add_window-total.ensures.1 ∙ total-gathered (pixel at) at.requires.0.1
+    to_z-of_z (record { sfits = w.add_window-total.type_inv }) ∙ w.add_window-total.ensures.1 ∙ total-gathered (pixel at) at.requires.0.1
 
 slice-aggregate-add-window : tie.Need-slice_bounds-add_window-end
 slice-aggregate-add-window c = search rules
@@ -52,7 +52,7 @@ returns c =
     let w = c.before.before.before in
     let at = start w in
     answer-found (pixel at) at.requires.1 w.add_window-total.ensures.0 (total_is w)
-    (subst (λ (z : ℤ). HalfReached w.add_window-total.new.1.1.1.1.1.1.1.0 z c.reach_half-half.result) (total_is w) c.reach_half-half.ensures)
+    (subst (λ (z : ℤ). HalfReached w.add_window-total.new.sums z c.reach_half-half.result) (total_is w) c.reach_half-half.ensures)
 
 pub answer_half_spec : {M : Type 1} → statement M
 answer_half_spec = tie.close (tie.spec slice-aggregate-add-window add-window-requires slice-aggregate-reach-half reach-half-requires returns)

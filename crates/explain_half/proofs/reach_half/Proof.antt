@@ -54,14 +54,14 @@ back e =
     let t = turn e in
     let sums = t.args.sums.now in
     ap (λ (z : ℤ). to_z w64 (of_z w64 z))
-    (e.add-reached.ensures ∙ ap₂ ◌+ℤ◌ t.loop-i.inv.1 (sum_back t) ∙ sym (up_to-next sums t.loop-i.i))
+    (e.add-reached.ensures ∙ ap₂ ◌+ℤ◌ t.loop-i.invariant.1 (sum_back t) ∙ sym (up_to-next sums t.loop-i.i))
     ∙ read-bounded w64 173129780571075 (next_low t) tt
 
 doubled : (e : tie.After-add invariant-loop decreases-loop) → let t = turn e in
     to_z w64 (of_z w64 e.add.result) ≡ pos 2 *ℤ up_to t.args.sums.now (suc t.loop-i.i)
 doubled e =
     let t = turn e in
-    to_z-of_z (record { sfits = e.add.type-inv }) ∙ e.add.ensures ∙ ap₂ ◌+ℤ◌ (back e) (back e)
+    to_z-of_z (record { sfits = e.add.type_inv }) ∙ e.add.ensures ∙ ap₂ ◌+ℤ◌ (back e) (back e)
     ∙ sym (twice (up_to t.args.sums.now (suc t.loop-i.i)))
 
 loop-holds : tie.Need-loop-i-init invariant-loop decreases-loop
@@ -102,7 +102,7 @@ add-requires-2 : tie.Need-add-requires invariant-loop decreases-loop
 add-requires-2 c κs = let l = next_low (turn c) in (rw (back c) l, rw (back c) l)
 
 cast-t13 : tie.Need-overflow_cast-result invariant-loop decreases-loop
-cast-t13 c = let t = turn c.before in omega (arith, t.loop-i-test.taken, t.requires.sums.few)
+cast-t13 c = let t = turn c.before in omega (arith, t.loop-i-test.true, t.requires.sums.few)
 
 returns : tie.Need-returns-then-total-add invariant-loop decreases-loop
 returns c =
@@ -111,27 +111,27 @@ returns c =
     let h = t.before in
     let at = h.before in
     record {
-      inside = t.loop-i-test.taken;
-      below = h.loop-i.inv.1;
+      inside = t.loop-i-test.true;
+      below = h.loop-i.invariant.1;
       reached = back e;
       reaches = le-true (total-back at) (doubled e ∙ ap (λ (z : ℤ). pos 2 *ℤ z) (sym (back e))) c.if-total-add.true;
-      lowest = λ i l. rw (total-back at) at (h.loop-i.inv.2 (suc i) l);
+      lowest = λ i l. rw (total-back at) at (h.loop-i.invariant.2 (suc i) l);
     }
 
 add-i-2 : tie.Need-overflow_add-i-else-vacant invariant-loop decreases-loop
-add-i-2 c = let t = turn c.before in omega (arith, t.loop-i-test.taken, t.requires.sums.few)
+add-i-2 c = let t = turn c.before in omega (arith, t.loop-i-test.true, t.requires.sums.few)
 
 loop-less-2 : tie.Need-loop-i-smaller invariant-loop decreases-loop
-loop-less-2 c = omega (arith, (turn c.before).loop-i-test.taken)
+loop-less-2 c = omega (arith, (turn c.before).loop-i-test.true)
 
 loop-again-2 : tie.Need-loop-i-preserved invariant-loop decreases-loop
 loop-again-2 c =
     let e = c.before in
     let t = turn e in
     let h = t.before in (
-      omega (arith, t.loop-i-test.taken),
+      omega (arith, t.loop-i-test.true),
       back e ∙ ap (up_to h.args.sums.now) (sym (add-one h.loop-i.i)),
-      short-next h.args.sums.now h.loop-i.inv.2 (le-false refl (doubled e) c.if-total-add.false),
+      short-next h.args.sums.now h.loop-i.invariant.2 (le-false refl (doubled e) c.if-total-add.false),
     )
 
 -- the loop does not end here: all of them together reach it

@@ -46,7 +46,7 @@ mul-t18 c = omega (arith, turn_low c.before.before)
 
 shared-slice-read-t20 : tie.Need-bounds-p-next invariant-loop decreases-loop
 shared-slice-read-t20 c = let t =
-    c.before.before.before in (places-in (start t.before).args.p.now t.loop-k.k t.loop-k-test.taken).1
+    c.before.before.before in (places-in (start t.before).args.p.now t.loop-k.k t.loop-k-test.true).1
 
 change-pixel-requires : tie.Need-change_pixel-requires invariant-loop decreases-loop
 change-pixel-requires c κs =

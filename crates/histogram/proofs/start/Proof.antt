@@ -55,8 +55,8 @@ turn r = r.before.before.before
 
 listed : (r : tie.After-read-p invariant-loop decreases-loop) → let at =
     begin (turn r).before in LinePixels at.args.file.now [] at.args.plan (line r).column_line-line.result
-    (take (r.read-p.result - 0) (drop 0 r.read-p.new.1.1.1.0))
-listed r = line-part r.read-p.result r.read-p.new.1.1.1.0 r.read-p.ensures.1
+    (take (r.read-p.result - 0) (drop 0 r.read-p.new.places))
+listed r = line-part r.read-p.result r.read-p.new.places r.read-p.ensures.1
 
 low-requires : tie.Need-low-x-requires invariant-loop decreases-loop
 low-requires c κs = tt
@@ -95,13 +95,13 @@ change-pixels-requires : tie.Need-change_pixels-requires invariant-loop decrease
 change-pixels-requires c κs =
     let r = c.before.before.before.before in
     let h = (turn r).before in
-    fill-asks (begin h).requires.0.0 h.loop-k.inv.1 (line r).column_line-line.ensures (listed r) (few (turn r))
+    fill-asks (begin h).requires.0.0 h.loop-k.invariant.1 (line r).column_line-line.ensures (listed r) (few (turn r))
 
 add-k : tie.Need-overflow_add-k invariant-loop decreases-loop
 add-k c = omega (arith, few (turn c.before.before.before.before.before.before))
 
 loop-less : tie.Need-loop-k-smaller invariant-loop decreases-loop
-loop-less c = omega (arith, (turn c.before.before.before.before.before.before).loop-k-test.taken)
+loop-less c = omega (arith, (turn c.before.before.before.before.before.before).loop-k-test.true)
 
 loop-again : tie.Need-loop-k-preserved invariant-loop decreases-loop
 loop-again c =
@@ -109,9 +109,9 @@ loop-again c =
     let r = g.before.before.before.before.before in
     let h = (turn r).before in (
       omega (arith, (turn r).loop-k-test.true),
-      filled_next (begin h).requires.0.0 h.loop-k.inv.1 (line r).column_line-line.ensures (listed r) g.change_pixels.auto.1.1.1.0
+      filled_next (begin h).requires.0.0 h.loop-k.invariant.1 (line r).column_line-line.ensures (listed r) g.change_pixels.auto.1.1.1.0
           g.change_pixels.ensures,
-      g.change_pixels.auto.1.1.1.0 ∙ h.loop-k.inv.2,
+      g.change_pixels.auto.1.1.1.0 ∙ h.loop-k.invariant.2,
     )
 
 same_length : tie.Need-shape_of-histogram invariant-loop decreases-loop

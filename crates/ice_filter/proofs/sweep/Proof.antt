@@ -111,7 +111,7 @@ add-i : tie.Need-overflow_add-i-in-loop-i invariant-loop decreases-loop
 unfolding entry
 add-i c = let h =
     c.before.before.before.before.before.before.before.before.before.before.before.before.before.before.before in
-    omega (arith, sweeping-low _ (entry h.before).requires.0.0 _ _ _ _ _ _ _ _ _ h.loop.inv)
+    omega (arith, sweeping-low _ (entry h.before).requires.0.0 _ _ _ _ _ _ _ _ _ h.loop.invariant)
 
 -- the place of the answer
 placed : (c : tie.After-slice_known-in-loop-i-3-1 invariant-loop decreases-loop) →
@@ -191,7 +191,7 @@ unfolding entry
 loop-again c =
     let l =
     c.before.before.before.before.before.before.before.before.before.before.before.before.before.before.before.before.before.before in
-    sweeping-more _ (entry l.before).requires.0.0 _ _ _ _ _ _ _ _ _ l.loop-i.inv
+    sweeping-more _ (entry l.before).requires.0.0 _ _ _ _ _ _ _ _ _ l.loop-i.invariant
     (omega (
       arith,
       c.loop-i-test.true,
@@ -242,11 +242,11 @@ returns c =
     let at = entry l.before in
     let v = (entered c).enter-visit.ensures in
     let q =
-    sweeping-end _ at.requires.0.0 _ _ _ _ _ _ _ l.loop-i.visit l.loop-i.i l.loop-i.inv _ at.args.output.now
+    sweeping-end _ at.requires.0.0 _ _ _ _ _ _ _ l.loop-i.visit l.loop-i.i l.loop-i.invariant _ at.args.output.now
     (omega (arith, c.loop-i-test.false)) (simp length-set (room l.before)) v.state v.kept _ refl in (
       finished l.loop-i.visit _ refl refl refl q.0
           (handed_back at.args.way at.requires.0.0 at.requires.0.1 (state_of at.args.way l.loop-i.visit)
-          l.loop-i.inv.going.visited.here.balance-box c.finish.ensures),
+          l.loop-i.invariant.going.visited.here.balance-box c.finish.ensures),
       q.1,
     )
 

@@ -210,7 +210,7 @@ returns c =
     let q =
     walking-end _ at.args.file.now (moves_to at.args.file.now at.args.n) 0 0 _ _ _ at.args.answers.now _ _ _ _ _ l.loop-i.visit
     l.loop-i.i
-    l.loop-i.inv (omega (arith, c.loop-i-test.false, long-enough l.before)) v.state v.kept _ refl in
+    l.loop-i.invariant (omega (arith, c.loop-i-test.false, long-enough l.before)) v.state v.kept _ refl in
     begun at.requires.0 at.args.n at.requires.1.0.0 at.requires.1.0.1 _ _ _ _ l.loop-i.visit _ _ q.0 q.1
 
 pub begin_spec : {M : Type 1} → statement M

@@ -149,7 +149,7 @@ loop-again : tie.Need-loop-i-preserved invariant-loop decreases-loop
 unfolding entry
 loop-again c =
     let l = c.before.before.before.before.before.before.before.before.before.before.before.before.before.before.before.before.before in
-    walking-more _ _ _ _ _ _ _ _ _ _ _ l.loop-i.i l.loop-i.inv
+    walking-more _ _ _ _ _ _ _ _ _ _ _ l.loop-i.i l.loop-i.invariant
     (omega (
       arith,
       c.loop-i-test.true,
@@ -189,7 +189,7 @@ same-length-5 : tie.Need-shape_of-answers invariant-loop decreases-loop
 unfolding entry
 same-length-5 c =
     let l = looped c in
-    walking-long _ _ _ _ _ _ _ l.loop-i.answers _ _ _ l.loop-i.i l.loop-i.inv (simp length-set (room l.before)) ∙ simp length-set
+    walking-long _ _ _ _ _ _ _ l.loop-i.answers _ _ _ l.loop-i.i l.loop-i.invariant (simp length-set (room l.before)) ∙ simp length-set
 
 returns : tie.Need-returns invariant-loop decreases-loop
 unfolding entry
@@ -199,10 +199,10 @@ returns c =
     let v = (entered c).enter-visit.ensures in
     let q =
     walking-end _ at.args.file.now at.args.moves.now _ _ _ _ _ at.args.answers.now _ _ _ _ _ l.loop-i.visit l.loop-i.i
-    l.loop-i.inv (omega (arith, c.loop-i-test.false)) v.state v.kept _ refl in (
+    l.loop-i.invariant (omega (arith, c.loop-i-test.false)) v.state v.kept _ refl in (
       finished l.loop-i.visit _ refl refl refl q.0
           (handed_back at.args.way at.requires.0.0 at.requires.0.1 (state_of at.args.way l.loop-i.visit)
-          l.loop-i.inv.going.visited.here.balance-box c.finish.ensures),
+          l.loop-i.invariant.going.visited.here.balance-box c.finish.ensures),
       q.1,
     )
 

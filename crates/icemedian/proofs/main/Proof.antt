@@ -9,7 +9,7 @@ use lib.Seq.{length-take-le}
 use Rattle.icemedian.proofs.main.Statement.{statement}
 use Rattle.icemedian.proofs.main.Tie as tie
 
-within : (e : tie.After-respond-length) → e.respond-length.result ≤ length e.respond-length.new.1.0
+within : (e : tie.After-respond-length) → e.respond-length.result ≤ length e.respond-length.new.out
 within e = let h = simp length-append at (ap length e.respond-length.ensures.1) in omega (arith, h, e.respond-length.ensures.0)
 
 slice-aggregate-read-full : tie.Need-slice_bounds-read_full-end
@@ -31,7 +31,7 @@ array-share-prefix-out : tie.Need-slice_bounds-out-end
 array-share-prefix-out c = within c
 
 slice-aggregate-write-all : tie.Need-slice_bounds-write_all-end
-slice-aggregate-write-all c = let e = c.before in sym (length-take-le e.respond-length.result e.respond-length.new.1.0 (within e))
+slice-aggregate-write-all c = let e = c.before in sym (length-take-le e.respond-length.result e.respond-length.new.out (within e))
 
 write-all-requires : tie.Need-write_all-requires
 write-all-requires c κs = search rules

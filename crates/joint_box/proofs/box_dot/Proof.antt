@@ -67,7 +67,7 @@ loop-again c =
     let h = t.before in (
       omega (arith, t.loop-f-test.true),
       more h.loop-f.f 32 h.loop-f.dot (first h (h.loop-f.f + 32) t.loop-f-test.true) h.loop-f.invariant.1 (after h 32 p.part.ensures)
-          c.add-dot.type-inv c.add-dot.ensures,
+          c.add-dot.type_inv c.add-dot.ensures,
     )
 
 sub_part : tie.Need-overflow_sub-m invariant-loop decreases-loop
@@ -95,11 +95,11 @@ whole : (a : tie.After-add-whole invariant-loop decreases-loop) → let at = sta
 whole a =
     let h = head a in
     let n = (start h).args.m - h.loop-f.f in
-    more h.loop-f.f n h.loop-f.dot (first h (h.loop-f.f + n) (omega (arith, rest h))) h.loop-f.inv.1 (after h n a.part-2.ensures)
-    a.add-whole.type-inv a.add-whole.ensures ∙ ap (centred_part (start h).args.balance_box.now (start h).args.row.now 0) (rest h)
+    more h.loop-f.f n h.loop-f.dot (first h (h.loop-f.f + n) (omega (arith, rest h))) h.loop-f.invariant.1 (after h n a.part-2.ensures)
+    a.add-whole.type_inv a.add-whole.ensures ∙ ap (centred_part (start h).args.balance_box.now (start h).args.row.now 0) (rest h)
 
 sum-cells-requires : tie.Need-sum_cells-requires invariant-loop decreases-loop
-sum-cells-requires c κs = let h = head c in let at = start h in (omega (arith, h.loop-f.inv.0, at.requires.0), at.requires.2)
+sum-cells-requires c κs = let h = head c in let at = start h in (omega (arith, h.loop-f.invariant.0, at.requires.0), at.requires.2)
 
 -- their sum, as it comes back from 16 bits and from 32
 module _ (d : tie.After-sum_cells invariant-loop decreases-loop) where
@@ -134,7 +134,7 @@ returns c =
     let d = c.before in
     let a = d.before in
     let at = start (head a) in
-    to_z-of_z (record { sfits = c.restored.type-inv }) ∙ c.restored.ensures ∙ ap₂ (λ (x y : ℤ). x +ℤ pos 32768 *ℤ y) (whole a) (cells-32 d)
+    to_z-of_z (record { sfits = c.restored.type_inv }) ∙ c.restored.ensures ∙ ap₂ (λ (x y : ℤ). x +ℤ pos 32768 *ℤ y) (whole a) (cells-32 d)
     ∙ sym (dot-centred at.args.balance_box.now at.args.row.now at.args.m)
 
 pub box_dot_spec : {M : Type 1} → statement M

@@ -84,20 +84,20 @@ product-requires c κs =
 add-requires : tie.Need-add-sum-requires invariant-loop decreases-loop
 add-requires c κs =
     let t = turn c.before in
-    more-asks t.loop-k.k 1 t.loop-k.sum (here t) t.loop-k.inv.1 (product_is c)
+    more-asks t.loop-k.k 1 t.loop-k.sum (here t) t.loop-k.invariant.1 (product_is c)
 
 add-k : tie.Need-overflow_add-k invariant-loop decreases-loop
-add-k c = let t = turn c.before.before in omega (arith, t.loop-k-test.taken, (start t.before).requires.inside)
+add-k c = let t = turn c.before.before in omega (arith, t.loop-k-test.true, (start t.before).requires.inside)
 
 loop-less : tie.Need-loop-k-smaller invariant-loop decreases-loop
-loop-less c = omega (arith, (turn c.before.before).loop-k-test.taken)
+loop-less c = omega (arith, (turn c.before.before).loop-k-test.true)
 
 loop-again : tie.Need-loop-k-preserved invariant-loop decreases-loop
 loop-again c =
     let p = c.before in
     let t = turn p.before in (
-      omega (arith, t.loop-k-test.taken),
-      more t.loop-k.k 1 t.loop-k.sum (here t) t.loop-k.inv.1 (product_is p) c.add-sum.type-inv c.add-sum.ensures,
+      omega (arith, t.loop-k-test.true),
+      more t.loop-k.k 1 t.loop-k.sum (here t) t.loop-k.invariant.1 (product_is p) c.add-sum.type_inv c.add-sum.ensures,
     )
 
 returns : tie.Need-returns invariant-loop decreases-loop

@@ -45,7 +45,7 @@ loop-again c =
     let h = t.before in (
       omega (arith, t.loop-f-test.true),
       cell-more (start h).requires.1 h.loop-f.f h.loop-f.sum (omega (arith, t.loop-f-test.true, (start h).requires.0)) h.loop-f.invariant.1
-          c.add_cell-sum.type-inv c.add_cell-sum.ensures,
+          c.add_cell-sum.type_inv c.add_cell-sum.ensures,
     )
 
 returns : tie.Need-returns invariant-loop decreases-loop

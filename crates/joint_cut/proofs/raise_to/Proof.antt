@@ -42,7 +42,7 @@ loop-again c =
     let at = start h in (
       omega (arith, t.loop-i-test.true),
       raised at.args.sizes at.args.counts.now h.loop-i.i _ _ h.loop-i.balance-box
-          c.shift_level.new.1.1.1.0 h.loop-i.invariant.1 c.shift_level.ensures (omega arith) refl,
+          c.shift_level.new.balance_box h.loop-i.invariant.1 c.shift_level.ensures (omega arith) refl,
     )
 
 returns : tie.Need-returns invariant-loop decreases-loop

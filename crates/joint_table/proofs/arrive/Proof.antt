@@ -98,7 +98,7 @@ own-row-requires c κs =
     )
 
 own : (o : tie.After-own_row) → let at = start o.before.before.before.before in
-    RowOwn (frame_with at.args.file.now at.args.plane.now) at.args.s at.args.t o.own_row.new.1.1.1.0
+    RowOwn (frame_with at.args.file.now at.args.plane.now) at.args.s at.args.t o.own_row.new.row
 own o =
     let g = o.before.before.before.before in
     let at = start g in
@@ -138,7 +138,7 @@ ones-if-hollow-requires c κs =
 
 -- the row that the window is counted with
 counted : (h : tie.After-ones_if_hollow) → let at = start (filled h).before.before.before.before in
-    RowWeighs (frame_with at.args.file.now at.args.plane.now) at.args.s at.args.t h.ones_if_hollow.new.1.1.1.1.1.0
+    RowWeighs (frame_with at.args.file.now at.args.plane.now) at.args.s at.args.t h.ones_if_hollow.new.row
 counted h =
     let o = filled h in
     let at = start o.before.before.before.before in

@@ -79,13 +79,13 @@ summed h = h.before.before.before.before
 -- the lists are the step's lines
 enters : (r : tie.After-read_in-k) → let d = step (first r) in LinePixels (begin d).args.file.now (begin d).args.plane.now
     (begin d).args.plan d.step_to-step.result.entering
-    (take ((first r).read_in-n.result - 0) (drop 0 (first r).read_in-n.new.1.1.1.1.0))
-enters r = line-part (first r).read_in-n.result (first r).read_in-n.new.1.1.1.1.0 (first r).read_in-n.ensures.1
+    (take ((first r).read_in-n.result - 0) (drop 0 (first r).read_in-n.new.places))
+enters r = line-part (first r).read_in-n.result (first r).read_in-n.new.places (first r).read_in-n.ensures.1
 
 leaves : (r : tie.After-read_in-k) → let d = step (first r) in LinePixels (begin d).args.file.now (begin d).args.plane.now
     (begin d).args.plan d.step_to-step.result.leaving
-    (take (r.read_in-k.result - 0) (drop 0 r.read_in-k.new.1.1.1.1.0))
-leaves r = line-part r.read_in-k.result r.read_in-k.new.1.1.1.1.0 r.read_in-k.ensures.1
+    (take (r.read_in-k.result - 0) (drop 0 r.read_in-k.new.places))
+leaves r = line-part r.read_in-k.result r.read_in-k.new.places r.read_in-k.ensures.1
 
 -- the level that the box is kept at
 level : (k : tie.After-box_cut-kept) → let at = opened (lists k) in
@@ -108,7 +108,7 @@ held k =
 moved : (x : tie.After-exchange) → let at = opened (both x) in
     JointAt (frame_with at.args.file.now at.args.plane.now) at.args.column at.args.row (kept x).box_cut-kept.result.0
     at.args.counts.now
-    at.args.words.now x.exchange.new.1.1.1.1.1.0 x.exchange.new.1.1.1.1.1.1.0 x.exchange.new.1.1.1.1.0
+    at.args.words.now x.exchange.new.counts x.exchange.new.words x.exchange.new.balance_box
 moved x =
     let r = both x in
     let d = step (first r) in
@@ -124,8 +124,8 @@ was i = let at = opened (both (stored i)) in at.requires.0.2.guided (kind-of at.
 
 -- the counts are those of a window of the file
 counted : (x : tie.After-exchange) → let at = opened (both x) in
-    Counted at.args.file.now at.args.plane.now at.args.plan at.args.column at.args.row x.exchange.new.1.1.1.1.1.0
-    x.exchange.new.1.1.1.1.1.1.0
+    Counted at.args.file.now at.args.plane.now at.args.plan at.args.column at.args.row x.exchange.new.counts
+    x.exchange.new.words
 counted x = let at = opened (both x) in let q = both-in at.requires.0.1 in counted_of at.requires.0.0.pictured q.2 q.3 (moved x)
 
 step-to-requires : tie.Need-step_to-step-requires
@@ -227,7 +227,7 @@ sums-are m =
     sums_moved (begin d).requires.0.0.pictured (begin d).requires.0.1 d.step_to-step.ensures (enters r) (leaves r) (was i).sums m.moved-a.ensures
 
 histogram-is : (h : tie.After-exchange-then-plan-eq2) → let at = opened (both (stored (kind (summed h)))) in
-    Histogram (frame_with at.args.file.now at.args.plane.now) at.args.column at.args.row h.exchange-then-plan-eq2.new.1.1.1.0
+    Histogram (frame_with at.args.file.now at.args.plane.now) at.args.column at.args.row h.exchange-then-plan-eq2.new.histogram
 histogram-is h =
     let i = kind (summed h) in
     let r = both (stored i) in
@@ -241,9 +241,9 @@ arrive-by-blocks-requires c κs =
     let h = c.before.before.before.before in
     let i = kind (summed h) in
     let at = opened (both (stored i)) in
-    let none = at.requires.1.3 i.if-plan-eq2.taken in
+    let none = at.requires.1.3 i.if-plan-eq2.true in
     let q = both-in at.requires.0.1 in (
-      (with-own at.requires.0.0.pictured, i.if-plan-eq2.taken, q.2, q.3),
+      (with-own at.requires.0.0.pictured, i.if-plan-eq2.true, q.2, q.3),
       (
         sums-own at.args.file.now at.args.column at.args.row none (sums-are (summed h)),
         histogram-own at.args.file.now
@@ -273,9 +273,9 @@ returns c =
     let at = opened (both x) in
     let blocks = sym (kept x).by_blocks-blocks.ensures ∙ w.if-blocks.true in
     let zero = level (kept x) ∙ ap (λ (b : Bool). box_cut b at.args.plan.kind at.args.from.cut.0) blocks
-    ∙ box-cut-guided at.args.plan.kind at.args.from.cut.0 i.if-plan-eq2.taken in
-    blocks-visited at.requires.0.0.pictured at.args.way at.args.from.cut.0 at.args.from.shifts at.requires.1.2 blocks i.if-plan-eq2.taken
-    (at.requires.1.3 i.if-plan-eq2.taken) (record {
+    ∙ box-cut-guided at.args.plan.kind at.args.from.cut.0 i.if-plan-eq2.true in
+    blocks-visited at.requires.0.0.pictured at.args.way at.args.from.cut.0 at.args.from.shifts at.requires.1.2 blocks i.if-plan-eq2.true
+    (at.requires.1.3 i.if-plan-eq2.true) (record {
       counts = (moved x).counts-1;
       words = (moved x).words-1;
       box = (moved x).box ∙ ap (balance_box_at (frame_with at.args.file.now at.args.plane.now) at.args.column at.args.row) zero;
@@ -307,12 +307,12 @@ arrive-requires c κs =
     let d = step (first r) in
     let at = begin d in
     let pl = at.requires.0.0.pictured in
-    let none = at.requires.1.3 i.if-plan-eq2.taken in
+    let none = at.requires.1.3 i.if-plan-eq2.true in
     let here = level (kept x) ∙ ap (λ (b : Bool). box_cut b at.args.plan.kind at.args.from.cut.0)
     (sym (kept x).by_blocks-blocks.ensures ∙ w.if-blocks.false) in (
       (
         counted-own at.args.file.now at.args.column at.args.row none (counted x),
-        i.if-plan-eq2.taken,
+        i.if-plan-eq2.true,
         histogram-own at.args.file.now
             at.args.column at.args.row none (histogram-is h),
       ),
@@ -350,16 +350,16 @@ returns-2 c =
     let x = stored i in
     let at = opened (both x) in
     guided-visited at.requires.0.0.pictured at.args.way at.args.from.cut.0 at.args.from.shifts at.requires.1.2
-    (sym (kept x).by_blocks-blocks.ensures ∙ w.if-blocks.false) (at.requires.1.3 i.if-plan-eq2.taken) (moved x) c.arrive.ensures
+    (sym (kept x).by_blocks-blocks.ensures ∙ w.if-blocks.false) (at.requires.1.3 i.if-plan-eq2.true) (moved x) c.arrive.ensures
 
 -- kind 1: the number of pixels
 abbrev told : tie.After-former-1 → tie.After-exchange
 told f = f.before.before.before.before.before.before.before.before
 
-entering-long : (r : tie.After-read_in-k) → (first r).read_in-n.result ≤ length (first r).read_in-n.new.1.1.1.1.0
+entering-long : (r : tie.After-read_in-k) → (first r).read_in-n.result ≤ length (first r).read_in-n.new.places
 entering-long r = omega (arith, (first r).read_in-n.ensures.0, (first r).read_in-n.auto.1.1.1.1.0)
 
-leaving-long : (r : tie.After-read_in-k) → r.read_in-k.result ≤ length r.read_in-k.new.1.1.1.1.0
+leaving-long : (r : tie.After-read_in-k) → r.read_in-k.result ≤ length r.read_in-k.new.places
 leaving-long r = omega (arith, r.read_in-k.ensures.0, r.read_in-k.auto.1.1.1.1.0)
 
 few : (f : tie.After-former-1) → (opened (both (told f))).args.from.running.sums.count ≤ 961

@@ -66,7 +66,7 @@ cast-total : tie.Need-overflow_cast-total invariant-loop decreases-loop
 cast-total c = search rules
 
 add_total : tie.Need-overflow_add-total invariant-loop decreases-loop
-add_total c = omega (arith, turn_low c, c.loop-k.invariant.1.low, c.value_at-value.type-inv)
+add_total c = omega (arith, turn_low c, c.loop-k.invariant.1.low, c.value_at-value.type_inv)
 
 add-k : tie.Need-overflow_add-k invariant-loop decreases-loop
 add-k c = omega (arith, turn_low c)
@@ -79,7 +79,7 @@ loop-again c =
     let t = c.before.before in (
       omega (arith, t.loop-k-test.true),
       copied_next (turn_low c) t.loop-k.invariant.1 c.value_at-value.ensures c.guide_at-guide.ensures
-          (omega (arith, c.value_at-value.type-inv)),
+          (omega (arith, c.value_at-value.type_inv)),
       put-long t.loop-k.places t.loop-k.k c.value_at-value.result c.guide_at-guide.result.0 ∙ t.loop-k.invariant.2,
     )
 

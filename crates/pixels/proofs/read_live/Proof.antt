@@ -1,13 +1,13 @@
 -- `read_live` meets its contract: after k turns the places hold the live ones of the line's first k pixels. Assumes nothing.
 use native.Mathlib.Omega.{arith}
 use mathlib.Core.Path.{◌≡◌, refl, ◌∙◌}
-use mathlib.Core.Logic.{⊎_elim}
 use Prim.Native.Nat.{◌-◌, ◌*◌, ◌≤◌, ◌<◌}
 use lib.ListN.{length, length-set}
 use Rattle.spec.proofs.Plans.{with-own}
 use Rattle.window.proofs.PixelLaws.{place-small}
 use Rattle.pixels.proofs.Laws.{put-long, ReadTo, read_none, dead-next, live-next, line-pixels}
 use Rattle.pixels.proofs.read_live.Statement.{statement}
+use Rattle.pixels.proofs.read_live.Lts.{then-value, else-value}
 use Rattle.pixels.proofs.read_live.Tie as tie
 
 abbrev invariant-loop : tie.invariant-loop-k
@@ -79,18 +79,18 @@ loop-again c =
     let t = g.before.before in
     let at = start t.before in
     let v = t.loop-k.invariant in
-    ⊎_elim
-    (λ w. rw w.1 (
-      omega (arith, t.loop-k-test.true),
-      live-next at.requires.0 at.requires.1 t.loop-k-test.true v.1 g.value_in-value.ensures g.guide_at-guide.ensures w.0.taken,
-      put-long t.loop-k.places t.loop-k.m g.value_in-value.result g.guide_at-guide.result.0 ∙ v.2,
-    ))
-    (λ w. rw w.1 (
-      omega (arith, t.loop-k-test.true),
-      dead-next at.requires.0 at.requires.1 t.loop-k-test.true v.1 g.value_in-value.ensures g.guide_at-guide.ensures w.0.left,
-      put-long t.loop-k.places t.loop-k.m g.value_in-value.result g.guide_at-guide.result.0 ∙ v.2,
-    ))
-    c.if-value.branch
+    elim c.if-value.branch [
+      then-value w ↦ rw w.m-is (
+        omega (arith, t.loop-k-test.true),
+        live-next at.requires.0 at.requires.1 t.loop-k-test.true v.1 g.value_in-value.ensures g.guide_at-guide.ensures w.if-value.true,
+        put-long t.loop-k.places t.loop-k.m g.value_in-value.result g.guide_at-guide.result.0 ∙ v.2,
+      )
+    | else-value w ↦ rw w.m-is (
+        omega (arith, t.loop-k-test.true),
+        dead-next at.requires.0 at.requires.1 t.loop-k-test.true v.1 g.value_in-value.ensures g.guide_at-guide.ensures w.if-value.false,
+        put-long t.loop-k.places t.loop-k.m g.value_in-value.result g.guide_at-guide.result.0 ∙ v.2,
+      )
+    ]
 
 mul-result : tie.Need-overflow_mul-result invariant-loop decreases-loop
 mul-result c = omega (arith, c.loop-k.invariant.0, c.loop-k.invariant.1.few, (start c.before).requires.1.few)

@@ -67,7 +67,7 @@ returns-2 : tie.Need-returns-then-bad_span invariant-loop decreases-loop
 returns-2 c =
     let h = turn c.before in
     let at = start h in
-    found-bad at.args.file.now at.args.upper.now _ _ (size_is at.requires) (levels-are at.requires) h.loop-q.inv.1 h.loop-q.q
+    found-bad at.args.file.now at.args.upper.now _ _ (size_is at.requires) (levels-are at.requires) h.loop-q.invariant.1 h.loop-q.q
     c.loop-q-test.true (span c.before ∙ c.if-bad_span.true)
 
 add-q : tie.Need-overflow_add-q invariant-loop decreases-loop
@@ -79,12 +79,12 @@ loop-less c = omega (arith, c.loop-q-test.true)
 loop-again : tie.Need-loop-q-preserved invariant-loop decreases-loop
 loop-again c =
     let h = turn c.before in
-    (omega (arith, c.loop-q-test.true), h.loop-q.inv.1, λ j l. go j (eq-or-lt_of_le (omega (arith, l))))
+    (omega (arith, c.loop-q-test.true), h.loop-q.invariant.1, λ j l. go j (eq-or-lt_of_le (omega (arith, l))))
   where
     go : (j : ℕ) → let h = turn c.before in (j ≡ h.loop-q.q) ⊎ (j < h.loop-q.q)
         → bad_span (start h).args.plan.levels (pixel_level (start h).args.file.now j) (get_or (start h).args.upper.now j 0) ≡ false
     go j (inl e) = rw e (span c.before ∙ c.if-bad_span.false)
-    go j (inr l) = (turn c.before).loop-q.inv.2 j l
+    go j (inr l) = (turn c.before).loop-q.invariant.2 j l
 
 returns-3 : tie.Need-returns invariant-loop decreases-loop
 returns-3 c =

@@ -35,14 +35,14 @@ returns-3 c =
     let s = c.before in
     let f = fits s in
     let e = f.before.before in
-    by-room (start e).requires _ _ _ _ e.if-plan-eq2.left (same f.bad_upper.ensures f.if-bad_upper.left) (same s.short.ensures c.if-short.true)
+    by-room (start e).requires _ _ _ _ e.if-plan-eq2.false (same f.bad_upper.ensures f.if-bad_upper.false) (same s.short.ensures c.if-short.true)
 
 returns-4 : tie.Need-returns-then-greatest-n
 returns-4 c =
     let s = c.before.before in
     let f = fits s in
     let e = f.before.before in
-    by-greatest (start e).requires _ _ _ _ e.if-plan-eq2.left (same f.bad_upper.ensures f.if-bad_upper.left)
+    by-greatest (start e).requires _ _ _ _ e.if-plan-eq2.false (same f.bad_upper.ensures f.if-bad_upper.false)
     (same s.short.ensures c.if-short.false) c.if-greatest-n.true
 
 returns-5 : tie.Need-returns
@@ -50,7 +50,7 @@ returns-5 c =
     let s = c.before.before in
     let f = fits s in
     let e = f.before.before in
-    passes (start e).requires _ _ _ _ e.if-plan-eq2.left (same f.bad_upper.ensures f.if-bad_upper.left)
+    passes (start e).requires _ _ _ _ e.if-plan-eq2.false (same f.bad_upper.ensures f.if-bad_upper.false)
     (same s.short.ensures c.if-short.false) c.if-greatest-n.false
 
 pub tolerance_verdict_spec : {M : Type 1} → statement M

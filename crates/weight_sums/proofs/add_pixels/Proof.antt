@@ -101,7 +101,7 @@ mul-x-2 c = omega (arith, turn_low c.before.before)
 
 shared-slice-read-x-2 : tie.Need-bounds-p-next invariant-loop decreases-loop
 shared-slice-read-x-2 c = let t =
-    c.before.before.before in omega (arith, (places-in (start t.before).args.p.now t.loop-k.k t.loop-k-test.taken).1)
+    c.before.before.before in omega (arith, (places-in (start t.before).args.p.now t.loop-k.k t.loop-k-test.true).1)
 
 cast-x : tie.Need-overflow_cast-x invariant-loop decreases-loop
 cast-x c = omega (arith, numbers c.before.before.before)
@@ -119,14 +119,14 @@ weigh-requires : tie.Need-weigh-weight-requires invariant-loop decreases-loop
 weigh-requires c κs =
     let r = c.before.before in
     let t = turn r.before in
-    weight-asks (start t.before).requires.0 0 t.loop-k-test.taken (number-low r)
+    weight-asks (start t.before).requires.0 0 t.loop-k-test.true (number-low r)
 
 -- what the call gave is the guide's weight
 weighed : (e : tie.After-weigh-weight invariant-loop decreases-loop) → let t = turn (read e).before in let at =
     start t.before in e.weigh-weight.result ≡ weight_by at.args.weights.now at.args.formula (guide_in at.args.p.now t.loop-k.k)
 weighed e =
     let t = turn (read e).before in
-    weight_is (start t.before).requires.0 0 t.loop-k-test.taken (number-low (read e)) e.weigh-weight.result e.weigh-weight.ensures
+    weight_is (start t.before).requires.0 0 t.loop-k-test.true (number-low (read e)) e.weigh-weight.result e.weigh-weight.ensures
 
 mul-add : tie.Need-offset_bounds-sums-b invariant-loop decreases-loop
 mul-add c = let q = place-low (read c).before.before.before.before in omega (arith, q.0, q.1)
@@ -140,7 +140,7 @@ add-requires c κs =
     let e = c.before in
     let t = turn (read e).before in
     let at = start t.before in
-    let q = sum-asks (2 ^ at.args.bits) at.requires.0 at.requires.1 t.loop-k-test.taken t.loop-k.inv.1 e.weigh-weight.result (weighed e) in
+    let q = sum-asks (2 ^ at.args.bits) at.requires.0 at.requires.1 t.loop-k-test.true t.loop-k.invariant.1 e.weigh-weight.result (weighed e) in
     (q.0, omega (arith, q.1))
 
 mul-t22 : tie.Need-offset_bounds-sums-b-in-loop-k invariant-loop decreases-loop
@@ -155,14 +155,14 @@ add-requires-2 c κs =
     let t = turn (read e).before in
     let h = t.before in
     let at = start h in
-    let q = total-asks at.requires.0 65535 t.loop-k-test.taken (to_z w64 h.loop-k.total) e.weigh-weight.result h.loop-k.inv.2 (weighed e) in
+    let q = total-asks at.requires.0 65535 t.loop-k-test.true (to_z w64 h.loop-k.total) e.weigh-weight.result h.loop-k.invariant.2 (weighed e) in
     (omega (arith, q.0, q.1), omega (arith, q.0, q.1))
 
 add-k : tie.Need-overflow_add-k invariant-loop decreases-loop
 add-k c = omega (arith, turn_low (turn (read c.before.before.before).before))
 
 loop-less : tie.Need-loop-k-smaller invariant-loop decreases-loop
-loop-less c = omega (arith, (turn (read c.before.before.before).before).loop-k-test.taken)
+loop-less c = omega (arith, (turn (read c.before.before.before).before).loop-k-test.true)
 
 loop-again : tie.Need-loop-k-preserved invariant-loop decreases-loop
 unfolding block_of
@@ -173,11 +173,11 @@ loop-again c =
     let t = turn r.before in
     let h = t.before in
     let at = start h in (
-      omega (arith, t.loop-k-test.taken),
-      added_next (2 ^ at.args.bits) at.requires.0 at.requires.1 t.loop-k-test.taken h.loop-k.inv.1 e.weigh-weight.result (weighed e)
-          a.add.result a.add.type-inv a.add.ensures,
-      total-again at.requires.0 65535 t.loop-k-test.taken (to_z w64 h.loop-k.total) e.weigh-weight.result h.loop-k.inv.2 (weighed e)
-          c.add-total.result c.add-total.type-inv
+      omega (arith, t.loop-k-test.true),
+      added_next (2 ^ at.args.bits) at.requires.0 at.requires.1 t.loop-k-test.true h.loop-k.invariant.1 e.weigh-weight.result (weighed e)
+          a.add.result a.add.type_inv a.add.ensures,
+      total-again at.requires.0 65535 t.loop-k-test.true (to_z w64 h.loop-k.total) e.weigh-weight.result h.loop-k.invariant.2 (weighed e)
+          c.add-total.result c.add-total.type_inv
           (c.add-total.ensures
           ∙ signed_up 65535 (level_in at.args.p.now h.loop-k.k) (to_z w64 h.loop-k.total) (to_z w64 (of_z w64 e.weigh-weight.result))
           (omega (arith, (numbers r.before.before.before.before).0))),

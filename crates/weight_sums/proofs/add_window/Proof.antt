@@ -66,8 +66,8 @@ list e = e.before.before.before.before
 
 listed : (r : tie.After-read-e invariant-loop decreases-loop) → let at =
     start (turn r).before in LinePixels at.args.file.now [] at.args.plan (line r).column_line-line.result
-    (take (r.read-e.result - 0) (drop 0 r.read-e.new.1.1.1.0))
-listed r = line-part r.read-e.result r.read-e.new.1.1.1.0 r.read-e.ensures.1
+    (take (r.read-e.result - 0) (drop 0 r.read-e.new.places))
+listed r = line-part r.read-e.result r.read-e.new.places r.read-e.ensures.1
 
 low-requires : tie.Need-low-x-requires invariant-loop decreases-loop
 low-requires c κs = tt
@@ -117,7 +117,7 @@ add-pixels-requires c κs =
     let r = c.before.before.before.before in
     let h = (turn r).before in
     let at = start h in
-    let q = list-asks (2 ^ at.args.bits) at.requires.0.0 at.requires.0.1 (listed r) h.loop-k.inv.1 at.requires.1.1 (few (turn r)) in
+    let q = list-asks (2 ^ at.args.bits) at.requires.0.0 at.requires.0.1 (listed r) h.loop-k.invariant.1 at.requires.1.1 (few (turn r)) in
     (q.0, q.1, at.requires.1.2)
 
 add-requires : tie.Need-add-total-requires invariant-loop decreases-loop
@@ -126,7 +126,7 @@ add-requires c κs =
     let r = list e in
     let h = (turn r).before in
     let at = start h in
-    let q = column-asks at.requires.0.0 (listed r) 65535 e.add_pixels-line_total.ensures.1 h.loop-k.k (to_z w64 h.loop-k.total) h.loop-k.inv.3
+    let q = column-asks at.requires.0.0 (listed r) 65535 e.add_pixels-line_total.ensures.1 h.loop-k.k (to_z w64 h.loop-k.total) h.loop-k.invariant.3
     (few (turn r)) in
     (omega (arith, q.0, q.1), omega (arith, q.0, q.1))
 
@@ -134,7 +134,7 @@ add-k : tie.Need-overflow_add-k invariant-loop decreases-loop
 add-k c = omega (arith, few (turn (list c.before.before)))
 
 loop-less : tie.Need-loop-k-smaller invariant-loop decreases-loop
-loop-less c = omega (arith, (turn (list c.before.before)).loop-k-test.taken)
+loop-less c = omega (arith, (turn (list c.before.before)).loop-k-test.true)
 
 loop-again : tie.Need-loop-k-preserved invariant-loop decreases-loop
 loop-again c =
@@ -143,11 +143,11 @@ loop-again c =
     let h = (turn r).before in
     let at = start h in
     let q =
-    column_again at.requires.0.0 (listed r) 65535 e.add_pixels-line_total.ensures.1 h.loop-k.k (to_z w64 h.loop-k.total) h.loop-k.inv.3
-    h.low-x.result (line r).column_line-line.ensures h.loop-k.inv.2
-    c.add-total.type-inv c.add-total.ensures in (
-      omega (arith, (turn r).loop-k-test.taken),
-      columns-next (2 ^ at.args.bits) at.requires.0.0 at.requires.0.1 (listed r) h.loop-k.inv.1 (line r).column_line-line.ensures
+    column_again at.requires.0.0 (listed r) 65535 e.add_pixels-line_total.ensures.1 h.loop-k.k (to_z w64 h.loop-k.total) h.loop-k.invariant.3
+    h.low-x.result (line r).column_line-line.ensures h.loop-k.invariant.2
+    c.add-total.type_inv c.add-total.ensures in (
+      omega (arith, (turn r).loop-k-test.true),
+      columns-next (2 ^ at.args.bits) at.requires.0.0 at.requires.0.1 (listed r) h.loop-k.invariant.1 (line r).column_line-line.ensures
           e.add_pixels-line_total.ensures.0,
       q.0,
       q.1,

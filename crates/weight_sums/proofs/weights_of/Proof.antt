@@ -43,7 +43,7 @@ table-row-requires c κs =
 
 -- the own weights are in the row
 own : (r : tie.After-table_row) → let at = r.before.before.before.before.before.before.before in
-    RowOwn (frame_of at.args.file.now) at.args.s at.args.t r.table_row.new.1.1.1.0
+    RowOwn (frame_of at.args.file.now) at.args.s at.args.t r.table_row.new.row
 own r =
     let g = r.before.before in
     let i = g.before.before in

@@ -107,8 +107,8 @@ line-is r =
 
 listed : (r : tie.After-read-p invariant-loop decreases-loop) → let at =
     start (turn r).before in LinePixels at.args.file.now [] at.args.plan (line r).column_line-d.result
-    (take (r.read-p.result - 0) (drop 0 r.read-p.new.1.1.1.0))
-listed r = line-part r.read-p.result r.read-p.new.1.1.1.0 r.read-p.ensures.1
+    (take (r.read-p.result - 0) (drop 0 r.read-p.new.places))
+listed r = line-part r.read-p.result r.read-p.new.places r.read-p.ensures.1
 
 slice-aggregate-read : tie.Need-slice_bounds-read-end invariant-loop decreases-loop
 slice-aggregate-read c = search rules
@@ -133,7 +133,7 @@ merge-line-requires c κs =
     let r = c.before.before.before.before in
     let h = (turn r).before in
     let at = start h in
-    columns-insertable at.requires.0 _ _ at.requires.1.0.0 at.requires.1.0.1 (within (turn r)) (line-is r) (listed r) h.loop-k.inv.0
+    columns-insertable at.requires.0 _ _ at.requires.1.0.0 at.requires.1.0.1 (within (turn r)) (line-is r) (listed r) h.loop-k.invariant.0
 
 -- the reading, from a turn's end
 abbrev read : tie.After-slice_known-in-loop-k-1 invariant-loop decreases-loop → tie.After-read-p invariant-loop decreases-loop
@@ -146,7 +146,7 @@ add-k c =
     omega (arith, within i, span-high at.args.plan.radius at.args.s at.args.plan.width (plan-limits at.requires.0).radius)
 
 loop-less : tie.Need-loop-k-smaller invariant-loop decreases-loop
-loop-less c = omega (arith, (turn (read c)).loop-k-test.taken)
+loop-less c = omega (arith, (turn (read c)).loop-k-test.true)
 
 loop-again : tie.Need-loop-k-preserved invariant-loop decreases-loop
 loop-again c =
@@ -154,10 +154,10 @@ loop-again c =
     let r = read c in
     let h = (turn r).before in
     let at = start h in
-    let v = h.loop-k.inv in (
+    let v = h.loop-k.invariant in (
       columns-inserted at.requires.0 _ _ at.requires.1.0.0 at.requires.1.0.1 (within (turn r)) (line-is r) (listed r) v.0
           n.merge_line-next.ensures,
-      omega (arith, (turn r).loop-k-test.taken),
+      omega (arith, (turn r).loop-k-test.true),
       n.merge_line-next.auto.1.1.1.0 ∙ v.2,
       λ j b. columns-beyond at.requires.0 _ _ at.requires.1.0.0 at.requires.1.0.1 (within (turn r)) (line-is r) (listed r) v.0
           n.merge_line-next.ensures j b ∙ v.3 j b,

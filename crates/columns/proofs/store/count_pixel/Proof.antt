@@ -40,7 +40,7 @@ reads : (c : tie.Else-value) → let st = begin c.before in dead (frame st) st.a
 reads c = ne_eqb _ no_reading (λ e. c.if-value.false (value-is c.before ∙ e))
 
 guide-is : (g : tie.After-guide_at-g) → let st = begin (valued g) in g.guide_at-g.result.0 ≡ guide (frame st) st.args.x st.args.y
-guide-is g = let st = begin (valued g) in g.guide_at-g.ensures ∙ (facts st.requires.0).guide_at-g st.args.x st.args.y
+guide-is g = let st = begin (valued g) in g.guide_at-g.ensures ∙ (facts st.requires.0).guide-at st.args.x st.args.y
 
 guide-small : (g : tie.After-guide_at-g) → g.guide_at-g.result.0 ≤ 255
 guide-small g =
@@ -70,7 +70,7 @@ first-able st = able-first (frame st) st.args.x st.args.y st.args.add st.args.a 
 
 counted : (k : tie.After-change) → let st = begin (valued (guided k)) in
     Put st.args.add st.args.plan.levels (block st.args.a (at_level (frame st) (λ u v. 1) st.args.x st.args.y))
-    st.args.blocks.now k.change.new.0
+    st.args.blocks.now k.change.new.numbers
 counted k =
     let g = guided k in
     let st = begin (valued g) in
@@ -79,7 +79,7 @@ counted k =
 
 second-able : (k : tie.After-change) → let st = begin (valued (guided k)) in
     Able st.args.add st.args.plan.levels (block st.args.b (at_level (frame st) (guide (frame st)) st.args.x st.args.y))
-    k.change.new.0
+    k.change.new.numbers
 second-able k =
     let st = begin (valued (guided k)) in
     able-second (frame st) st.args.x st.args.y st.args.add st.args.a st.args.b st.requires.1.1.1 (counted k)

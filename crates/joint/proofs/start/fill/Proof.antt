@@ -31,8 +31,8 @@ turn r = r.before.before.before
 
 listed : (r : tie.After-read_in-p invariant-loop decreases-loop) → let at =
     start (turn r).before in LinePixels at.args.file.now at.args.plane.now at.args.plan (line r).column_line-line.result
-    (take (r.read_in-p.result - 0) (drop 0 r.read_in-p.new.1.1.1.1.0))
-listed r = line-part r.read_in-p.result r.read_in-p.new.1.1.1.1.0 r.read_in-p.ensures.1
+    (take (r.read_in-p.result - 0) (drop 0 r.read_in-p.new.places))
+listed r = line-part r.read_in-p.result r.read_in-p.new.places r.read_in-p.ensures.1
 
 loop-holds : tie.Need-loop-k-init invariant-loop decreases-loop
 loop-holds c = (omega arith, c.requires.1)
@@ -73,15 +73,15 @@ change-pixels-requires c κs =
     let r = c.before.before.before.before.before.before in
     let h = (turn r).before in
     let at = start h in
-    fill-asks at.requires.0.0 at.requires.0.1 (turn r).loop-k-test.true h.loop-k.inv.1 (line r).column_line-line.ensures (listed r)
+    fill-asks at.requires.0.0 at.requires.0.1 (turn r).loop-k-test.true h.loop-k.invariant.1 (line r).column_line-line.ensures (listed r)
 
 add-k : tie.Need-overflow_add-k invariant-loop decreases-loop
 add-k c =
     let i = turn c.before.before.before.before.before.before.before.before.before.before in
-    omega (arith, i.loop-k-test.taken, (start i.before).requires.0.1.few)
+    omega (arith, i.loop-k-test.true, (start i.before).requires.0.1.few)
 
 loop-less : tie.Need-loop-k-smaller invariant-loop decreases-loop
-loop-less c = omega (arith, (turn c.before.before.before.before.before.before.before.before.before.before).loop-k-test.taken)
+loop-less c = omega (arith, (turn c.before.before.before.before.before.before.before.before.before.before).loop-k-test.true)
 
 loop-again : tie.Need-loop-k-preserved invariant-loop decreases-loop
 loop-again c =
@@ -90,7 +90,7 @@ loop-again c =
     let h = (turn r).before in
     let at = start h in (
       omega (arith, (turn r).loop-k-test.true),
-      fill-again at.requires.0.0 at.requires.0.1 (turn r).loop-k-test.true h.loop-k.inv.1 (line r).column_line-line.ensures (listed r)
+      fill-again at.requires.0.0 at.requires.0.1 (turn r).loop-k-test.true h.loop-k.invariant.1 (line r).column_line-line.ensures (listed r)
           g.change_pixels.ensures.0 g.change_pixels.ensures.1,
     )
 

@@ -126,7 +126,7 @@ next-requires c κs =
     let h = head g in
     let at = start h in
     let q = scan-asks at.requires.0 in
-    (q.0, q.1, q.3, h.loop-c.inv.1, omega (arith, low g.before, at.requires.0.guides))
+    (q.0, q.1, q.3, h.loop-c.invariant.1, omega (arith, low g.before, at.requires.0.guides))
 
 loop-less : tie.Need-loop-c-smaller invariant-loop decreases-loop
 loop-less c =
@@ -143,7 +143,7 @@ loop-again c =
     let l = low g.before in (
       n.most,
       c.next-c.ensures.scans,
-      walk-again at.requires.0 _ (term-zero at.requires.0 at.requires.1) _ _ _ _ l n h.loop-c.inv.2
+      walk-again at.requires.0 _ (term-zero at.requires.0 at.requires.1) _ _ _ _ l n h.loop-c.invariant.2
           (ap
           (λ (q : ℕ). h.loop-c.dot + get_or at.args.counts.now (cell_at at.args.m (level h) q) 0 * get_or at.args.row.now
           q 0) g.guide-g.ensures),

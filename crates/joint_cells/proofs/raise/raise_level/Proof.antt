@@ -162,7 +162,7 @@ next-requires c κs =
     let h = head g in
     let at = start h in
     let q = scan-asks at.requires.0 in
-    (q.0, q.1, q.3, h.loop-c.inv.1, omega (arith, low g.before, at.requires.0.guides))
+    (q.0, q.1, q.3, h.loop-c.invariant.1, omega (arith, low g.before, at.requires.0.guides))
 
 loop-less : tie.Need-loop-c-smaller invariant-loop decreases-loop
 loop-less c =
@@ -179,14 +179,14 @@ loop-again c =
     let n = c.next-c.ensures.next in (
       n.most,
       c.next-c.ensures.scans,
-      walk-again at.requires.0 _ (term-zero at.requires.0 at.requires.1) _ _ _ _ (low g.before) n h.loop-c.inv.2
+      walk-again at.requires.0 _ (term-zero at.requires.0 at.requires.1) _ _ _ _ (low g.before) n h.loop-c.invariant.2
           (ap
           (λ (q : ℕ). h.loop-c.dot + get_or at.args.counts.now (cell_at at.args.m (level h) q) 0 * get_or at.args.row.now
           q 0) g.guide-g.ensures),
       shift-again at.requires.0 _ _ r _ _ _ (guide-low g) at.requires.2.long (rw (sym g.guide-g.ensures) at n) (moved g)
           (shift-stored (get_or h.loop-c.balance-box r (pos 0)) (pos 2) e.plus_times.result
           (get_or at.args.counts.now (level h * at.args.m + r) 0)
-          (shift-low _ (level h) _ _ _ _ r at.requires.2 (guide-low g) (moved g)) e.plus_times.type-inv e.plus_times.ensures),
+          (shift-low _ (level h) _ _ _ _ r at.requires.2 (guide-low g) (moved g)) e.plus_times.type_inv e.plus_times.ensures),
     )
 
 cast-result : tie.Need-overflow_cast-result invariant-loop decreases-loop

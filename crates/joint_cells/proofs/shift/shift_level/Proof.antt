@@ -106,7 +106,7 @@ next-requires c κs =
     let h = head g in
     let at = start h in
     let q = scan-asks at.requires.0 in
-    (q.0, q.1, q.3, h.loop-c.inv.1, omega (arith, low g.before, at.requires.0.guides))
+    (q.0, q.1, q.3, h.loop-c.invariant.1, omega (arith, low g.before, at.requires.0.guides))
 
 loop-less : tie.Need-loop-c-smaller invariant-loop decreases-loop
 loop-less c =
@@ -126,7 +126,7 @@ loop-again c =
       shift-again at.requires.0 _ _ r _ _ _ (guide-low g) at.requires.1.1.long n (moved g)
           (shift-stored (get_or h.loop-c.balance-box r (pos 0)) (to_z w16 (of_z w16 at.args.by)) e.plus_times.result
           (get_or at.args.counts.now (at.args.level.0 * at.args.m + r) 0)
-          (shift-low _ at.args.level.0 _ _ _ _ r at.requires.1.1 (guide-low g) (moved g)) e.plus_times.type-inv e.plus_times.ensures),
+          (shift-low _ at.args.level.0 _ _ _ _ r at.requires.1.1 (guide-low g) (moved g)) e.plus_times.type_inv e.plus_times.ensures),
     )
 
 returns : tie.Need-returns invariant-loop decreases-loop

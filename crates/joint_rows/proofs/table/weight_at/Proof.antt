@@ -88,7 +88,7 @@ be16-requires c κs = let h =
 returns-2 : tie.Need-returns
 returns-2 c =
     let h = c.requires in
-    (c.be16.ensures ∙ sym (table-own h.1 c.if-plan-eq0.false _ _), omega (arith, c.be16.type-inv))
+    (c.be16.ensures ∙ sym (table-own h.1 c.if-plan-eq0.false _ _), omega (arith, c.be16.type_inv))
 
 pub weight_at_spec : {M : Type 1} → statement M
 weight_at_spec = tie.close (tie.spec apart-requires cast-result mul-result element-copy-out-result returns cast-k mul-k cast-k-2 add-k mul-be16 add-be16 be16-requires returns-2)

@@ -38,7 +38,7 @@ lower v =
     let h = e.before.before in
     let at = start h in
     step_down at.requires.0.0 at.requires.0.1 h.loop-i.i (to_z w32 h.loop-i.b) e.level_weight.result v.step_balance-lower.result
-    e.loop-i-test.true (inside e.before) h.loop-i.invariant.1 e.level_weight.ensures v.step_balance-lower.type-inv
+    e.loop-i-test.true (inside e.before) h.loop-i.invariant.1 e.level_weight.ensures v.step_balance-lower.type_inv
     v.step_balance-lower.ensures
 
 loop-holds : tie.Need-loop-i-init invariant-loop decreases-loop

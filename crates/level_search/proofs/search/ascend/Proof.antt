@@ -49,7 +49,7 @@ after_block : (c : tie.After-total-sum invariant-loop decreases-loop)
     ((head c.before.before).loop-i.i + 16)
     (tally ((head c.before.before).loop-i.count + c.total-count.result) ((head c.before.before).loop-i.sum + c.total-sum.result))
 after_block c =
-    tally-block c.total-count.result c.total-sum.result (head c.before.before).loop-i.inv.tally c.total-count.ensures
+    tally-block c.total-count.result c.total-sum.result (head c.before.before).loop-i.invariant.tally c.total-count.ensures
     c.total-sum.ensures
 
 -- ---- a level
@@ -99,7 +99,7 @@ add-count : tie.Need-overflow_add-count invariant-loop decreases-loop
 add-count c =
     let h = head c.before in
     omega
-    (arith, c.total-count.ensures, h.loop-i.inv.tally.count, (start h).requires.0.0.cells.count_high (h.loop-i.i + 16) (is-light c.before).whole)
+    (arith, c.total-count.ensures, h.loop-i.invariant.tally.count, (start h).requires.0.0.cells.count_high (h.loop-i.i + 16) (is-light c.before).whole)
 
 total-requires-2 : tie.Need-total-sum-requires invariant-loop decreases-loop
 total-requires-2 c κs =
@@ -114,7 +114,7 @@ add-sum c =
     omega (
       arith,
       c.total-sum.ensures,
-      h.loop-i.inv.tally.sum,
+      h.loop-i.invariant.tally.sum,
       (start h).requires.0.0.cells.sum_high (h.loop-i.i + 16)
           (is-light c.before.before).whole,
     )
@@ -173,7 +173,7 @@ sub-ended c = c.loop-i.invariant.from_low
 
 add-ended : tie.Need-overflow_add-shifts invariant-loop decreases-loop
 add-ended c = let h =
-    c.before.before.before.before.before.before in omega (arith, h.loop-i.inv.to, (start h).requires.0.0.cells.levels, (start h).requires.1.0.1)
+    c.before.before.before.before.before.before in omega (arith, h.loop-i.invariant.to, (start h).requires.0.0.cells.levels, (start h).requires.1.0.1)
 
 ended-requires : tie.Need-ended-requires invariant-loop decreases-loop
 ended-requires c κs = tt

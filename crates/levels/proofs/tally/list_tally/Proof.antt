@@ -39,7 +39,7 @@ mul-f-2 c = omega (arith, turn_low c.before)
 
 shared-slice-read-f-2 : tie.Need-bounds-p-next invariant-loop decreases-loop
 shared-slice-read-f-2 c = let t =
-    c.before.before in (places-in t.args.p.now t.loop-k.k t.loop-k-test.taken).1
+    c.before.before in (places-in t.args.p.now t.loop-k.k t.loop-k-test.true).1
 
 cast_f : tie.Need-overflow_cast-f invariant-loop decreases-loop
 cast_f c = let t = c.before.before in omega (arith, t.requires.guide t.loop-k.k t.loop-k-test.true)

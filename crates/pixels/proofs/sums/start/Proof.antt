@@ -59,8 +59,8 @@ turn r = r.before.before.before
 
 listed : (r : tie.After-read-p invariant-loop decreases-loop) → let at =
     begin (turn r).before in LinePixels at.args.file.now [] at.args.plan (line r).column_line-line.result
-    (take (r.read-p.result - 0) (drop 0 r.read-p.new.1.1.1.0))
-listed r = line-part r.read-p.result r.read-p.new.1.1.1.0 r.read-p.ensures.1
+    (take (r.read-p.result - 0) (drop 0 r.read-p.new.places))
+listed r = line-part r.read-p.result r.read-p.new.places r.read-p.ensures.1
 
 abbrev read_at : tie.After-list_sums-a invariant-loop decreases-loop → tie.After-read-p invariant-loop decreases-loop
 read_at g = g.before.before.before
@@ -71,7 +71,7 @@ sums-room : (g : tie.After-list_sums-a invariant-loop decreases-loop) → ((turn
     ((turn (read_at g)).loop-k.squares + g.list_sums-a.result.squares ≤ 62489025)
 sums-room g =
     let r = read_at g in
-    let v = (turn r).loop-k.inv.1 in
+    let v = (turn r).loop-k.invariant.1 in
     let e = g.list_sums-a.ensures in
     let l = (listed r).below.few in (
       omega (arith, few (turn r), v.count_high, e.count_high, l),
@@ -128,14 +128,14 @@ add-k : tie.Need-overflow_add-k invariant-loop decreases-loop
 add-k c = omega (arith, few (turn (read_at c.before.before.before)))
 
 loop-less : tie.Need-loop-k-smaller invariant-loop decreases-loop
-loop-less c = omega (arith, (turn (read_at c.before.before.before)).loop-k-test.taken)
+loop-less c = omega (arith, (turn (read_at c.before.before.before)).loop-k-test.true)
 
 loop-again : tie.Need-loop-k-preserved invariant-loop decreases-loop
 loop-again c =
     let g = c.before.before.before in
     let r = read_at g in (
-      omega (arith, (turn r).loop-k-test.taken),
-      columns-next (turn r).loop-k.inv.1 (line r).column_line-line.ensures (listed r) g.list_sums-a.ensures,
+      omega (arith, (turn r).loop-k-test.true),
+      columns-next (turn r).loop-k.invariant.1 (line r).column_line-line.ensures (listed r) g.list_sums-a.ensures,
     )
 
 returns : tie.Need-returns invariant-loop decreases-loop

@@ -78,21 +78,21 @@ coarse-count e = e.filter_by-coarse.ensures.shifts
 
 -- after the rows, after the line of the joint way, and after those of the ways of kind 2
 picture : (e : tie.After-put_rows-ways) →
-    Puts (before-rows e).args.out.now e.put_rows-ways.new.0 0 e.put_rows-ways.result (size (before-rows e) ++ lines (before-rows e))
+    Puts (before-rows e).args.out.now e.put_rows-ways.new.out 0 e.put_rows-ways.result (size (before-rows e) ++ lines (before-rows e))
 picture e =
     let m = e.filter_by-joint.ensures in
     joined e.put_size-below.ensures
     (called (plane-text (before-rows e).requires.0.planned _ m.plane) e.put_rows-ways.ensures)
 
 joint-line : (e : tie.After-put_way-next) →
-    Puts (before-joint e).args.out.now e.put_way-next.new.0 0 e.put_way-next.result
+    Puts (before-joint e).args.out.now e.put_way-next.new.out 0 e.put_way-next.result
     (size (before-joint e) ++ lines (before-joint e) ++ joint (before-joint e))
 joint-line e =
     let m = joint-count e.before.before.before.before.before.before.before.before.before.before.before.before.before in
     joined (picture e.before.before.before.before.before.before) (called (ap (way_text joint_word) m) e.put_way-next.ensures)
 
 guided-lines : (e : tie.After-put_guided-last) →
-    Puts (before-guided e).args.out.now e.put_guided-last.new.0 0 e.put_guided-last.result
+    Puts (before-guided e).args.out.now e.put_guided-last.new.out 0 e.put_guided-last.result
     (size (before-guided e) ++ lines (before-guided e) ++ joint (before-guided e) ++ guided (before-guided e))
 guided-lines e = joined (joint-line e.before.before.before.before.before) e.put_guided-last.ensures
 
@@ -138,7 +138,7 @@ put-way-requires-2 c κs =
     let e = c.before.before.before.before.before.before in
     let s = before-guided e in
     let m = coarse-count c.before.before.before in
-    subst (λ (n : ℕ). TextRoom e.put_guided-last.new.0 e.put_guided-last.result (way_text coarse_word n)) (sym m)
+    subst (λ (n : ℕ). TextRoom e.put_guided-last.new.out e.put_guided-last.result (way_text coarse_word n)) (sym m)
     (room_next (coarse s) (room-all s) (guided-lines e))
 
 same_length : tie.Need-shape_of-out

@@ -40,7 +40,7 @@ both d = let s = begun d in rw (guided-both s.args.plan.kind (shift_count Joint 
 
 columns : (e : tie.After-put_way-next) →
     let s = begun e.before.before.before.before.before.before in
-    Puts s.args.out.now e.put_way-next.new.0 s.args.at e.put_way-next.result (first s)
+    Puts s.args.out.now e.put_way-next.new.out s.args.at e.put_way-next.result (first s)
 columns e = called (ap (way_text columns_word) (columns-count e.before.before.before.before)) e.put_way-next.ensures
 
 returns : tie.Need-returns-then-plan-ne2

@@ -35,7 +35,7 @@ returns c =
     let pl = st.requires.0.0 in
     let w =
     weighs pl st.requires.0.1 st.requires.1.0 st.requires.1.1 st.requires.1.2
-    (c.guide_at-centre.ensures ∙ (facts pl).guide_at-centre st.args.s st.args.t)
+    (c.guide_at-centre.ensures ∙ (facts pl).guide-at st.args.s st.args.t)
     c.from_sums.ensures in
     (w, coefficients-small pl st.requires.0.1 w st.requires.1.0 st.requires.1.1)
 

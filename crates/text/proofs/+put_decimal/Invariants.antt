@@ -1,0 +1,6 @@
+-- The measure of `text::put_decimal` is the number, of which a tenth is left at the call.
+-- Assumes nothing.
+use Rattle.text.proofs.+put_decimal.Given as goal
+
+abbrev pub decreases-put_decimal : goal.decreases-put_decimal
+decreases-put_decimal l = l.n
