@@ -56,7 +56,7 @@ loop-less c = omega (arith, c.loop-k-test.true)
 loop-again : tie.Need-loop-k-preserved invariant-loop decreases-loop
 loop-again c =
     let t = c.before.before in
-    let h = t.before in
+    let h = t.before.before in
     let w = c.weight_at.ensures in (
       omega (arith, t.loop-k-test.true),
       made-next h.loop-k.k _ (omega arith) (omega (arith, t.loop-k-test.true, guides_high (start h).requires.0, h.loop-k.invariant.3)) w.0

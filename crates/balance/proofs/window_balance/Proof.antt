@@ -111,7 +111,7 @@ part-line-balance-end : tie.Need-slice_bounds-line_balance-end invariant-loop de
 part-line-balance-end c = search rules
 
 line-balance-requires : tie.Need-line_balance-requires invariant-loop decreases-loop
-line-balance-requires c κs = let r = c.before.before.before in pixels-weighed (start (turn r).before).requires (listed r)
+line-balance-requires c κs = let r = c.before.before in pixels-weighed (start (turn r).before).requires (listed r)
 
 add-requires : tie.Need-add-sum-requires invariant-loop decreases-loop
 add-requires c κs =

@@ -71,7 +71,7 @@ slice-aggregate-read : tie.Need-slice_bounds-read-end
 slice-aggregate-read c = search rules
 
 read-requires : tie.Need-read-n-requires
-read-requires c κs = let d = c.before in let at =
+read-requires c κs = let d = c.before.before in let at =
     begin d in (at.requires.0.0, (step_in at.requires.0.0 at.requires.1.0.1 d.step_to-step.ensures).entering-1, omega arith)
 
 slice-aggregate-read-2 : tie.Need-slice_bounds-read-end-2
@@ -103,7 +103,7 @@ part-moved-end-2 c = search rules
 
 moved-requires : tie.Need-moved-sums-requires
 moved-requires c κs =
-    let r = c.before.before.before.before.before.before.before.before.before in
+    let r = c.before.before.before.before.before.before.before in
     let d = step (first r) in
     let at = begin d in
     let pl = at.requires.0.0 in (
@@ -139,7 +139,7 @@ slide-requires c κs =
 
 answer-at-requires : tie.Need-answer_at-requires
 answer-at-requires c κs =
-    let n = c.before.before.before in
+    let n = c.before.before in
     let at = begin (step (first (both (carried n)))) in
     let k = both-in at.requires.1.0.1 in
     (at.requires.0, ((k.2, k.3, at.requires.1.0.0.shifts), (summed (carried n), (stored n).listed)))
@@ -149,7 +149,7 @@ same_length c = c.slide-free.auto.1.1.1.0
 
 returns : tie.Need-returns
 returns c =
-    let n = c.before.before.before.before in
+    let n = c.before.before.before in
     let e = c.answer_at.ensures in
     chain-visited _ _ _ _ _ _ _ _ _ _ _ e.0 (e.1, e.2) (summed (carried n)) (stored n)
 

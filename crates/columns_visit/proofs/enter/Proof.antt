@@ -82,7 +82,7 @@ answered-requires : tie.Need-answered-requires
 answered-requires c κs = search rules
 
 same-length-2 : tie.Need-shape_of-blocks
-same-length-2 c = let r = c.before.before.before.before.before.before in (storing (summing r)).start.auto.1.1.0
+same-length-2 c = let r = c.before.before.before.before.before in (storing (summing r)).start.auto.1.1.0
 
 returns-2 : tie.Need-returns
 returns-2 c =

@@ -99,7 +99,7 @@ slice-aggregate-read c = search rules
 
 read-requires : tie.Need-read-n-requires
 read-requires c κs =
-    let d = c.before in
+    let d = c.before.before in
     let at = begin d in
     (at.requires.0.0, (step_in at.requires.0.0 at.requires.1.0.1 d.step_to-step.ensures).entering-1, omega arith)
 
@@ -132,7 +132,7 @@ part-moved-end-2 c = search rules
 
 moved-requires : tie.Need-moved-present-requires
 moved-requires c κs =
-    let r = c.before.before.before.before.before.before.before.before.before in
+    let r = c.before.before.before.before.before.before.before in
     let d = step (first r) in
     let at = begin d in
     let pl = at.requires.0.0 in (
@@ -211,7 +211,7 @@ carried-where-requires c κs =
 
 answer-from-requires : tie.Need-answer_from-found-requires
 answer-from-requires c κs =
-    let t = c.before in
+    let t = c in
     let m = steady t in
     let w = m.before in
     let n = moved_on w in
@@ -235,7 +235,7 @@ answered-requires : tie.Need-answered-requires
 answered-requires c κs = search rules
 
 same-length-2 : tie.Need-shape_of-blocks
-same-length-2 c = let t = c.before.before.before.before.before in (moved_on (steady t).before).slide.auto.1.1.0
+same-length-2 c = let t = c.before.before.before.before in (moved_on (steady t).before).slide.auto.1.1.0
 
 returns-2 : tie.Need-returns
 returns-2 c =

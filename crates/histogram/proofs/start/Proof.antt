@@ -93,7 +93,7 @@ part-change-pixels-end c = search rules
 
 change-pixels-requires : tie.Need-change_pixels-requires invariant-loop decreases-loop
 change-pixels-requires c κs =
-    let r = c.before.before.before.before in
+    let r = c.before.before.before in
     let h = (turn r).before in
     fill-asks (begin h).requires.0.0 h.loop-k.invariant.1 (line r).column_line-line.ensures (listed r) (few (turn r))
 
@@ -106,7 +106,7 @@ loop-less c = omega (arith, (turn c.before.before.before.before.before.before).l
 loop-again : tie.Need-loop-k-preserved invariant-loop decreases-loop
 loop-again c =
     let g = c.before.before in
-    let r = g.before.before.before.before.before in
+    let r = g.before.before.before.before in
     let h = (turn r).before in (
       omega (arith, (turn r).loop-k-test.true),
       filled_next (begin h).requires.0.0 h.loop-k.invariant.1 (line r).column_line-line.ensures (listed r) g.change_pixels.auto.1.1.1.0

@@ -24,7 +24,7 @@ start-requires-2 c κs = let k = (begin c.before.before).requires.0.0 in (k.pict
 
 tally-below-requires : tie.Need-tally_below-below-requires
 tally-below-requires c κs =
-    let h = c.before.before.before.before in
+    let h = c.before.before.before in
     let at = begin h in
     let k = at.requires.0.0 in
     let v = h.start.ensures in (

@@ -136,7 +136,7 @@ slice-aggregate-read-in c = search rules
 
 read-in-requires : tie.Need-read_in-n-requires
 read-in-requires c κs =
-    let d = c.before in
+    let d = c.before.before in
     let at = begin d in
     (at.requires.0.0.pictured, (step_in at.requires.0.0.pictured at.requires.0.1 d.step_to-step.ensures).entering-1, omega arith)
 
@@ -145,7 +145,7 @@ slice-aggregate-read-in-2 c = search rules
 
 read-in-requires-2 : tie.Need-read_in-k-requires
 read-in-requires-2 c κs =
-    let d = c.before.before.before.before in
+    let d = c.before.before.before.before.before.before in
     let at = begin d in
     (at.requires.0.0.pictured, (step_in at.requires.0.0.pictured at.requires.0.1 d.step_to-step.ensures).leaving-1, omega arith)
 
@@ -175,7 +175,7 @@ part-exchange-end-2 c = search rules
 
 exchange-requires : tie.Need-exchange-requires
 exchange-requires c κs =
-    let k = c.before.before.before.before.before.before.before in
+    let k = c.before.before.before.before.before in
     let r = lists k in
     let d = step (first r) in
     joint.exchange-asks (held k) (begin d).requires.0.1 d.step_to-step.ensures (enters r) (leaves r)
@@ -196,7 +196,7 @@ sub-moved-2 c = search rules
 
 moved-requires : tie.Need-moved-a-requires
 moved-requires c κs =
-    let i = c.before.before.before.before.before.before.before in
+    let i = c.before.before.before.before.before in
     let r = both (stored i) in
     let d = step (first r) in
     let pl = (begin d).requires.0.0.pictured in (
@@ -238,7 +238,7 @@ histogram-is h =
 -- way 4
 arrive-by-blocks-requires : tie.Need-arrive_by_blocks-requires
 arrive-by-blocks-requires c κs =
-    let h = c.before.before.before.before in
+    let h = c.before.before.before in
     let i = kind (summed h) in
     let at = opened (both (stored i)) in
     let none = at.requires.1.3 i.if-plan-eq2.true in
@@ -397,7 +397,7 @@ sub-count c = enough c.before
 
 visit-requires : tie.Need-visit-requires
 visit-requires c κs =
-    let f = c.before.before.before.before in
+    let f = c.before.before in
     let x = told f in
     let at = opened (both x) in
     let one = kind-table at.requires.0.0.pictured f.if-plan-eq2.false in (
@@ -418,7 +418,7 @@ same-length-8 c = search rules
 
 returns-3 : tie.Need-returns
 returns-3 c =
-    let f = c.before.before.before.before.before in
+    let f = c.before.before.before in
     let x = told f in
     let at = opened (both x) in
     let pl = at.requires.0.0.pictured in

@@ -34,14 +34,14 @@ accepts d = quiet d.open_plan-o.ensures.0 d.stops.ensures d.if-stops.false
 
 picture : (d : tie.After-too_large) → d.too_large.result ≡ too_large (settings_of (bytes d.before.before))
 picture d =
-    let e = d.before in
+    let e = d.before.before in
     d.too_large.ensures ∙ picture-test (bytes e) (e.open_plan-o.ensures.1 ∙ plan-opened (bytes e) (accepts e))
 
 too-large-requires : tie.Need-too_large-requires
 too-large-requires c κs = search rules
 
 returns-2 : tie.Need-returns-then-too_large
-returns-2 c = let e = c.before.before in past (verdict (bytes e)) (of-picture (bytes e)) (accepts e) (met 12 (picture c.before) c.if-too_large.true)
+returns-2 c = let e = c.before.before.before in past (verdict (bytes e)) (of-picture (bytes e)) (accepts e) (met 12 (picture c.before) c.if-too_large.true)
 
 returns-3 : tie.Need-returns
 returns-3 c = let e =

@@ -28,17 +28,17 @@ ended s = simp length-append (omega (arith, simp length-append at s.requires))
 
 put-word-requires : tie.Need-put_word-second-requires
 put-word-requires c κs =
-    let s = c.before.before.before in
+    let s = c.before.before.before.before in
     room-first s.args.out.now s.args.at refused_word (decimal s.args.number) (head s)
 
 put-decimal-requires : tie.Need-put_decimal-third-requires
 put-decimal-requires c κs =
-    let s = c.before.before.before.before.before.before.before in
+    let s = c.before.before.before.before.before.before.before.before in
     room_next (decimal s.args.number) (head s) c.put_word-second.ensures
 
 put-byte-requires : tie.Need-put_byte-requires
 put-byte-requires c κs =
-    let s = c.before.before.before.before.before.before.before.before.before.before.before.before in
+    let s = c.before.before.before.before.before.before.before.before.before.before.before.before.before in
     room-end (ended s) c.put_word-second.ensures
     c.put_decimal-third.ensures
 

@@ -114,7 +114,7 @@ part-add-pixels-end c = search rules
 
 add-pixels-requires : tie.Need-add_pixels-line_total-requires invariant-loop decreases-loop
 add-pixels-requires c κs =
-    let r = c.before.before.before.before in
+    let r = c.before.before.before in
     let h = (turn r).before in
     let at = start h in
     let q = list-asks (2 ^ at.args.bits) at.requires.0.0 at.requires.0.1 (listed r) h.loop-k.invariant.1 at.requires.1.1 (few (turn r)) in

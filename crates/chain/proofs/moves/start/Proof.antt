@@ -130,7 +130,7 @@ part-merge-line-end c = search rules
 
 merge-line-requires : tie.Need-merge_line-next-requires invariant-loop decreases-loop
 merge-line-requires c κs =
-    let r = c.before.before.before.before in
+    let r = c.before.before.before in
     let h = (turn r).before in
     let at = start h in
     columns-insertable at.requires.0 _ _ at.requires.1.0.0 at.requires.1.0.1 (within (turn r)) (line-is r) (listed r) h.loop-k.invariant.0

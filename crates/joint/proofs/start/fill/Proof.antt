@@ -70,7 +70,7 @@ part-change-pixels-end c = search rules
 
 change-pixels-requires : tie.Need-change_pixels-requires invariant-loop decreases-loop
 change-pixels-requires c κs =
-    let r = c.before.before.before.before.before.before in
+    let r = c.before.before.before.before.before in
     let h = (turn r).before in
     let at = start h in
     fill-asks at.requires.0.0 at.requires.0.1 (turn r).loop-k-test.true h.loop-k.invariant.1 (line r).column_line-line.ensures (listed r)
@@ -86,7 +86,7 @@ loop-less c = omega (arith, (turn c.before.before.before.before.before.before.be
 loop-again : tie.Need-loop-k-preserved invariant-loop decreases-loop
 loop-again c =
     let g = c.before.before.before.before in
-    let r = g.before.before.before.before.before.before.before in
+    let r = g.before.before.before.before.before.before in
     let h = (turn r).before in
     let at = start h in (
       omega (arith, (turn r).loop-k-test.true),

@@ -113,7 +113,7 @@ part-list-sums-end : tie.Need-slice_bounds-list_sums-end invariant-loop decrease
 part-list-sums-end c = search rules
 
 list-sums-requires : tie.Need-list_sums-a-requires invariant-loop decreases-loop
-list-sums-requires c κs = let r = c.before.before.before in below-most (begin (turn r).before).requires.0 (listed r).below
+list-sums-requires c κs = let r = c.before.before in below-most (begin (turn r).before).requires.0 (listed r).below
 
 add-count : tie.Need-overflow_add-count invariant-loop decreases-loop
 add-count c = omega (arith, (sums-room c.before).0)

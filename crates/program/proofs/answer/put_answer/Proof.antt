@@ -59,7 +59,7 @@ abbrev before-rows : tie.After-put_rows-ways → tie.Start
 before-rows e = e.before.before.before.before.before.before.before.before.before.before.before
 
 abbrev before-joint : tie.After-put_way-next → tie.Start
-before-joint e = before-rows e.before.before.before.before.before.before.before.before.before.before.before.before.before.before.before.before.before.before.before
+before-joint e = before-rows e.before.before.before.before.before.before
 
 abbrev before-guided : tie.After-put_guided-last → tie.Start
 before-guided e = before-joint e.before.before.before.before.before
@@ -119,7 +119,7 @@ put-rows-requires c κs =
 
 put-way-requires : tie.Need-put_way-next-requires
 put-way-requires c κs =
-    let e = c.before.before.before.before in
+    let e = c.before.before.before.before.before in
     let s = before-rows e in
     let m = joint-count c.before.before.before.before.before.before.before.before.before.before.before.before in
     rw m (room_next (joint s) (room-three s) (picture e))
@@ -135,7 +135,7 @@ filter-by-requires-2 c κs = record { plan = _; admitted = (before-guided c.befo
 
 put-way-requires-2 : tie.Need-put_way-requires
 put-way-requires-2 c κs =
-    let e = c.before.before.before.before.before.before in
+    let e = c.before.before.before.before.before.before.before in
     let s = before-guided e in
     let m = coarse-count c.before.before.before in
     subst (λ (n : ℕ). TextRoom e.put_guided-last.new.out e.put_guided-last.result (way_text coarse_word n)) (sym m)
@@ -146,7 +146,7 @@ same_length c = search rules
 
 returns : tie.Need-returns
 returns c =
-    let e = c.before.before.before.before.before.before.before.before.before in
+    let e = c.before.before.before.before.before.before.before.before.before.before in
     let m = coarse-count c.before.before.before.before.before.before in
     called (sym (whole (before-guided e).requires.0.planned))
     (joined (guided-lines e) (called (ap (way_text coarse_word) m) c.put_way.ensures))

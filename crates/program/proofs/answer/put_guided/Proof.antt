@@ -55,30 +55,30 @@ filter-by-requires c κs =
 
 put-way-requires : tie.Need-put_way-next-requires
 put-way-requires c κs =
-    let d = c.before.before.before.before in
+    let d = c.before.before.before.before.before in
     let s = begun d in
     rw (columns-count c.before.before.before) (room-first s.args.out.now s.args.at (first s) (second s) (both d))
 
 filter-by-requires-2 : tie.Need-filter_by-chain-requires
 filter-by-requires-2 c κs =
-    let d = c.before.before.before.before.before.before.before.before in
+    let d = c.before.before.before.before.before.before.before.before.before in
     record { plan = _; admitted = (begun d).requires.0; serving = inr (inr refl, d.if-plan-ne2.false) }
 
 put-way-requires-2 : tie.Need-put_way-requires
 put-way-requires-2 c κs =
-    let d = c.before.before.before.before.before.before.before.before.before.before.before in
+    let d = c.before.before.before.before.before.before.before.before.before.before.before.before.before in
     let s = begun d in
-    rw (chain-count c.before.before.before) (room_next (second s) (both d) (columns c.before.before.before.before.before.before))
+    rw (chain-count c.before.before.before) (room_next (second s) (both d) (columns c.before.before.before.before.before.before.before))
 
 same_length : tie.Need-shape_of-out
 same_length c = search rules
 
 returns-2 : tie.Need-returns
 returns-2 c =
-    let d = c.before.before.before.before.before.before.before.before.before.before.before.before.before.before in
+    let d = c.before.before.before.before.before.before.before.before.before.before.before.before.before.before.before.before in
     let s = begun d in
     called (sym (guided-both s.args.plan.kind (shift_count Joint s.args.input.now) d.if-plan-ne2.false))
-    (joined (columns c.before.before)
+    (joined (columns c.before.before.before.before.before.before.before.before.before.before)
     (called (ap (way_text chain_word) (chain-count c.before.before.before.before.before.before)) c.put_way.ensures))
 
 pub put_guided_spec : {M : Type 1} → statement M
