@@ -1,4 +1,6 @@
 // Document 01's balance of a window at any level, 2U(i) - T, from the file alone: no stores, one pass over the window's pixels in 64 bits.
+#![tactic(auto)]
+
 pub mod formula;
 
 ghost use Rattle.std.specs.Prelude.{◌≡◌, false, ◌<◌, ◌≤◌, eqb, pos, nat_abs, ◌+ℤ◌, ◌*ℤ◌, length};

@@ -1,4 +1,6 @@
 // Numbers of a file, high byte first; an inner layer: the caller has made sure that the bytes are there.
+#![tactic(auto)]
+
 ghost use Rattle.std.specs.Prelude.{◌≡◌, ◌+◌, ◌<◌, length};
 ghost use Rattle.spec.specs.Bytes.{be16, be32};
 

@@ -1,5 +1,7 @@
 // Up to 64 numbers of a file at once, in two turns: the bytes copied as they stand into a short array, and then each number's two exchanged. The
 // compiler does each turn for many numbers at a time and keeps them in registers, which it does not where a number is read high byte first.
+#![tactic(auto)]
+
 ghost use Rattle.std.specs.Prelude.{◌≡◌, ◌+◌, ◌*◌, ◌≤◌, length};
 ghost use Rattle.big_endian_part.specs.Part.{Made, low_first, exchanged};
 

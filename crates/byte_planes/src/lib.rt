@@ -1,5 +1,7 @@
 // Document 02, ask 8: a frame's value plane with its high bytes first and its low bytes after, which an archive packs better; and back. Every other
 // byte is copied. Any bytes are taken; a refusal changes no byte of the output.
+#![tactic(auto)]
+
 ghost use Rattle.std.specs.Prelude.{◌≡◌, ◌+◌, ◌≤◌};
 ghost use Rattle.spec.specs.Refusal.{numbered, ◌▷◌, refuse};
 ghost use Rattle.spec.specs.Frame.{plan_of};

@@ -1,5 +1,7 @@
 // The bytes of a file moved into an output: those of a plane split into byte planes, or joined again, the others copied to where they stand. The
 // caller makes sure that there is room.
+#![tactic(auto)]
+
 ghost use Rattle.std.specs.Prelude.{◌≡◌, ◌++◌, ◌+◌, ◌*◌, ◌-◌, ◌<◌, ◌≤◌, length, take, drop};
 ghost use Rattle.std.proofs.lemmas.List.Edits.{sets};
 ghost use Rattle.spec.specs.BytePlanes.{split_plane, joined_plane};

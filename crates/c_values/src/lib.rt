@@ -1,5 +1,7 @@
 // The numbers that the calls for C take and give: a status (0, or document 01's number), an offset with number 7 alone, results that a refusal leaves
 // as they were, and settings of 32-bit numbers.
+#![tactic(auto)]
+
 ghost use Rattle.std.specs.Prelude.{◌≡◌, min};
 ghost use Rattle.spec.specs.Refusal.{numbered};
 ghost use Rattle.c_values.specs.Results.{given, Reported, cause_number, lent_grounds, GroundsGiven};

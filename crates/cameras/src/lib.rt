@@ -1,6 +1,8 @@
 // Document 02, ask 9: one call over up to eight files, end to end in one buffer, which share the grants of control periods. Whose turn it is depends
 // on the files' sizes and the limits alone, and a file's parts on the file and its tally alone. So the grants are counted first, and then each file
 // is walked as far as its own grants reach: one walk's box and histogram serve all files, and no grant moves any state of a camera.
+#![tactic(auto)]
+
 ghost use Rattle.std.specs.Prelude.{◌≡◌, ◌≤◌};
 ghost use Rattle.spec.specs.Refusal.{accepted};
 ghost use Rattle.spec.specs.Checks.{verdict};

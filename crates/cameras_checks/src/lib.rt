@@ -1,4 +1,6 @@
 // The checks of the call over up to eight files, in document 02's order: 15, then 1 to 7 file by file, then 11; and what they find on the way.
+#![tactic(auto)]
+
 ghost use Rattle.std.specs.Prelude.{◌≡◌, ◌≤◌, ◌<◌, eqb, length};
 ghost use Rattle.spec.specs.Frame.{settings_in};
 ghost use Rattle.spec.specs.Checks.{SettingsLimits};

@@ -1,5 +1,7 @@
 // The nodes of way 3's store of 32-bit numbers, one at a time. Place 0 holds the first node's number; node j has its level, count, guide sum and next
 // node at 4j - 3, 4j - 2, 4j - 1 and 4j. Node 0 stands for the start: its next is place 0, so the first node is linked like any other.
+#![tactic(auto)]
+
 ghost use Rattle.std.specs.Prelude.{◌≡◌, true, false, ◌+◌, ◌*◌, ◌<◌, ◌≤◌, length};
 ghost use Rattle.chain_nodes.specs.Nodes.{node_level, node_pixels, node_guides, raised, lowered, linked, unlinked, freed};
 

@@ -1,4 +1,6 @@
 // Way 3 at a window of a walk: its list and its sums made or moved, its answer, the cut point after it, and the shift count.
+#![tactic(auto)]
+
 ghost use Rattle.std.specs.Prelude.{◌≡◌, ◌<◌, ◌≤◌, length};
 ghost use Rattle.spec.specs.Base.{if◌then◌else◌, distance};
 ghost use Rattle.spec.specs.Checks.{Planned};

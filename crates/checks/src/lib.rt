@@ -1,4 +1,6 @@
 // Checks 8 to 11, after those of the file, in document 01's order: what each call answers. They read settings alone, no file and no store.
+#![tactic(auto)]
+
 ghost use Rattle.std.specs.Prelude.{◌≡◌};
 ghost use Rattle.spec.specs.Refusal.{numbered};
 ghost use Rattle.spec.specs.Calls.{walk_checks, filter_checks, balance_checks, explain_checks};

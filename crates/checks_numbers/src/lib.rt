@@ -1,4 +1,6 @@
 // Checks 8 and 9, of plain numbers: a way's, and a pixel's. They read settings alone, no file and no store.
+#![tactic(auto)]
+
 ghost use Rattle.std.specs.Prelude.{◌≡◌};
 ghost use Rattle.spec.specs.Calls.{bad_way, bad_pixel};
 ghost use Rattle.spec.specs.Frame.{settings_in};

@@ -1,4 +1,6 @@
 // Check 11: how much of each store a way uses, and whether what is lent is enough.
+#![tactic(auto)]
+
 ghost use Rattle.std.specs.Prelude.{◌≡◌};
 ghost use Rattle.spec.specs.Calls.{way_of, joint_room, numbers_room, room_of, lacks, short};
 ghost use Rattle.spec.specs.Checks.{SettingsLimits};

@@ -1,4 +1,6 @@
 // Way 2 at a window of a walk: its store and its sums made or moved, its answer, the cut point after it, and the shift count.
+#![tactic(auto)]
+
 ghost use Rattle.std.specs.Prelude.{◌≡◌, ◌+◌, ◌*◌, ◌<◌, ◌≤◌, length};
 ghost use Rattle.spec.specs.declared.Way.TheVariants.{Columns};
 ghost use Rattle.spec.specs.Base.{if◌then◌else◌, distance};

@@ -1,5 +1,7 @@
 // Why a window has its answer (document 02), from the file alone: its weights gathered by level in one pass, then the levels from 0 on until they
 // reach half. No store is lent: the sums of 1,024 levels are in an array here.
+#![tactic(auto)]
+
 ghost use Rattle.std.specs.Prelude.{◌≡◌, false, ◌<◌};
 ghost use Rattle.spec.specs.Frame.{frame_of};
 ghost use Rattle.spec.specs.Checks.{Planned};

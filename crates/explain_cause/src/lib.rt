@@ -1,4 +1,6 @@
 // The cause of a window with a reading (document 02): from how it is counted, and the signs of what the two ends of the guides weigh.
+#![tactic(auto)]
+
 ghost use Rattle.std.specs.Prelude.{◌≡◌, ◌-◌, ◌<◌, ◌≤◌, length};
 ghost use Rattle.balance.specs.Formula.{FormulaInBounds, FormulaFits, weight_by};
 ghost use Rattle.explain_cause.specs.Cause.{cause_by};

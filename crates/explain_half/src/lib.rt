@@ -1,4 +1,6 @@
 // The lowest of some levels at which their weights reach half of a total: the search of an explanation, over a list of one sum for each level.
+#![tactic(auto)]
+
 ghost use Rattle.std.specs.Prelude.{◌≡◌, true, ◌<◌, length};
 ghost use Rattle.explain_half.specs.Half.{SumsSmall, Vacant, HalfInReach, HalfReached};
 

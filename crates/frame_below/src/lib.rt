@@ -1,6 +1,8 @@
 // Check 7 sped up: how many numbers of a plane, values or not, are from its first on surely below a limit, as the check judges them. They are looked
 // at 64 at a time, which the compiler takes many at a time: those of a file by their bits, and by the largest of them where the bits do not tell.
 // Where that is too large the check goes on one by one, so nothing more is promised.
+#![tactic(auto)]
+
 ghost use Rattle.std.specs.Prelude.{◌≡◌, false, ◌+◌, ◌*◌, ◌≤◌, length, get_or};
 ghost use Rattle.spec.specs.Checks.{judged};
 ghost use Rattle.spec.specs.Frame.{plane};

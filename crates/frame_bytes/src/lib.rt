@@ -1,5 +1,7 @@
 // The bytes of a file, high byte first, stored into the lent output itself from a place on: a byte, numbers of two and of four bytes, planes. Every
 // byte that the writer writes goes through `put8`. The caller makes sure that there is room.
+#![tactic(auto)]
+
 ghost use Rattle.std.specs.Prelude.{◌≡◌, ◌+◌, ◌*◌, ◌<◌, ◌≤◌, length, [], ◌∷◌};
 ghost use Rattle.std.proofs.lemmas.List.Edits.{sets};
 ghost use Rattle.spec.specs.Bytes.{to16, to32, all16};

@@ -1,4 +1,6 @@
 // Check 7: every value and guide of a file below its limit, but for the value that says there is no reading. A weight may be any number.
+#![tactic(auto)]
+
 ghost use Rattle.std.specs.Prelude.{◌≡◌, ◌+◌, ◌*◌, ◌≤◌, length, [], ◌∷◌};
 ghost use Rattle.spec.specs.Refusal.{refused, numbered};
 ghost use Rattle.spec.specs.Checks.{scan_file, contents};

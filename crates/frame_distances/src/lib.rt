@@ -1,4 +1,6 @@
 // Check 6 of a trailer's numbers: whether the planes and the table lie before it. No bytes are read here.
+#![tactic(auto)]
+
 ghost use Rattle.std.specs.Prelude.{◌≡◌, ◌*◌, ◌<◌};
 ghost use Rattle.spec.specs.Frame.{pixels, table_size};
 ghost use Rattle.spec.specs.Checks.{bad_distance};

@@ -1,4 +1,6 @@
 // Checks 2 to 5 of a trailer's numbers: no bytes are read here.
+#![tactic(auto)]
+
 ghost use Rattle.std.specs.Prelude.{◌≡◌, ◌*◌, ◌<◌};
 ghost use Rattle.spec.specs.Refusal.{numbered};
 ghost use Rattle.spec.specs.Checks.{outside, bad_size, bad_counts, bad_kind, settings_outcome};

@@ -1,30 +1,32 @@
 // The calls of docs/RATTLE.md, executed: document 01's frame written, opened and shown, the same frame refused, with a dead pixel and with a value
 // that is no level, and built-in weights.
+#![tactic(auto)]
+
 use big_endian::be16;
 use frame::open;
 use frame::open::Plane;
 use frame_weights::built_in;
 use frame_write::Written;
 use spec::{Guide, NO_READING, Settings, number_of, offset_of};
+use std::io;
 
-fn text(s: &[u8]) {
-    let _done = io::write_all(1, s);
+fn text(rt: &HostRuntime, s: &str) -> io::Result<()> {
+    rt.print(s)
 }
 
-fn number(n: usize) {
-    text(b" ");
-    let _done = io::print_decimal(1, n as u64);
+fn number(rt: &HostRuntime, n: usize) -> io::Result<()> {
+    print!(rt; " {n}")
 }
 
 // The 16-bit numbers of a list of bytes.
-fn numbers(name: &[u8], part: &[u8]) {
-    text(name);
+fn numbers(rt: &HostRuntime, name: &str, part: &[u8]) -> io::Result<()> {
+    text(rt, name)?;
     let mut k = 0;
     while 1 < part.len() - k {
-        number(be16(part, k) as usize);
+        number(rt, be16(part, k) as usize)?;
         k += 2;
     }
-    text(b"\n");
+    text(rt, "\n")
 }
 
 // Document 01's frame: 3 by 1, kind 2. There the first value is 5.
@@ -52,52 +54,52 @@ fn first_value(file: &[u8]) -> u16 {
 }
 
 // The parts that the opened frame shows.
-fn parts(file: &[u8]) {
-    numbers(b"values", open::plane_of(Plane::Values, file));
-    numbers(b"guides", open::plane_of(Plane::Guides, file));
-    numbers(b"table", open::plane_of(Plane::Table, file));
-    text(b"first value");
-    number(first_value(file) as usize);
-    text(b"\n");
+fn parts(rt: &HostRuntime, file: &[u8]) -> io::Result<()> {
+    numbers(rt, "values", open::plane_of(Plane::Values, file))?;
+    numbers(rt, "guides", open::plane_of(Plane::Guides, file))?;
+    numbers(rt, "table", open::plane_of(Plane::Table, file))?;
+    text(rt, "first value")?;
+    number(rt, first_value(file) as usize)?;
+    text(rt, "\n")
 }
 
 // Window F of the bench, and a difference that no frame has.
-fn weights() {
-    text(b"built-in");
-    number(built_in(Guide(0), Guide(0)) as usize);
-    number(built_in(Guide(0), Guide(1)) as usize);
-    number(built_in(Guide(255), Guide(0)) as usize);
-    number(built_in(Guide(0), Guide(4080)) as usize);
-    text(b"\n");
+fn weights(rt: &HostRuntime) -> io::Result<()> {
+    text(rt, "built-in")?;
+    number(rt, built_in(Guide(0), Guide(0)) as usize)?;
+    number(rt, built_in(Guide(0), Guide(1)) as usize)?;
+    number(rt, built_in(Guide(255), Guide(0)) as usize)?;
+    number(rt, built_in(Guide(0), Guide(4080)) as usize)?;
+    text(rt, "\n")
 }
 
 // What the writer answers.
-fn told(answer: Written) {
+fn told(rt: &HostRuntime, answer: Written) -> io::Result<()> {
     match answer {
         Written::Length(n) => {
-            text(b"length");
-            number(n);
+            text(rt, "length")?;
+            number(rt, n)?;
         }
         Written::Refused(e) => {
-            text(b"refused");
-            number(number_of(e) as usize);
-            number(offset_of(e));
+            text(rt, "refused")?;
+            number(rt, number_of(e) as usize)?;
+            number(rt, offset_of(e))?;
         }
     }
-    text(b"\n");
+    text(rt, "\n")
 }
 
-fn main() {
+fn main(rt: HostRuntime) -> io::Result<()> {
     let mut output = [170u8; 44];
-    told(sample(5, &mut output));
-    numbers(b"bytes", &output);
-    parts(&output[0..40]);
-    text(b"from its second byte on\n");
-    parts(&output[1..40]);
-    text(b"with a dead pixel\n");
-    told(sample(NO_READING, &mut output));
-    parts(&output[0..40]);
-    text(b"with a value that is no level\n");
-    told(sample(65534, &mut output));
-    weights();
+    told(&rt, sample(5, &mut output))?;
+    numbers(&rt, "bytes", &output)?;
+    parts(&rt, &output[0..40])?;
+    text(&rt, "from its second byte on\n")?;
+    parts(&rt, &output[1..40])?;
+    text(&rt, "with a dead pixel\n")?;
+    told(&rt, sample(NO_READING, &mut output))?;
+    parts(&rt, &output[0..40])?;
+    text(&rt, "with a value that is no level\n")?;
+    told(&rt, sample(65534, &mut output))?;
+    weights(&rt)
 }

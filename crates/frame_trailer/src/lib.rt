@@ -1,4 +1,6 @@
 // The trailer of a file: its 28 bytes read, checks 1 to 6 of them, and the plan of the file that they give.
+#![tactic(auto)]
+
 ghost use Rattle.std.specs.Prelude.{◌≡◌, ◌-◌, ◌<◌, ◌≤◌, length};
 ghost use Rattle.spec.specs.Refusal.{numbered};
 ghost use Rattle.spec.specs.Frame.{settings_of, trailer_of, own_weights, plan_of};

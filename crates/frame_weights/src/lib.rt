@@ -1,4 +1,6 @@
 // The built-in weights of kind 1: the 256 constants with their rule, and the weight of any two guides.
+#![tactic(auto)]
+
 ghost use Rattle.std.specs.Prelude.{◌≡◌};
 ghost use Rattle.spec.specs.Base.{distance};
 ghost use Rattle.spec.specs.Frame.{built_in};

@@ -1,4 +1,6 @@
 // The trailer of a file that is written: each of its numbers goes straight to its own place, at the byte that document 01 names.
+#![tactic(auto)]
+
 ghost use Rattle.std.specs.Prelude.{◌≡◌, ◌++◌, ◌≤◌, length};
 ghost use Rattle.std.proofs.lemmas.List.Edits.{sets};
 ghost use Rattle.spec.specs.Writer.{field_bytes, distance_bytes};

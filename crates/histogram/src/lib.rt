@@ -1,5 +1,7 @@
 // The window's histogram of levels, with guide sums: for l levels, place i of a list is level i's count and place l + i its guide sum. Way 1 keeps
 // it beside its store in kind 2, where a level's weight takes no more than these two numbers.
+#![tactic(auto)]
+
 ghost use Rattle.std.specs.Prelude.{◌+◌, ◌<◌, ◌≤◌, length, get_or};
 ghost use Rattle.spec.specs.Frame.{frame_of};
 ghost use Rattle.spec.specs.Checks.{Planned};

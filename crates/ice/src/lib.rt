@@ -1,4 +1,6 @@
 // The public calls: walk, filter, balance and explain.
+#![tactic(auto)]
+
 pub mod calls;
 
 use spec::{Grounds, Verdict};

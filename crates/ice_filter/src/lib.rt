@@ -1,4 +1,6 @@
 // The filter: the walk through the whole picture, each answer at its pixel's place. It comes after every check.
+#![tactic(auto)]
+
 ghost use Rattle.std.specs.Prelude.{◌≡◌, ◌++◌, ℕ, ◌+◌, ◌*◌, ◌<◌, ◌≤◌, length, drop};
 ghost use Rattle.spec.specs.Frame.{frame_of, frame_with, pixels, settings_in};
 ghost use Rattle.spec.specs.Checks.{Pictured};

@@ -1,4 +1,6 @@
 // The moves of a walk and of the filter, by pixel and byte alone.
+#![tactic(auto)]
+
 ghost use Rattle.std.specs.Prelude.{◌≡◌, ◌<◌};
 ghost use Rattle.spec.specs.Frame.{settings_in};
 ghost use Rattle.spec.specs.Checks.{SettingsLimits};

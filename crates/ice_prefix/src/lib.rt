@@ -1,4 +1,6 @@
 // The filter's walk by way 1 so far: its first pixels, each answer at its place in the walk. It comes after every check.
+#![tactic(auto)]
+
 ghost use Rattle.std.specs.Prelude.{[], ◌*◌, ◌≤◌, length};
 ghost use Rattle.spec.specs.Frame.{settings_in};
 ghost use Rattle.spec.specs.Checks.{Planned};

@@ -1,4 +1,6 @@
 // What the two loops under the public calls share: one byte of a list of moves, the end, and the result.
+#![tactic(auto)]
+
 ghost use Rattle.std.specs.Prelude.{◌≡◌, ◌≤◌, length};
 ghost use Rattle.spec.specs.Frame.{frame_of, frame_with, settings_in};
 ghost use Rattle.spec.specs.Checks.{Planned, Pictured};

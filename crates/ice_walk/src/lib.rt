@@ -1,4 +1,6 @@
 // The walk: the loop along a list of moves. It comes after every check.
+#![tactic(auto)]
+
 ghost use Rattle.std.specs.Prelude.{◌≡◌, [], ◌++◌, ℕ, ◌+◌, ◌<◌, ◌≤◌, length, drop};
 ghost use Rattle.spec.specs.Frame.{frame_of, settings_in};
 ghost use Rattle.spec.specs.Checks.{Planned};

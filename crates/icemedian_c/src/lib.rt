@@ -1,6 +1,8 @@
 // The calls for C and Rust: numbers and slices as pointer and length, a status out (0, or the documents' number), every other result through a lent
 // number. A refused call writes nothing but the offset of number 7. include/icemedian.h documents them. Each takes any arguments; the work and the
 // promises are those of frame, frame_write, byte_planes, ice, tolerance and cameras.
+#![tactic(auto)]
+
 ghost use Rattle.spec.specs.Checks.{verdict};
 ghost use Rattle.ice_step.specs.Finished.{lent};
 ghost use Rattle.tolerance.specs.Contract.{buffers};

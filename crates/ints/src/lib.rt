@@ -1,6 +1,8 @@
 // The crate is its specs: the laws of integers that proofs of signed and float code cite. The functions here are its tests, and no
 // crate calls them: each tries one part of the toolkit, and its name says which. The bounds in their contracts are of the size that
 // sums over a window of 31 by 31 bytes have: 961 values, with a sum of at most 245055 and squares that sum to at most 62489025.
+#![tactic(auto)]
+
 ghost use Rattle.std.specs.Prelude.{◌≡◌, ◌≤◌, pos, nat_abs, ◌+ℤ◌, ◌-ℤ◌, ◌*ℤ◌, ◌≤ℤ◌, ◌<ℤ◌, length, get_or};
 ghost use Rattle.std.specs.Int.Signed.{lt_z};
 ghost use Rattle.std.specs.Float.{binary64};

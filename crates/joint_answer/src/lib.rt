@@ -1,5 +1,7 @@
 // Ways 1 and 4, joint and coarse, in kind 1: what the window that the counts hold answers by a row of weights, and the box moved to it; and whether
 // nothing weighs anything by a row.
+#![tactic(auto)]
+
 ghost use Rattle.std.specs.Prelude.{◌≡◌, true, false, ◌<◌, length};
 ghost use Rattle.spec.specs.Walk.{by_blocks};
 ghost use Rattle.joint_cells.specs.Scan.{RowFits};

@@ -1,5 +1,7 @@
 // Way 4: the search of kind 1 by blocks of 16 levels, from the cut point. A block without a pixel is passed at once; the others are looked through
 // level by level, the box's cut point moved along. The loops stand beside way 1's, which would be an eighth slower with the test of a block in it.
+#![tactic(auto)]
+
 ghost use Rattle.std.specs.Prelude.{◌≡◌, ◌<◌, pos, ◌≤ℤ◌};
 ghost use Rattle.joint_cells.specs.Scan.{RowFits};
 ghost use Rattle.joint_search.specs.Search.{balance_in, median_in, box_in, Searchable, Climbed, Descended};

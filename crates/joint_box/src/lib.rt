@@ -2,6 +2,8 @@
 //
 // Pairs of signed 16-bit numbers are multiplied and added in one instruction, and a weight is not signed. So half of what 16 bits can hold is taken
 // off each weight, and comes back once, times the sum of the cells.
+#![tactic(auto)]
+
 ghost use Rattle.std.specs.Prelude.{◌≡◌, ◌≤◌, pos, nat_abs, ◌+ℤ◌, ◌*ℤ◌};
 ghost use Rattle.joint_cells.specs.Scan.{RowFits};
 ghost use Rattle.joint_cells.specs.Box.{BoxInBounds};

@@ -1,4 +1,6 @@
 // The box's cut point moved to a level that is known, as kind 2 asks, whose search goes by another store.
+#![tactic(auto)]
+
 ghost use Rattle.std.specs.Prelude.{◌≡◌, ◌<◌, ◌≤◌};
 ghost use Rattle.joint_search.specs.Search.{box_in, Searchable};
 

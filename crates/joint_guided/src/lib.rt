@@ -1,6 +1,8 @@
 // Ways 1 and 4, joint and coarse, in kind 2: a window's part in a walk. Its weights can be negative, so that most windows are searched from level 0:
 // the search goes by the window's histogram of levels, two numbers a level. Way 1's box is moved to the answer once that is known; way 4 has no use
 // for one.
+#![tactic(auto)]
+
 ghost use Rattle.std.specs.Prelude.{◌≡◌, [], ◌+◌, ◌<◌, ◌≤◌, length};
 ghost use Rattle.spec.specs.Frame.{frame_of};
 ghost use Rattle.spec.specs.Checks.{Planned};

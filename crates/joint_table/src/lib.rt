@@ -1,6 +1,8 @@
 // Ways 1 and 4, joint and coarse, in kind 1: a window's part in a walk, its stores and its box being made. The built-in weights are above 0, so that
 // only a file's own can leave a window without weight (document 01: hollow). A plane given in place of the file's values has them; an empty one is
 // none.
+#![tactic(auto)]
+
 ghost use Rattle.std.specs.Prelude.{◌≡◌, false, not, ◌&&◌, ◌*◌, ◌<◌, ◌≤◌, eqb};
 ghost use Rattle.spec.specs.Frame.{no_reading, frame_with, value_of};
 ghost use Rattle.spec.specs.Checks.{Pictured};

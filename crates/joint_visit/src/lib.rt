@@ -1,6 +1,8 @@
 // Ways 1 and 4, joint and coarse, at a window of a walk: the stores made or moved, its answer, the cut point moved to it, and the shifts counted.
 // The walk lends file, rows, box, stores and histogram, and hands the visit on; in kind 1 also a plane in place of the file's values, or an empty one
 // for none. Way 4's box is the walk's own: kind 1 searches by it, and in kind 2, which has no use for it, it stays at level 0.
+#![tactic(auto)]
+
 ghost use Rattle.std.specs.Prelude.{◌≡◌};
 ghost use Rattle.spec.specs.Frame.{frame_with};
 ghost use Rattle.spec.specs.Walk.{by_blocks, arrive};

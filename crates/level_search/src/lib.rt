@@ -1,5 +1,7 @@
 // The search for a window's answer by its counts and guide sums of each level, for kind 2: two lists and the coefficients of the window's weights,
 // whatever way keeps the lists.
+#![tactic(auto)]
+
 pub mod block;
 pub mod search;
 

@@ -1,5 +1,7 @@
 // A line's live pixels, read once: a list of each one's level and guide in turn. What counts pixels (sums, tally, histogram, joint store, linked
 // list) goes by such lists and knows neither file nor border nor dead pixels.
+#![tactic(auto)]
+
 pub mod store;
 pub mod sums;
 

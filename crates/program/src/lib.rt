@@ -1,4 +1,6 @@
 // The text that the program icemedian writes for the bytes that it read, put into a lent buffer. Any bytes are taken.
+#![tactic(auto)]
+
 mod answer;
 
 ghost use Rattle.std.specs.Prelude.{◌≡◌, true, List, ◌++◌, ℕ, ◌≤◌, length, drop};

@@ -1,4 +1,6 @@
 // The program's checks: 12 by the input's length first, then 1 to 7, then 12 by width, levels and guides.
+#![tactic(auto)]
+
 ghost use Rattle.std.specs.Prelude.{◌≡◌, ◌||◌, ltb};
 ghost use Rattle.spec.specs.Refusal.{numbered, ◌▷◌, refuse};
 ghost use Rattle.spec.specs.Frame.{settings_of};

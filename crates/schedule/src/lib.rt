@@ -1,4 +1,6 @@
 // Document 02, ask 9: whose turn it is where up to eight files share the grants of control periods. Numbers alone: no file is looked at.
+#![tactic(auto)]
+
 ghost use Rattle.std.specs.Prelude.{◌≡◌, ◌≤◌, ◌<◌};
 ghost use Rattle.spec.specs.Schedule as definitions;
 ghost use Rattle.schedule.specs.Tallies.{SizesFit, TalliesCounted};

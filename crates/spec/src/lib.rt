@@ -1,4 +1,6 @@
 // The types that every contract speaks of. What they mean is in specs/, which uses these same types.
+#![tactic(auto)]
+
 ghost use Rattle.std.specs.Prelude.{◌≡◌};
 ghost use Rattle.spec.specs.Checks.{judged};
 ghost use Rattle.spec.specs.Frame.{new_settings};

@@ -1,6 +1,8 @@
 // Text in a lent buffer of bytes: bytes, words and numbers. Each function puts a text from a place on and gives the place behind it; the caller shows
 // that the buffer has room.
 // Assumes nothing.
+#![tactic(auto)]
+
 ghost use Rattle.std.specs.Prelude.{[], ◌∷◌};
 ghost use Rattle.spec.specs.Program.{decimal};
 ghost use Rattle.text.specs.Text.{TextRoom, Puts, spaced_one};

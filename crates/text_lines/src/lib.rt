@@ -1,5 +1,7 @@
 // The lines that the program prints: rows of levels, the size, a way with its shift count, a refusal. As in `text`, each function puts a text from a
 // place on and gives the place behind it.
+#![tactic(auto)]
+
 ghost use Rattle.std.specs.Prelude.{◌+◌, ◌*◌, ◌≤◌, length};
 ghost use Rattle.text.specs.Text.{TextRoom, Puts, pieces, follower, row_text, plane_text, size_text, way_text, refusal_text};
 

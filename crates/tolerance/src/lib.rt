@@ -1,6 +1,8 @@
 // Document 02, ask 7: levels known within a tolerance. One call filters a frame by way 1 with its own values, and then with a plane of upper levels
 // in
 // their place: at each pixel the least and the greatest answer over every choice of levels between the two.
+#![tactic(auto)]
+
 ghost use Rattle.std.specs.Prelude.{◌≡◌, [], ◌*◌, ◌≤◌, length};
 ghost use Rattle.spec.specs.Frame.{frame_of, frame_with, settings_in};
 ghost use Rattle.spec.specs.Checks.{Planned, Pictured};

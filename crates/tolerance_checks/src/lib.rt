@@ -1,4 +1,6 @@
 // The checks of the tolerance call, after those of the file: 8, 13 and 11, in document 02's order.
+#![tactic(auto)]
+
 ghost use Rattle.std.specs.Prelude.{◌≡◌};
 ghost use Rattle.spec.specs.Refusal.{numbered};
 ghost use Rattle.spec.specs.Checks.{Planned};

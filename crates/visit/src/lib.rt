@@ -1,5 +1,7 @@
 // A walk at a window: one record for every way. A way takes it, moves its own store, and hands it on; the loops above read the state from it and know
 // no way.
+#![tactic(auto)]
+
 ghost use Rattle.std.specs.Prelude.{◌≡◌};
 ghost use Rattle.visit.specs.Visit.{answered, unread};
 

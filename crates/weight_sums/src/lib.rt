@@ -1,4 +1,6 @@
 // A window's weights gathered by level, or by blocks of levels, from the file alone: how the window is counted, and one pass over its pixels.
+#![tactic(auto)]
+
 ghost use Rattle.std.specs.Prelude.{◌≡◌, false, ◌^◌, ◌<◌, length, pos, ◌+ℤ◌};
 ghost use Rattle.spec.specs.Frame.{frame_of};
 ghost use Rattle.spec.specs.Checks.{Planned};

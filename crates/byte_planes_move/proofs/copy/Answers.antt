@@ -25,13 +25,12 @@ pub loop-i-smaller : goal.loop-i-smaller
 loop-i-smaller c = omega arith
 
 pub loop-i-preserved : goal.loop-i-preserved
-loop-i-preserved c =
-    (
-      omega (arith, c.loop-i.invariant.0),
-      omega (arith, c.loop-i-test.true),
-      copied c.args.output.now c.args.file.now c.args.from c.loop-i.invariant.0 (omega (arith, c.loop-i-test.true, c.requires.1)) refl
-          c.loop-i.invariant.2,
-    )
+loop-i-preserved c = (
+  omega (arith, c.loop-i.invariant.0),
+  omega (arith, c.loop-i-test.true),
+  copied c.args.output.now c.args.file.now c.args.from c.loop-i.invariant.0 (omega (arith, c.loop-i-test.true, c.requires.1)) refl
+      c.loop-i.invariant.2,
+)
 
 pub shape_of-output : goal.shape_of-output
 shape_of-output c = ap length c.loop-i.invariant.2 ∙ simp length-sets

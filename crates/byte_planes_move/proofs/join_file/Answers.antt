@@ -11,12 +11,11 @@ join_plane-requires c =
     (omega (arith, c.requires.0), rw c.copy.ensures (rw length-sets (omega (arith, c.requires.0, c.requires.1))))
 
 pub copy-requires-2 : goal.copy-requires-2
-copy-requires-2 c =
-    (
-      omega (arith, c.requires.0),
-      omega arith,
-      rw c.join_plane.ensures (rw length-sets (rw c.copy.ensures (rw length-sets c.requires.1))),
-    )
+copy-requires-2 c = (
+  omega (arith, c.requires.0),
+  omega arith,
+  rw c.join_plane.ensures (rw length-sets (rw c.copy.ensures (rw length-sets c.requires.1))),
+)
 
 pub returns : goal.returns
 returns c =

@@ -1,4 +1,3 @@
-
 use native.Mathlib.Omega.{arith}
 use Rattle.c_values.proofs.ResultLaws.{offset-written, offset-kept}
 use borrow.Author.Rules.{rules}

@@ -1,4 +1,3 @@
-
 use native.Mathlib.Omega.{arith}
 use Rattle.c_values.proofs.SettingsLaws.{alike, narrowed}
 use borrow.Author.Rules.{rules}

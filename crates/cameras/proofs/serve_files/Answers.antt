@@ -65,14 +65,14 @@ serve_file-place-requires c =
     let old = parts c.args.counts.now c.args.words.now c.args.answers.now in
     let h = c.loop-i-test.true in
     let e = part-is b ns l.i l.at _ refl in record {
-  file_value = (
+      file_value = (
         ap verdict e ∙ next-accepted b ns c.args.t3 old c.requires _ l.place l.at l.i l.invariant h,
         subst (λ (q : List ℕ). get_or c.args.t3 l.i 0 ≤ pixels_in q) (sym e)
             (next_low b ns c.args.t3 old c.requires _ l.place l.at l.i l.invariant h),
       );
-  room_from = subst (λ (q : List ℕ). RoomFrom q l.place (parts l.counts l.words l.answers)) (sym e)
+      room_from = subst (λ (q : List ℕ). RoomFrom q l.place (parts l.counts l.words l.answers)) (sym e)
           (next-room b ns c.args.t3 old c.requires _ l.place l.at l.i l.invariant h);
-}
+    }
 
 pub overflow_add-i : goal.overflow_add-i
 overflow_add-i c = omega (

@@ -51,12 +51,11 @@ returns-then-stops c =
     (same c.stops.ensures c.if-stops.true)
 
 pub with_file-totals-requires : goal.with_file-totals-requires
-with_file-totals-requires c =
-    (
-      limits-planned (planned-of c.open_plan-opened.result c.open_plan-opened.ensures (same c.stops.ensures c.if-stops.false)),
-      c.loop-i.invariant.low,
-      omega (arith, c.loop-i-test.true, c.requires.0),
-    )
+with_file-totals-requires c = (
+  limits-planned (planned-of c.open_plan-opened.result c.open_plan-opened.ensures (same c.stops.ensures c.if-stops.false)),
+  c.loop-i.invariant.low,
+  omega (arith, c.loop-i-test.true, c.requires.0),
+)
 
 pub overflow_add-i : goal.overflow_add-i
 overflow_add-i c = omega

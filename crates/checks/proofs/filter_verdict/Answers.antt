@@ -1,4 +1,3 @@
-
 use native.Mathlib.Omega.{arith}
 use Rattle.spec.specs.Calls.{filter_checks}
 use Rattle.checks.proofs.Laws.{known}

@@ -1,4 +1,3 @@
-
 use native.Mathlib.Omega.{arith}
 use borrow.Author.Tests.{eq-eqb, ne_eqb, lt-ltb, le-ltb}
 use Rattle.spec.specs.Calls.{bad_way}

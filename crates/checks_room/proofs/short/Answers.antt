@@ -1,4 +1,3 @@
-
 use Rattle.spec.specs.Calls.{short}
 use Rattle.checks_room.proofs.Laws.{short-is}
 use borrow.Author.Rules.{rules}

@@ -26,13 +26,13 @@ loop-j-preserved c =
     let a = c.args in
     let of : ℕ → ℕ = λ i. judged a.values (plane a.file.now a.offset i) in
     let e : c.judged-number.result ≡ of c.loop-j.j =
-        c.judged-number.ensures ∙ ap (judged a.values)
-        (c.exchanged.ensures ∙ ap exchanged (c.loop-j.invariant.2.is c.loop-j.j (omega arith) (omega arith))
-        ∙ low-first a.file.now (λ i. omega (arith, c.type_inv.file i)) a.offset c.loop-j.j) in
+    c.judged-number.ensures ∙ ap (judged a.values)
+    (c.exchanged.ensures ∙ ap exchanged (c.loop-j.invariant.2.is c.loop-j.j (omega arith) (omega arith))
+    ∙ low-first a.file.now (λ i. omega (arith, c.type_inv.file i)) a.offset c.loop-j.j) in
     let old : c.loop-j.most ≤ c.if-most-number.most =
-        elim c.if-most-number.branch [ then-most-number w ↦ omega arith | else-most-number w ↦ omega arith ] in
+    elim c.if-most-number.branch [ then-most-number w ↦ omega arith | else-most-number w ↦ omega arith ] in
     let new : of c.loop-j.j ≤ c.if-most-number.most =
-        elim c.if-most-number.branch [ then-most-number w ↦ omega arith | else-most-number w ↦ omega arith ] in
+    elim c.if-most-number.branch [ then-most-number w ↦ omega arith | else-most-number w ↦ omega arith ] in
     (omega arith, most-next of c.loop-j.invariant.1 old new, c.loop-j.invariant.2)
 
 pub returns : goal.returns

@@ -37,12 +37,11 @@ pub loop-k-smaller : goal.loop-k-smaller
 loop-k-smaller c = omega arith
 
 pub loop-k-preserved : goal.loop-k-preserved
-loop-k-preserved c =
-    (
-      omega arith,
-      all-again _ _ _ _ c.loop-k-test.true c.loop-k.invariant.1
-          c.put16.ensures (omega arith),
-    )
+loop-k-preserved c = (
+  omega arith,
+  all-again _ _ _ _ c.loop-k-test.true c.loop-k.invariant.1
+      c.put16.ensures (omega arith),
+)
 
 pub shape_of-out : goal.shape_of-out
 shape_of-out c = ap length c.loop-k.invariant.1 ∙ simp length-sets

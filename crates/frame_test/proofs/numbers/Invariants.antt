@@ -6,7 +6,7 @@ use lib.ListN.{length}
 use Rattle.frame_test.proofs.numbers.Given as goal
 
 abbrev pub invariant-loop-k : goal.invariant-loop-k
-invariant-loop-k l = k ≤ length l.part
+invariant-loop-k l = l.k ≤ length l.part
 
 abbrev pub decreases-loop-k : goal.decreases-loop-k
-decreases-loop-k l = length l.part - k
+decreases-loop-k l = length l.part - l.k

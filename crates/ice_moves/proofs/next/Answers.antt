@@ -1,4 +1,3 @@
-
 use Rattle.spec.specs.Frame.{settings_in}
 use Rattle.ice_moves.proofs.Laws.{right, right-off, left, left-off, down, down-off, up, up-off, unknown}
 use borrow.Author.Rules.{rules}

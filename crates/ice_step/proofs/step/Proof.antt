@@ -1,4 +1,3 @@
-
 use mathlib.Core.Path.{sym, ◌∙◌, refl}
 use Rattle.ice_step.proofs.Laws.{settings-limits-in}
 use Rattle.ice_step.proofs.Laws.{move-adjacent, visited-moves, visited-stays}

@@ -1,4 +1,3 @@
-
 use native.Mathlib.Omega.{arith}
 use Rattle.icemedian_c.proofs.ExportLaws.{balance-stopped, balance-passed}
 use borrow.Author.Rules.{rules}

@@ -1,4 +1,3 @@
-
 use Rattle.icemedian_c.proofs.ExportLaws.{explain-called}
 use borrow.Author.Rules.{rules}
 use Rattle.icemedian_c.proofs.icemedian_explain.Goals as goal

@@ -1,4 +1,3 @@
-
 use Rattle.icemedian_c.proofs.ExportLaws.{reported}
 use borrow.Author.Rules.{rules}
 use Rattle.icemedian_c.proofs.icemedian_join.Goals as goal

@@ -1,4 +1,3 @@
-
 use Rattle.icemedian_c.proofs.ExportLaws.{walk-called}
 use borrow.Author.Rules.{rules}
 use Rattle.icemedian_c.proofs.icemedian_walk.Goals as goal

@@ -1,4 +1,3 @@
-
 use native.Mathlib.Omega.{arith}
 use Rattle.icemedian_c.proofs.ExportLaws.{writes-narrowed, write-passed, write-stopped}
 use borrow.Author.Rules.{rules}

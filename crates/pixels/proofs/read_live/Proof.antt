@@ -80,12 +80,12 @@ loop-again c =
     let at = start t.before in
     let v = t.loop-k.invariant in
     elim c.if-value.branch [
-      then-value w ↦ rw w.m-is (
+      | then-value w ↦ rw w.m-is (
         omega (arith, t.loop-k-test.true),
         live-next at.requires.0 at.requires.1 t.loop-k-test.true v.1 g.value_in-value.ensures g.guide_at-guide.ensures w.if-value.true,
         put-long t.loop-k.places t.loop-k.m g.value_in-value.result g.guide_at-guide.result.0 ∙ v.2,
       )
-    | else-value w ↦ rw w.m-is (
+      | else-value w ↦ rw w.m-is (
         omega (arith, t.loop-k-test.true),
         dead-next at.requires.0 at.requires.1 t.loop-k-test.true v.1 g.value_in-value.ensures g.guide_at-guide.ensures w.if-value.false,
         put-long t.loop-k.places t.loop-k.m g.value_in-value.result g.guide_at-guide.result.0 ∙ v.2,

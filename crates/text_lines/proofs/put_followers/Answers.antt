@@ -40,12 +40,11 @@ pub loop-k-smaller : goal.loop-k-smaller
 loop-k-smaller c = omega arith
 
 pub loop-k-preserved : goal.loop-k-preserved
-loop-k-preserved c =
-    (
-      omega arith,
-      joined-piece (follower c.args.plane.now c.args.first) c.loop-k.k
-          c.loop-k.invariant.1 c.put_spaced-next.ensures,
-    )
+loop-k-preserved c = (
+  omega arith,
+  joined-piece (follower c.args.plane.now c.args.first) c.loop-k.k
+      c.loop-k.invariant.1 c.put_spaced-next.ensures,
+)
 
 pub shape_of-out : goal.shape_of-out
 shape_of-out c = as_long c.loop-k.invariant.1

@@ -22,10 +22,10 @@ put_decimal-second-requires c =
 pub put_followers-end-requires : goal.put_followers-end-requires
 put_followers-end-requires c =
     record {
-  n_in_bounds = omega (arith, c.requires.le_width);
-  text_room = room-second (pieces (follower c.args.plane.now c.args.first) (c.args.width - 1))
+      n_in_bounds = omega (arith, c.requires.le_width);
+      text_room = room-second (pieces (follower c.args.plane.now c.args.first) (c.args.width - 1))
           (rw row-pieces at c.requires.text_room) c.put_decimal-second.ensures;
-}
+    }
 
 pub put_byte-requires : goal.put_byte-requires
 put_byte-requires c =

@@ -22,9 +22,9 @@ put_row-next-requires c =
     let m = c.args.plane.now in
     let w = c.args.width in
     let t = c.loop-t.t in record {
-  le_width = (c.requires.le_width.0, omega (arith, c.requires.le_width, row_fits t c.args.height w c.loop-t-test.true));
-  text_room = room-piece (λ j. row_text m (j * w) w) t c.args.height c.loop-t-test.true c.requires.text_room c.loop-t.invariant.1;
-}
+      le_width = (c.requires.le_width.0, omega (arith, c.requires.le_width, row_fits t c.args.height w c.loop-t-test.true));
+      text_room = room-piece (λ j. row_text m (j * w) w) t c.args.height c.loop-t-test.true c.requires.text_room c.loop-t.invariant.1;
+    }
 
 pub overflow_add-t : goal.overflow_add-t
 overflow_add-t c = omega arith

@@ -31,12 +31,11 @@ pub shape_of-row : goal.shape_of-row
 shape_of-row c = c.loop-k.invariant.1.long
 
 pub returns : goal.returns
-returns c =
-    (
-      record {
-        long = omega (arith, c.loop-k.invariant.1.long, c.requires.0);
-        is =
-            λ f l. c.loop-k.invariant.1.is f (omega arith) (omega (arith, c.loop-k.invariant.0, c.loop-k-test.false));
-      },
-      c.loop-k.invariant.1.long,
-    )
+returns c = (
+  record {
+    long = omega (arith, c.loop-k.invariant.1.long, c.requires.0);
+    is =
+        λ f l. c.loop-k.invariant.1.is f (omega arith) (omega (arith, c.loop-k.invariant.0, c.loop-k-test.false));
+  },
+  c.loop-k.invariant.1.long,
+)

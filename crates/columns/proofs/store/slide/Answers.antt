@@ -30,14 +30,14 @@ sideways-requires c =
     let k = (across-is c.requires.adjacent.0 c.if-s-s2.false).0 in
     let ed = c.exchange_of-d.ensures in
     let pl = c.requires.planned in record {
-  w_bound = (
+      w_bound = (
         (plan-limits pl).width,
         levels_high pl,
         held-long pl c.args.s c.args.t c.args.blocks.now c.requires.adjacent.1,
         sides-in pl c.args.s c.args.t c.args.blocks.now c.requires.adjacent.1 k ed,
       );
-  side_ready = sides-ready pl c.args.s c.args.t c.args.blocks.now c.requires.adjacent.1 k ed;
-}
+      side_ready = sides-ready pl c.args.s c.args.t c.args.blocks.now c.requires.adjacent.1 k ed;
+    }
 
 pub returns : goal.returns
 returns c =

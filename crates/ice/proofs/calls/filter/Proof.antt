@@ -1,4 +1,3 @@
-
 use mathlib.Core.Path.{◌≡◌, sym, ◌∙◌}
 use lib.ListN.{length}
 use Rattle.spec.specs.declared.Settings.{Settings}

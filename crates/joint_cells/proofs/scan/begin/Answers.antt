@@ -28,13 +28,12 @@ pub loop-i-smaller : goal.loop-i-smaller
 loop-i-smaller c = omega (arith, c.loop-i-test.true)
 
 pub loop-i-preserved : goal.loop-i-preserved
-loop-i-preserved c =
-    (
-      omega (arith, c.loop-i.invariant.0),
-      omega (arith, c.loop-i-test.true, c.requires.1),
-      passed-empty c.args.words.now c.args.first
-          c.args.k (c.args.j * 64) c.loop-i.i c.loop-i.invariant.2 c.if-rest-ne0.false,
-    )
+loop-i-preserved c = (
+  omega (arith, c.loop-i.invariant.0),
+  omega (arith, c.loop-i-test.true, c.requires.1),
+  passed-empty c.args.words.now c.args.first
+      c.args.k (c.args.j * 64) c.loop-i.i c.loop-i.invariant.2 c.if-rest-ne0.false,
+)
 
 pub returns : goal.returns
 returns c =

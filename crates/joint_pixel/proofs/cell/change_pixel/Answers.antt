@@ -18,12 +18,12 @@ pub returns-then-enters : goal.returns-then-enters
 returns-then-enters c =
     let xs = c.args.counts.now in
     let ws = c.args.words.now in record {
-  counts_after = ap (λ (x : ℕ). set xs x (get_or xs x 0 + 1)) c.cell_at-at.ensures ∙ sym
+      counts_after = ap (λ (x : ℕ). set xs x (get_or xs x 0 + 1)) c.cell_at-at.ensures ∙ sym
           (enters-counts c.args.enters c.args.m c.args.level.0 c.args.guide.0 xs ws c.if-enters.true);
-  words_after = ap (set ws c.word_at-w.result) c.with_bit.ensures ∙ ap₂ (λ (q j : ℕ). set ws q (with_bit (get_or ws q 0) j)) c.word_at-w.ensures
+      words_after = ap (set ws c.word_at-w.result) c.with_bit.ensures ∙ ap₂ (λ (q j : ℕ). set ws q (with_bit (get_or ws q 0) j)) c.word_at-w.ensures
           c.bit_at-b.ensures
           ∙ sym (enters-words c.args.enters c.args.m c.args.level.0 c.args.guide.0 xs ws c.if-enters.true);
-}
+    }
 
 pub overflow_sub-left : goal.overflow_sub-left
 overflow_sub-left c =
@@ -33,11 +33,11 @@ pub returns : goal.returns
 returns c =
     let xs = c.args.counts.now in
     let ws = c.args.words.now in record {
-  counts_after = ap (λ (x : ℕ). set xs x (get_or xs x 0 - 1)) c.cell_at-at.ensures ∙ sym
+      counts_after = ap (λ (x : ℕ). set xs x (get_or xs x 0 - 1)) c.cell_at-at.ensures ∙ sym
           (leaves-counts c.args.enters c.args.m c.args.level.0 c.args.guide.0 xs ws c.if-enters.false);
-  words_after = ap (set ws c.word_at-w.result)
+      words_after = ap (set ws c.word_at-w.result)
           (c.without_bit.ensures ∙ ap₂ (without_bit (get_or ws c.word_at-w.result 0)) c.bit_at-b.ensures c.emptied-gone.ensures)
           ∙ ap₂ (λ (q x : ℕ). set ws q (without_bit (get_or ws q 0) (c.args.guide.0 % 64) (1 - (get_or xs x 0 - 1)))) c.word_at-w.ensures
           c.cell_at-at.ensures
           ∙ sym (leaves-words c.args.enters c.args.m c.args.level.0 c.args.guide.0 xs ws c.if-enters.false);
-}
+    }

@@ -36,13 +36,12 @@ pub loop-k-smaller : goal.loop-k-smaller
 loop-k-smaller c = omega (arith, c.loop-k-test.true)
 
 pub loop-k-preserved : goal.loop-k-preserved
-loop-k-preserved c =
-    (
-      omega (arith, c.loop-k-test.true),
-      made-next c.loop-k.k _ (omega arith) (omega (arith, c.loop-k-test.true, c.requires))
-          (built-entry 255 c.loop-k.k _ c.constants-built.ensures (omega (arith, c.apart.ensures, c.loop-k-test.true))
-          c.apart.ensures) c.loop-k.invariant.1,
-    )
+loop-k-preserved c = (
+  omega (arith, c.loop-k-test.true),
+  made-next c.loop-k.k _ (omega arith) (omega (arith, c.loop-k-test.true, c.requires))
+      (built-entry 255 c.loop-k.k _ c.constants-built.ensures (omega (arith, c.apart.ensures, c.loop-k-test.true))
+      c.apart.ensures) c.loop-k.invariant.1,
+)
 
 pub shape_of-out : goal.shape_of-out
 shape_of-out c = c.loop-k.invariant.1.long
