@@ -1,4 +1,5 @@
 -- `guided_balance` meets its contract: the balance by the formula. Assumes nothing.
+use mir.Syntax.{w64}
 use borrow.Author.Rules.{rules}
 use mathlib.Core.Path.{◌∙◌}
 use Prim.Native.Nat.{ℕ}
@@ -20,5 +21,5 @@ window_balance-requires c =
 
 pub returns : goal.returns
 returns c =
-    to_z-of_z (record { sfits = c.window_balance.type_inv }) ∙ c.window_balance.ensures
+    to_z-of_z {w = w64} (record { sfits = c.window_balance.type_inv }) ∙ c.window_balance.ensures
     ∙ by-balance (pixel-of c.requires.planned.0 c.requires.planned.2 c.requires.planned.3) c.guided_formula-w.ensures.0 c.args.top.0

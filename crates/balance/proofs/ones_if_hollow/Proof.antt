@@ -66,7 +66,7 @@ returns-3 c =
     let at = start e in
     let p = frame_of at.args.file.now in
     let none : own_total p at.args.s at.args.t ≡ pos 0 =
-    sym (total e) ∙ sym (to_z-of_z (record { sfits = e.window_balance-total.type_inv })) ∙ ap (to_z w64) i.if-total-ne0.false in
+    sym (total e) ∙ sym (to_z-of_z {w = w64} (record { sfits = e.window_balance-total.type_inv })) ∙ ap (to_z w64) i.if-total-ne0.false in
     let hollow = total-weightless p at.args.s at.args.t at.requires.1.2 none in
     (sym hollow, ones-weigh p at.args.s at.args.t (facts at.requires.0.0).limits.sound.guides_high hollow, length-replicate {A = ℕ} 256 1)
 

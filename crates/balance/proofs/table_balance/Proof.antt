@@ -71,7 +71,7 @@ returns : tie.Need-returns-then-own-ne0
 returns c =
     let e = c.before in
     let at = start (table e) in
-    to_z-of_z (record { sfits = e.window_balance-own.type_inv }) ∙ by-them e
+    to_z-of_z {w = w64} (record { sfits = e.window_balance-own.type_inv }) ∙ by-them e
     (by-some (pixel at) (row-formula (own (table e))) (kind-of at.requires.0.0 at.requires.0.1) at.args.top.0
     (λ z. let zero = ap (of_z w64) (e.window_balance-own.ensures ∙ z) in omega (arith, zero, c.if-own-ne0.true)))
 
@@ -92,14 +92,14 @@ returns-2 : tie.Need-returns-then-ones_if_hollow
 returns-2 c =
     let h = c.before.before.before in
     let at = start (table h.before.before.before) in
-    to_z-of_z (record { sfits = c.window_balance.type_inv }) ∙ c.window_balance.ensures
+    to_z-of_z {w = w64} (record { sfits = c.window_balance.type_inv }) ∙ c.window_balance.ensures
     ∙ by-balance (pixel at) (row-formula h.ones_if_hollow.ensures.1) at.args.top.0
 
 returns-3 : tie.Need-returns
 returns-3 c =
     let h = c.before in
     let e = h.before.before.before in
-    to_z-of_z (record { sfits = e.window_balance-own.type_inv }) ∙ by-them e (sym h.ones_if_hollow.ensures.0 ∙ c.if-ones_if_hollow.false)
+    to_z-of_z {w = w64} (record { sfits = e.window_balance-own.type_inv }) ∙ by-them e (sym h.ones_if_hollow.ensures.0 ∙ c.if-ones_if_hollow.false)
 
 pub table_balance_spec : {M : Type 1} → statement M
 table_balance_spec = tie.close (tie.spec mul-guide-at add-guide-at guide-at-requires table-row-requires slice-aggregate-window-balance window-balance-requires returns ones-if-hollow-requires slice-aggregate-window-balance-2 window-balance-requires-2 returns-2 returns-3)

@@ -12,19 +12,9 @@ use Rattle.spec.specs.Checks.{trailer_outcome}
 use Rattle.spec.specs.BytePlanes.{bad_overlap}
 use Rattle.spec.proofs.Checks.{trailer-passed}
 use Rattle.spec.proofs.Outcomes.{same, quiet}
-use Rattle.byte_planes.proofs.Laws.{
+use Rattle.byte_planes.proofs.Laws.{PartsFit, parts-fit, trailer-of-parts, join-parts-stop, join-room-stops, join-passes, joins-refused, joins-done}
 use Rattle.byte_planes.proofs.join.Statement.{statement}
 use Rattle.byte_planes.proofs.join.Tie as tie
-
-  PartsFit,
-  parts-fit,
-  trailer-of-parts,
-  join-parts-stop,
-  join-room-stops,
-  join-passes,
-  joins-refused,
-  joins-done,
-}
 
 -- checks 1 to 6 and 14 are passed
 abbrev bytes : tie.Else-stops → List ℕ

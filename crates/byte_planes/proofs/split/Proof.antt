@@ -13,20 +13,9 @@ use Rattle.spec.specs.BytePlanes.{bad_overlap}
 use Rattle.spec.proofs.Checks.{trailer-passed}
 use Rattle.spec.proofs.Outcomes.{same, quiet}
 use Rattle.frame.proofs.Planning.{planes-in-file}
-use Rattle.byte_planes.proofs.Laws.{
+use Rattle.byte_planes.proofs.Laws.{PartsFit, parts-fit, trailer-of-parts, split-parts-stop, split-contents-stop, split-room-stops, split-passes, splits-refused, splits-done}
 use Rattle.byte_planes.proofs.split.Statement.{statement}
 use Rattle.byte_planes.proofs.split.Tie as tie
-
-  PartsFit,
-  parts-fit,
-  trailer-of-parts,
-  split-parts-stop,
-  split-contents-stop,
-  split-room-stops,
-  split-passes,
-  splits-refused,
-  splits-done,
-}
 
 -- checks 1 to 6 and 14 are passed
 abbrev bytes : tie.Else-stops → List ℕ

@@ -7,7 +7,7 @@ use Rattle.spec.specs.Checks.{Planned}
 use Rattle.spec.proofs.Plans.{plane-small}
 use Rattle.ice_prefix.specs.Prefix.{parts}
 use Rattle.cameras_checks.proofs.Reading.{limits-planned, cells_low}
-use Rattle.cameras.proofs.PartLaws.{
+use Rattle.cameras.proofs.PartLaws.{planned-by, trailer-in, counts-needed, words-needed, pixels-needed, stores-from, lent-long, none_made, some-made}
 use borrow.Author.Rules.{rules}
 use Rattle.cameras.proofs.serve_file.Reads as reads
 use Rattle.cameras.proofs.serve_file.Lts as lts
@@ -16,17 +16,6 @@ use Rattle.frame_trailer.proofs.plan_of.Reads as plan-of-reads
 use Rattle.ice_prefix.proofs.begin.Reads as begin-reads
 use Rattle.cameras.proofs.serve_file.Statement.{statement}
 use Rattle.cameras.proofs.serve_file.Tie as tie
-
-  planned-by,
-  trailer-in,
-  counts-needed,
-  words-needed,
-  pixels-needed,
-  stores-from,
-  lent-long,
-  none_made,
-  some-made,
-}
 
 -- the place where the file's plan is read, back to the entry; and the plan there
 abbrev start : tie.After-plan_of-plan → tie.Start

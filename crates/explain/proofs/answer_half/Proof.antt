@@ -27,7 +27,7 @@ start w = w.before.before.before.before
 total_is : (w : tie.After-add_window-total) → let at = start w in
     to_z w64 (of_z w64 w.add_window-total.result) ≡ total_weight (frame_of at.args.file.now) at.args.s at.args.t
 total_is w = let at = start w in
-    to_z-of_z (record { sfits = w.add_window-total.type_inv }) ∙ w.add_window-total.ensures.1 ∙ total-gathered (pixel at) at.requires.0.1
+    to_z-of_z {w = w64} (record { sfits = w.add_window-total.type_inv }) ∙ w.add_window-total.ensures.1 ∙ total-gathered (pixel at) at.requires.0.1
 
 slice-aggregate-add-window : tie.Need-slice_bounds-add_window-end
 slice-aggregate-add-window c = search rules

@@ -20,7 +20,7 @@ pub returns-then-weight_of-lt0 : goal.returns-then-weight_of-lt0
 returns-then-weight_of-lt0 c =
     sym
     (by_zero _ _ c.if-counted.false
-    (lt-true (to_z-of_z (record { sfits = c.weight_of.type_inv }) ∙ c.weight_of.ensures) refl c.if-weight_of-lt0.true))
+    (lt-true (to_z-of_z {w = w64} (record { sfits = c.weight_of.type_inv }) ∙ c.weight_of.ensures) refl c.if-weight_of-lt0.true))
 
 pub overflow_sub-m : goal.overflow_sub-m
 overflow_sub-m c = omega (arith, c.requires.1)
@@ -35,12 +35,12 @@ pub returns-then-weight_of-lt0-2 : goal.returns-then-weight_of-lt0-2
 returns-then-weight_of-lt0-2 c =
     sym
     (by_last _ _ c.if-counted.false
-    (lt-false (to_z-of_z (record { sfits = c.weight_of.type_inv }) ∙ c.weight_of.ensures) refl c.if-weight_of-lt0.false)
-    (lt-true (to_z-of_z (record { sfits = c.weight_of-2.type_inv }) ∙ c.weight_of-2.ensures) refl c.if-weight_of-lt0-2.true))
+    (lt-false (to_z-of_z {w = w64} (record { sfits = c.weight_of.type_inv }) ∙ c.weight_of.ensures) refl c.if-weight_of-lt0.false)
+    (lt-true (to_z-of_z {w = w64} (record { sfits = c.weight_of-2.type_inv }) ∙ c.weight_of-2.ensures) refl c.if-weight_of-lt0-2.true))
 
 pub returns : goal.returns
 returns c =
     sym
     (by-none _ _ c.if-counted.false
-    (lt-false (to_z-of_z (record { sfits = c.weight_of.type_inv }) ∙ c.weight_of.ensures) refl c.if-weight_of-lt0.false)
-    (lt-false (to_z-of_z (record { sfits = c.weight_of-2.type_inv }) ∙ c.weight_of-2.ensures) refl c.if-weight_of-lt0-2.false))
+    (lt-false (to_z-of_z {w = w64} (record { sfits = c.weight_of.type_inv }) ∙ c.weight_of.ensures) refl c.if-weight_of-lt0.false)
+    (lt-false (to_z-of_z {w = w64} (record { sfits = c.weight_of-2.type_inv }) ∙ c.weight_of-2.ensures) refl c.if-weight_of-lt0-2.false))

@@ -48,7 +48,7 @@ returns c =
     let r = c.before.before.before in
     let at = r.before.before.before in
     let e = c.weigh.ensures in
-    to_z-of_z (record { sfits = c.weigh.type_inv }) ∙ (rw (slope-back at, offset-back at, number-back r) at e)
+    to_z-of_z {w = w64} (record { sfits = c.weigh.type_inv }) ∙ (rw (slope-back at, offset-back at, number-back r) at e)
 
 pub weight_of_spec : {M : Type 1} → statement M
 weight_of_spec = tie.close (tie.spec cast-x mul-x shared-slice-read-x cast-x-2 weigh-requires returns)

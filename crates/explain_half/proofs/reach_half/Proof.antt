@@ -11,20 +11,9 @@ use mir.Val.{to_z, of_z}
 use mir.Facts.{to_z-of_z}
 use Rattle.ints.specs.Machine.{le-true, le-false, read-bounded}
 use Rattle.explain_half.specs.Half.{up_to, Vacant}
-use Rattle.explain_half.proofs.HalfLaws.{
+use Rattle.explain_half.proofs.HalfLaws.{twice, up_to-none, up_to-next, block-next, Short, short_none, short-next, short-block, not-all-short}
 use Rattle.explain_half.proofs.reach_half.Statement.{statement}
 use Rattle.explain_half.proofs.reach_half.Tie as tie
-
-  twice,
-  up_to-none,
-  up_to-next,
-  block-next,
-  Short,
-  short_none,
-  short-next,
-  short-block,
-  not-all-short,
-}
 
 abbrev invariant-loop : tie.invariant-loop-i
 invariant-loop sums total n below₀ i₀ below i = (i ≤ n) × (to_z w64 below ≡ up_to sums i) × Short sums (to_z w64 total) i
@@ -61,7 +50,7 @@ doubled : (e : tie.After-add invariant-loop decreases-loop) → let t = turn e.b
     to_z w64 (of_z w64 e.add.result) ≡ pos 2 *ℤ up_to t.args.sums.now (suc t.loop-i.i)
 doubled e =
     let t = turn e.before in
-    to_z-of_z (record { sfits = e.add.type_inv }) ∙ e.add.ensures ∙ ap₂ ◌+ℤ◌ (back e.before) (back e.before)
+    to_z-of_z {w = w64} (record { sfits = e.add.type_inv }) ∙ e.add.ensures ∙ ap₂ ◌+ℤ◌ (back e.before) (back e.before)
     ∙ sym (twice (up_to t.args.sums.now (suc t.loop-i.i)))
 
 loop-holds : tie.Need-loop-i-init invariant-loop decreases-loop

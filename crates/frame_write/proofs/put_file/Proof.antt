@@ -57,8 +57,8 @@ room c =
     let b = c.before.before.before.before in
     let a = b.before.before.before.before in
     let s = start c in
-    let n1 : length a.put_all_lem.new.0 ≡ length s.args.out.now = ap length a.put_all_lem.ensures ∙ simp length-sets in
-    let n2 : length b.put_all-2.new.out ≡ length a.put_all_lem.new.0 = ap length b.put_all-2.ensures ∙ simp length-sets in
+    let n1 : length a.put_all.new.out ≡ length s.args.out.now = ap length a.put_all.ensures ∙ simp length-sets in
+    let n2 : length b.put_all-2.new.out ≡ length a.put_all.new.out = ap length b.put_all-2.ensures ∙ simp length-sets in
     let n3 : length c.put_all-3.new.out ≡ length b.put_all-2.new.out = ap length c.put_all-3.ensures ∙ simp length-sets in
     omega (arith, s.requires.space, s.requires.values)
 
@@ -93,7 +93,7 @@ returns c =
     let n = length s.args.table.now in
     let p = length s.args.values.now in
     file-stored s.args.out.now k s.args.values.now s.args.guides.now s.args.table.now s.requires.values s.requires.guides
-    a.put_all_lem.ensures b.put_all-2.ensures o.put_all-3.ensures
+    a.put_all.ensures b.put_all-2.ensures o.put_all-3.ensures
     (part-stored o.put_all-3.new.out (4 * p + 2 * n) (field_bytes k ++ distance_bytes n p) (omega (arith, trailer-long k n p, room o))
     t.put_trailer.ensures) refl refl refl
 

@@ -109,9 +109,9 @@ loop-again c =
     let r = g.before.before.before.before in
     let h = (turn r).before in (
       omega (arith, (turn r).loop-k-test.true),
-      filled_next (begin h).requires.0.0 h.loop-k.invariant.1 (line r).column_line-line.ensures (listed r) g.change_pixels.auto.1.1.1.0
+      filled_next (begin h).requires.0.0 h.loop-k.invariant.1 (line r).column_line-line.ensures (listed r) g.change_pixels.auto.histogram
           g.change_pixels.ensures,
-      g.change_pixels.auto.1.1.1.0 ∙ h.loop-k.invariant.2,
+      g.change_pixels.auto.histogram ∙ h.loop-k.invariant.2,
     )
 
 same_length : tie.Need-shape_of-histogram invariant-loop decreases-loop

@@ -25,25 +25,9 @@ use Rattle.histogram.specs.Histogram.{Histogram}
 use Rattle.joint_search.specs.Window.{Counted}
 use Rattle.joint_guided.specs.Guided.{GuidedAt}
 use Rattle.joint_visit.specs.Visit.{box_cut}
-use Rattle.joint_visit.proofs.VisitLaws.{
+use Rattle.joint_visit.proofs.VisitLaws.{counted_of, counted-own, box-own, sums-own, histogram-own, carries_own, count_enough, count-moved, box-cut-joint, box-cut-table, box-cut-guided, table-visited, guided-visited, blocks-visited}
 use Rattle.joint_visit.proofs.slide.Statement.{statement}
 use Rattle.joint_visit.proofs.slide.Tie as tie
-
-  counted_of,
-  counted-own,
-  box-own,
-  sums-own,
-  histogram-own,
-  carries_own,
-  count_enough,
-  count-moved,
-  box-cut-joint,
-  box-cut-table,
-  box-cut-guided,
-  table-visited,
-  guided-visited,
-  blocks-visited,
-}
 
 -- the places passed: the step, the two lists, the level of the box, the stores moved, and in kind 2 the sums and the histogram; and the start
 abbrev begin : tie.After-step_to-step → tie.Start

@@ -44,8 +44,7 @@ returns-2 : tie.Need-returns-then-too_large
 returns-2 c = let e = c.before.before.before in past (verdict (bytes e)) (of-picture (bytes e)) (accepts e) (met 12 (picture c.before) c.if-too_large.true)
 
 returns-3 : tie.Need-returns
-returns-3 c = let e =
-    c.before.before in past (verdict (bytes e)) (of-picture (bytes e)) (accepts e) (sym (unmet 12 (picture c.before) c.if-too_large.false))
+returns-3 c = let e = c.before.before.before in past (verdict (bytes e)) (of-picture (bytes e)) (accepts e) (sym (unmet 12 (picture c.before) c.if-too_large.false))
 
 pub judge_frame_spec : {M : Type 1} → statement M
 judge_frame_spec = tie.close (tie.spec open-plan-requires stops-requires returns too-large-requires returns-2 returns-3)

@@ -7,7 +7,7 @@ use Rattle.chain.proofs.moves.slide.Tie as tie
 
 -- the start, from the place after the leaving pixels went out
 abbrev start : tie.After-merge_line-kept → tie.Start
-start o = o.before.before.before.before.before.before.before.before.before
+start o = o.before.before.before.before.before
 
 merge-line-requires : tie.Need-merge_line-kept-requires
 merge-line-requires c κs = let at = c.before.before.before.before in slide-removable at.requires

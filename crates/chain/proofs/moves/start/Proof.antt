@@ -14,19 +14,9 @@ use Rattle.pixels.specs.Pixels.{LinePixels}
 use Rattle.pixels.proofs.Laws.{line-part}
 use Rattle.chain_list.specs.Chain.{Beyond}
 use Rattle.chain.specs.Lines.{nodes_of}
-use Rattle.chain.proofs.MoveLaws.{
+use Rattle.chain.proofs.MoveLaws.{ColumnsListed, store-size, columns-empty, columns-insertable, columns-beyond, columns-inserted, columns-listed, listed-stored}
 use Rattle.chain.proofs.moves.start.Statement.{statement}
 use Rattle.chain.proofs.moves.start.Tie as tie
-
-  ColumnsListed,
-  store-size,
-  columns-empty,
-  columns-insertable,
-  columns-beyond,
-  columns-inserted,
-  columns-listed,
-  listed-stored,
-}
 
 abbrev invariant-loop : tie.invariant-loop-k
 invariant-loop file z s t nodes₀ cap left columns free₀ k₀ nodes free k =
@@ -164,7 +154,7 @@ loop-again c =
     )
 
 same_length : tie.Need-shape_of-nodes invariant-loop decreases-loop
-same_length c = let h = c.before in h.loop-k.invariant.2 ∙ (cleared h).clear-free.auto.0
+same_length c = let h = c.before in h.loop-k.invariant.2 ∙ (cleared h).clear-free.auto.nodes
 
 returns : tie.Need-returns invariant-loop decreases-loop
 returns c =
@@ -173,7 +163,7 @@ returns c =
     let v = h.loop-k.invariant in
     let e : h.loop-k.k ≡ span at.args.plan.radius at.args.s at.args.plan.width =
     omega (arith, v.1, c.loop-k-test.false, (spanned h).span_of-columns.ensures) in
-    listed-stored at.requires.0 _ _ _ (v.2 ∙ (cleared h).clear-free.auto.0)
+    listed-stored at.requires.0 _ _ _ (v.2 ∙ (cleared h).clear-free.auto.nodes)
     (λ j b. v.3 j b ∙ (cleared h).clear-free.ensures.beyond j (rw (sized h).node_count-cap.ensures.0 b))
     (columns-listed at.requires.0 _ _ at.requires.1.0.0 at.requires.1.0.1 (rw e at v.0))
 

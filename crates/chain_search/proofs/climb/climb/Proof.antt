@@ -5,25 +5,9 @@ use Prim.Native.Nat.{ℕ, ◌≤◌}
 use native.Mathlib.Omega.{arith}
 use borrow.Author.Rules.{rules}
 use Rattle.chain_search.specs.Climb.{Climbs}
-use Rattle.chain_search.proofs.ClimbLaws.{
+use Rattle.chain_search.proofs.ClimbLaws.{ahead, AtNode, node-start, first-in, node-from, node_in, node-count, node-sum, node-level, node-last, node-here, next-in, node-next, node-less}
 use Rattle.chain_search.proofs.climb.climb.Statement.{statement}
 use Rattle.chain_search.proofs.climb.climb.Tie as tie
-
-  ahead,
-  AtNode,
-  node-start,
-  first-in,
-  node-from,
-  node_in,
-  node-count,
-  node-sum,
-  node-level,
-  node-last,
-  node-here,
-  next-in,
-  node-next,
-  node-less,
-}
 
 abbrev invariant-loop : tie.invariant-loop-next
 invariant-loop nodes k count₀ sum₀ at₀ next₀ count sum at next =

@@ -106,10 +106,10 @@ cast-at : tie.Need-overflow_cast-at
 cast-at c = search rules
 
 mul-change : tie.Need-overflow_mul-a
-mul-change c = let g = c.before in let st = begin (valued g) in omega (arith, first-in g, st.requires.1.1.0.2, st.good)
+mul-change c = let g = c.before in let st = begin (valued g) in omega (arith, first-in g, st.requires.1.1.0.2, st.well_formed)
 
 add-change : tie.Need-overflow_add-a
-add-change c = let g = c.before in let st = begin (valued g) in omega (arith, first-in g, st.requires.1.1.0.2, st.good)
+add-change c = let g = c.before in let st = begin (valued g) in omega (arith, first-in g, st.requires.1.1.0.2, st.well_formed)
 
 change-requires : tie.Need-change-requires
 change-requires c κs =
@@ -124,13 +124,13 @@ mul-change-2 : tie.Need-overflow_mul-b
 mul-change-2 c =
     let g = guided c.before.before.before in
     let st = begin (valued g) in
-    omega (arith, second-in g, st.requires.1.1.0.2, st.good)
+    omega (arith, second-in g, st.requires.1.1.0.2, st.well_formed)
 
 add-change-2 : tie.Need-overflow_add-b
 add-change-2 c =
     let g = guided c.before.before.before in
     let st = begin (valued g) in
-    omega (arith, second-in g, st.requires.1.1.0.2, st.good)
+    omega (arith, second-in g, st.requires.1.1.0.2, st.well_formed)
 
 cast-change : tie.Need-overflow_cast-g
 cast-change c = omega (arith, guide-small (guided (counting c)))
@@ -146,7 +146,7 @@ change-requires-2 c κs =
     )
 
 same_length : tie.Need-shape_of-blocks
-same_length c = let o = c.before.before in o.change-2.auto.0 ∙ (counting o.before).change.auto.0
+same_length c = let o = c.before.before in o.change-2.auto.numbers ∙ (counting o.before).change.auto.numbers
 
 returns-2 : tie.Need-returns
 returns-2 c =

@@ -13,7 +13,11 @@ use Rattle.columns.proofs.store.slide.Goals as goal
 
 pub vertical-requires : goal.vertical-requires
 vertical-requires c = let k =
-    along-is c.requires.adjacent.0 c.if-s-s2.true in (c.requires.planned, (k, c.requires.adjacent.1))
+    along-is c.requires.adjacent c.if-s-s2.true in record {
+  planned = c.requires.planned;
+  s_lt_width = k;
+  blocks_value = c.requires.blocks_value;
+}
 
 pub returns-then-s-s2 : goal.returns-then-s-s2
 returns-then-s-s2 c = let p =
@@ -22,27 +26,27 @@ returns-then-s-s2 c = let p =
 
 pub exchange_of-d-requires : goal.exchange_of-d-requires
 exchange_of-d-requires c =
-    let k = (across-is c.requires.adjacent.0 c.if-s-s2.false).0 in
+    let k = (across-is c.requires.adjacent c.if-s-s2.false).0 in
     (k.in_old, k.in_new, (plan-limits c.requires.planned).width, (plan-limits c.requires.planned).radius)
 
 pub sideways-requires : goal.sideways-requires
 sideways-requires c =
-    let k = (across-is c.requires.adjacent.0 c.if-s-s2.false).0 in
+    let k = (across-is c.requires.adjacent c.if-s-s2.false).0 in
     let ed = c.exchange_of-d.ensures in
     let pl = c.requires.planned in record {
       w_bound = (
         (plan-limits pl).width,
         levels_high pl,
-        held-long pl c.args.s c.args.t c.args.blocks.now c.requires.adjacent.1,
-        sides-in pl c.args.s c.args.t c.args.blocks.now c.requires.adjacent.1 k ed,
+        held-long pl c.args.s c.args.t c.args.blocks.now c.requires.blocks_value,
+        sides-in pl c.args.s c.args.t c.args.blocks.now c.requires.blocks_value k ed,
       );
-      side_ready = sides-ready pl c.args.s c.args.t c.args.blocks.now c.requires.adjacent.1 k ed;
+      side_ready = sides-ready pl c.args.s c.args.t c.args.blocks.now c.requires.blocks_value k ed;
     }
 
 pub returns : goal.returns
 returns c =
-    let k = across-is c.requires.adjacent.0 c.if-s-s2.false in
+    let k = across-is c.requires.adjacent c.if-s-s2.false in
     let p = frame_of c.args.file.now in
-    sideways-done c.requires.planned c.args.s c.args.t c.args.blocks.now c.requires.adjacent.1 k.0 c.exchange_of-d.ensures _
+    sideways-done c.requires.planned c.args.s c.args.t c.args.blocks.now c.requires.blocks_value k.0 c.exchange_of-d.ensures _
     c.sideways.ensures
     ∙ ap (λ (q : ℕ). column_store p c.args.s2 q ++ drop (blocks_size p) c.args.blocks.now) (sym k.1)

@@ -1,3 +1,4 @@
+use mir.Syntax.{w64}
 use mir.Facts.{to_z-of_z}
 use native.Mathlib.Omega.{arith}
 use mathlib.Core.Path.{◌≡◌, refl, sym, ◌∙◌}
@@ -93,7 +94,7 @@ returns-3 c = let d =
     c.before in balances-done _ _ _ _ _
     (c.balance_verdict-w.ensures ∙ own-decides (plan-at d)
     (own c.before.before.before.before.before.before.before.before.before)) (outcome-at d)
-    (to_z-of_z (record { sfits = c.balance_at-b.type_inv }) ∙ c.balance_at-b.ensures)
+    (to_z-of_z {w = w64} (record { sfits = c.balance_at-b.type_inv }) ∙ c.balance_at-b.ensures)
 
 pub balance_spec : {M : Type 1} → statement M
 balance_spec = tie.close (tie.spec open-plan-requires stops-requires returns balance-verdict-requires stops-requires-2 returns-2 cast-t12 balance-at-requires returns-3)

@@ -104,7 +104,7 @@ loop-again c =
     let k = t.loop-k.k in
     let x = get_or t.loop-k.balance-box (guide_in p k) (pos 0) in
     let stored : to_z w16 (of_z w16 c.side_changed.result) ≡ changedℤ at.args.enters x (side at.args.cut.0 (level_in p k)) =
-    to_z-of_z (record { sfits = c.side_changed.type_inv }) ∙ (rw (read-bounded w16 {z = x} 32766 (room t) tt) at c.side_changed.ensures) in
+    to_z-of_z {w = w16} (record { sfits = c.side_changed.type_inv }) ∙ (rw (read-bounded w16 {z = x} 32766 (room t) tt) at c.side_changed.ensures) in
     let new = c.change_pixel.ensures in (
       omega (arith, t.loop-k-test.true),
       λ a. counts-next a t.loop-k-test.true (t.loop-k.invariant.1 a) new.0 new.1,

@@ -10,22 +10,9 @@ use Rattle.ints.specs.Bound.{sfits-abs}
 use Rattle.spec.specs.Base.{sum}
 use Rattle.joint_pixel.specs.Store.{cell_at}
 use Rattle.joint_cells.specs.Scan.{cell_dot, place_of, Scans}
-use Rattle.joint_cells.proofs.ScanLaws.{
+use Rattle.joint_cells.proofs.ScanLaws.{first-low, base-low, scan-asks, sofar-low, turn, walk_start, walk-again, walk-done, term-zero, place-low, place-ended}
 use Rattle.joint_cells.proofs.level.level_weight.Statement.{statement}
 use Rattle.joint_cells.proofs.level.level_weight.Tie as tie
-
-  first-low,
-  base-low,
-  scan-asks,
-  sofar-low,
-  turn,
-  walk_start,
-  walk-again,
-  walk-done,
-  term-zero,
-  place-low,
-  place-ended,
-}
 
 abbrev invariant-loop : tie.invariant-loop-c
 invariant-loop row m counts words i k first base dot₀ c₀ dot c =

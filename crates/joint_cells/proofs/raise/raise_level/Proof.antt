@@ -11,23 +11,10 @@ use Rattle.spec.specs.Base.{sum}
 use Rattle.joint_pixel.specs.Store.{cell_at}
 use Rattle.joint_cells.specs.Scan.{cell_dot, place_of, Scans}
 use Rattle.joint_cells.specs.Box.{CountsAdded}
-use Rattle.joint_cells.proofs.ScanLaws.{
+use Rattle.joint_cells.proofs.ScanLaws.{first-low, base-low, scan-asks, sofar-low, turn, walk_start, walk-again, walk-done, term-zero, place-low, place-ended}
 use Rattle.joint_cells.proofs.ShiftLaws.{shift-asks, shift-stored, shift-low, shift-start, shift-again, shift-done}
 use Rattle.joint_cells.proofs.raise.raise_level.Statement.{statement}
 use Rattle.joint_cells.proofs.raise.raise_level.Tie as tie
-
-  first-low,
-  base-low,
-  scan-asks,
-  sofar-low,
-  turn,
-  walk_start,
-  walk-again,
-  walk-done,
-  term-zero,
-  place-low,
-  place-ended,
-}
 
 abbrev invariant-loop : tie.invariant-loop-c
 invariant-loop row m cells₀ counts words i k first base dot₀ c₀ cells dot c =

@@ -206,7 +206,7 @@ loop-again-2 c =
 
 -- ---- the last level: none below it passes, so it does
 mul-count-2 : tie.Need-offset_bounds-counts-i-2 invariant-loop decreases-loop
-mul-count-2 c = omega (arith, c.loop-i.invariant.to, (start c.before).good)
+mul-count-2 c = omega (arith, c.loop-i.invariant.to, (start c.before).well_formed)
 
 shared-slice-read-count-2 : tie.Need-bounds-counts-i-2 invariant-loop decreases-loop
 shared-slice-read-count-2 c = c.loop-i.invariant.to

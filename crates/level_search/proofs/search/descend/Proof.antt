@@ -5,21 +5,9 @@ use mathlib.Core.Path.{◌≡◌, refl, sym, ◌∙◌, subst}
 use native.Mathlib.Omega.{arith}
 use lib.ListN.{length, get_or}
 use Rattle.level_search.specs.Search.{TallyTo, FailTo}
-use Rattle.level_search.proofs.SearchLaws.{
+use Rattle.level_search.proofs.SearchLaws.{tally, Descending, tally-back, tally-enough, tally-end, half_at, fail-below, fail-to, found-at, shifted_back}
 use Rattle.level_search.proofs.search.descend.Statement.{statement}
 use Rattle.level_search.proofs.search.descend.Tie as tie
-
-  tally,
-  Descending,
-  tally-back,
-  tally-enough,
-  tally-end,
-  half_at,
-  fail-below,
-  fail-to,
-  found-at,
-  shifted_back,
-}
 
 abbrev invariant-loop : tie.invariant-loop-c
 invariant-loop counts sums k shifts count₀ sum₀ n₀ c₀ count sum n c = Descending k counts sums shifts c₀ count sum n c
@@ -58,8 +46,7 @@ short c =
     (omega (arith, in-levels c.before.before.before.before))
     (sym
     (half_at c.args.coefficients
-    (c.loop-c.c - 1) (lower c.before.before.before)) ∙ sym c.reached.ensures ∙ not-true
-    _ c.if-not-reached.true))
+    (c.loop-c.c - 1) (lower c.before.before.before)) ∙ sym c.reached.ensures ∙ c.if-not-reached.true))
 
 cast-c : tie.Need-overflow_cast-c invariant-loop decreases-loop
 cast-c c = omega (arith, c.requires.1.0.0, c.requires.0.cells.levels)
@@ -160,7 +147,7 @@ loop-again c = let v =
           sym
           (half_at c.args.coefficients
           (c.loop-c.c - 1) (lower c.before.before.before))
-          ∙ sym c.reached.ensures ∙ not-false _ c.if-not-reached.false;
+          ∙ sym c.reached.ensures ∙ c.if-not-reached.false;
       counted = omega (arith, v.counted, c.loop-c-test.true);
     }
 
