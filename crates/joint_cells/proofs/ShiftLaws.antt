@@ -64,7 +64,7 @@ shift-asks ok by by' bx out g hb lo h s =
 
 pub shift-stored : (x by r : ℤ) (n : ℕ) → nat_abs x ≤ 961 → mag r < 2 ^ hbits w16 → r ≡ to_z w16 (of_z w16 x) +ℤ by *ℤ pos n →
     to_z w16 (of_z w16 r) ≡ x +ℤ by *ℤ pos n
-shift-stored x by r n h k e = to_z-of_z (record { sfits = k }) ∙ e ∙ ap (λ (q : ℤ). q +ℤ by *ℤ pos n) (read-bounded w16 {z = x} 961 h tt)
+shift-stored x by r n h k e = to_z-of_z {w = w16} (record { sfits = k }) ∙ e ∙ ap (λ (q : ℤ). q +ℤ by *ℤ pos n) (read-bounded w16 {z = x} 961 h tt)
 
 pub shift-low : (m i : ℕ) (by : ℤ) (cs : List ℕ) (bx out : List ℤ) (g : ℕ) → BoxInBounds bx → g < m → CountsAdded m i by cs (min g m) bx out →
     nat_abs (get_or out g (pos 0)) ≤ 961

@@ -60,7 +60,7 @@ returns-2 c =
     let h = at.requires.1.1.1 in
     visited-stays _ at.requires.0.0 at.args.visit _ _ _ _ _ _
     (sym c.next-m.ensures ∙ c.in-Nowhere.is)
-    (record { holds = h.holds; balance-box = h.balance-box; carried = h.carried }) refl
+    (record { holds = h.holds; balance-box = h.balance_box; carried = h.carried }) refl
 
 pub step_spec : {M : Type 1} → statement M
 step_spec = tie.close (tie.spec next-requires enum-known-m slide-requires enum-known-m-2 same_length same-length-2 same-length-3 returns returns-2)

@@ -112,7 +112,7 @@ loop-again-2 c =
           (next t) h.loop-b.invariant.2 e.raise_level.ensures.0 c.step_balance-b.type_inv c.step_balance-b.ensures,
       λ j u v. ⊎_elim (λ x. h.loop-b.invariant.3 j u x) (λ x. let d : j ≡ h.loop-b.i =
           omega arith in subst (λ (q : ℕ). bal at q <ℤ pos 0) (sym d) (below t)) (lt-or-le j h.loop-b.i),
-      raised at.args.sizes at.args.counts.now h.loop-b.i _ _ h.loop-b.balance-box _ h.loop-b.invariant.4 e.raise_level.ensures.1
+      raised at.args.sizes at.args.counts.now h.loop-b.i _ _ h.loop-b.balance_box _ h.loop-b.invariant.4 e.raise_level.ensures.1
           (omega arith) refl,
     )
 

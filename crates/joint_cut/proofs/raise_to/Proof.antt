@@ -41,7 +41,7 @@ loop-again c =
     let h = t.before in
     let at = start h in (
       omega (arith, t.loop-i-test.true),
-      raised at.args.sizes at.args.counts.now h.loop-i.i _ _ h.loop-i.balance-box
+      raised at.args.sizes at.args.counts.now h.loop-i.i _ _ h.loop-i.balance_box
           c.shift_level.new.balance_box h.loop-i.invariant.1 c.shift_level.ensures (omega arith) refl,
     )
 

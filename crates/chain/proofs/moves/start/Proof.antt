@@ -148,7 +148,7 @@ loop-again c =
       columns-inserted at.requires.0 _ _ at.requires.1.0.0 at.requires.1.0.1 (within (turn r)) (line-is r) (listed r) v.0
           n.merge_line-next.ensures,
       omega (arith, (turn r).loop-k-test.true),
-      n.merge_line-next.auto.1.1.1.0 ∙ v.2,
+      n.merge_line-next.auto.nodes ∙ v.2,
       λ j b. columns-beyond at.requires.0 _ _ at.requires.1.0.0 at.requires.1.0.1 (within (turn r)) (line-is r) (listed r) v.0
           n.merge_line-next.ensures j b ∙ v.3 j b,
     )

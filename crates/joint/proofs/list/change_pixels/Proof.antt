@@ -36,7 +36,7 @@ cell : (t : tie.In-loop-k invariant-loop decreases-loop) → guide_in (start t.b
 cell t = let a = (start t.before).requires.0 in omega (arith, a.below.guide t.loop-k.k t.loop-k-test.true, a.guides_high)
 
 room : (t : tie.In-loop-k invariant-loop decreases-loop) →
-    nat_abs (get_or t.loop-k.balance-box (guide_in (start t.before).args.p.now t.loop-k.k) (pos 0)) ≤ 32766
+    nat_abs (get_or t.loop-k.balance_box (guide_in (start t.before).args.p.now t.loop-k.k) (pos 0)) ≤ 32766
 room t = let at =
     start t.before in cell_room at.args.enters at.args.cut.0 at.args.p.now at.requires.1 t.loop-k-test.true (cell t)
     t.loop-k.invariant.2
@@ -81,7 +81,7 @@ element-copy-out-side-changed c = cell c.before.before.before.before.before.befo
 side-changed-requires : tie.Need-side_changed-requires invariant-loop decreases-loop
 side-changed-requires c κs =
     let t = c.before.before.before.before.before.before.before.before.before.before.before in
-    let x = get_or t.loop-k.balance-box (guide_in (start t.before).args.p.now t.loop-k.k) (pos 0) in
+    let x = get_or t.loop-k.balance_box (guide_in (start t.before).args.p.now t.loop-k.k) (pos 0) in
     rw (read-bounded w16 {z = x} 32766 (room t) tt) (room t)
 
 mul-t30 : tie.Need-offset_bounds-balance_box-f-in-loop-k invariant-loop decreases-loop
@@ -102,14 +102,14 @@ loop-again c =
     let at = start t.before in
     let p = at.args.p.now in
     let k = t.loop-k.k in
-    let x = get_or t.loop-k.balance-box (guide_in p k) (pos 0) in
+    let x = get_or t.loop-k.balance_box (guide_in p k) (pos 0) in
     let stored : to_z w16 (of_z w16 c.side_changed.result) ≡ changedℤ at.args.enters x (side at.args.cut.0 (level_in p k)) =
     to_z-of_z {w = w16} (record { sfits = c.side_changed.type_inv }) ∙ (rw (read-bounded w16 {z = x} 32766 (room t) tt) at c.side_changed.ensures) in
     let new = c.change_pixel.ensures in (
       omega (arith, t.loop-k-test.true),
       λ a. counts-next a t.loop-k-test.true (t.loop-k.invariant.1 a) new.0 new.1,
       box-next at.args.enters at.args.cut.0 p at.requires.1 t.loop-k-test.true (cell t) t.loop-k.invariant.2
-          (ap (set t.loop-k.balance-box (guide_in p k)) stored),
+          (ap (set t.loop-k.balance_box (guide_in p k)) stored),
     )
 
 same_length : tie.Need-shape_of-counts invariant-loop decreases-loop

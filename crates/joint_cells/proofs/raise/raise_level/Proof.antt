@@ -58,12 +58,12 @@ sofar h = let at = start h in sofar-low at.requires.0 at.requires.1 (place_of h.
 -- what is moved, at that guide
 moved : (g : tie.After-guide-g invariant-loop decreases-loop) →
     CountsAdded (start (head g)).args.m (start (head g)).args.level.0 (pos 2) (start (head g)).args.counts.now
-    (min g.guide-g.result.0 (start (head g)).args.m) (start (head g)).args.balance_box.now (head g).loop-c.balance-box
+    (min g.guide-g.result.0 (start (head g)).args.m) (start (head g)).args.balance_box.now (head g).loop-c.balance_box
 moved g =
     let at = start (head g) in
     subst
     (λ (q : ℕ). CountsAdded at.args.m at.args.level.0 (pos 2) at.args.counts.now (min q at.args.m)
-    at.args.balance_box.now (head g).loop-c.balance-box) (sym g.guide-g.ensures)
+    at.args.balance_box.now (head g).loop-c.balance_box) (sym g.guide-g.ensures)
     (head g).loop-c.invariant.3
 
 cast-i : tie.Need-overflow_cast-i invariant-loop decreases-loop
@@ -171,7 +171,7 @@ loop-again c =
           (λ (q : ℕ). h.loop-c.dot + get_or at.args.counts.now (cell_at at.args.m (level h) q) 0 * get_or at.args.row.now
           q 0) g.guide-g.ensures),
       shift-again at.requires.0 _ _ r _ _ _ (guide-low g) at.requires.2.long (rw (sym g.guide-g.ensures) at n) (moved g)
-          (shift-stored (get_or h.loop-c.balance-box r (pos 0)) (pos 2) e.plus_times.result
+          (shift-stored (get_or h.loop-c.balance_box r (pos 0)) (pos 2) e.plus_times.result
           (get_or at.args.counts.now (level h * at.args.m + r) 0)
           (shift-low _ (level h) _ _ _ _ r at.requires.2 (guide-low g) (moved g)) e.plus_times.type_inv e.plus_times.ensures),
     )

@@ -38,12 +38,12 @@ guide-low g = omega (arith, g.guide-g.ensures, low g.before)
 moved : (g : tie.After-guide-g invariant-loop decreases-loop) →
     CountsAdded (start (head g)).args.m (start (head g)).args.level.0 (to_z w16 (of_z w16 (start (head g)).args.by))
     (start (head g)).args.counts.now (min g.guide-g.result.0 (start (head g)).args.m) (start (head g)).args.balance_box.now
-    (head g).loop-c.balance-box
+    (head g).loop-c.balance_box
 moved g =
     let at = start (head g) in
     subst
     (λ (q : ℕ). CountsAdded at.args.m at.args.level.0 (to_z w16 (of_z w16 at.args.by)) at.args.counts.now (min q at.args.m)
-    at.args.balance_box.now (head g).loop-c.balance-box) (sym g.guide-g.ensures)
+    at.args.balance_box.now (head g).loop-c.balance_box) (sym g.guide-g.ensures)
     (head g).loop-c.invariant.2
 
 cast-i : tie.Need-overflow_cast-i invariant-loop decreases-loop
@@ -124,7 +124,7 @@ loop-again c =
       n.most,
       c.next-c.ensures.scans,
       shift-again at.requires.0 _ _ r _ _ _ (guide-low g) at.requires.1.1.long n (moved g)
-          (shift-stored (get_or h.loop-c.balance-box r (pos 0)) (to_z w16 (of_z w16 at.args.by)) e.plus_times.result
+          (shift-stored (get_or h.loop-c.balance_box r (pos 0)) (to_z w16 (of_z w16 at.args.by)) e.plus_times.result
           (get_or at.args.counts.now (at.args.level.0 * at.args.m + r) 0)
           (shift-low _ at.args.level.0 _ _ _ _ r at.requires.1.1 (guide-low g) (moved g)) e.plus_times.type_inv e.plus_times.ensures),
     )
@@ -135,7 +135,7 @@ returns c =
     let at = start h in
     subst
     (λ (q : ℤ). CountsAdded at.args.m at.args.level.0 q at.args.counts.now at.args.m at.args.balance_box.now
-    h.loop-c.balance-box) (read-bounded w16 2 at.requires.1.0 tt)
+    h.loop-c.balance_box) (read-bounded w16 2 at.requires.1.0 tt)
     (shift-done at.requires.0 _ _ (place_of h.loop-c.c) _ (place-ended at.requires.0 h.loop-c.c c.loop-c-test.false) h.loop-c.invariant.2)
 
 pub shift_level_spec : {M : Type 1} → statement M
