@@ -46,7 +46,7 @@ untouched a out h =
     record {
       shifts = h.shifts;
       cut = h.cut;
-      balance-box = h.balance_box;
+      balance-box = h.balance-box;
       counts = refl;
       words = refl;
       numbers = refl;
@@ -74,7 +74,7 @@ ended {way} {p} {x} {a} {z} due after h e =
     record {
       shifts = h.closed.shifts;
       cut = h.closed.cut;
-      balance-box = h.closed.handed_back.balance_box;
+      balance-box = h.closed.handed_back.balance-box;
       counts =
           whole (room_of way p.set).counts (counts_of way p x.column x.row) z.stores.counts a.stores.counts h.holds.counts
           h.kept.counts.beyond;

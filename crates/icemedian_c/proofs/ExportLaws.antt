@@ -117,7 +117,7 @@ module _ {b : List ℕ} {way s t : ℕ} {moves : List ℕ} {a z : Lent} {before 
         reported = reported w.verdict h.verdict q;
         called = called h.refused h.walked (lends _ h.verdict es (λ e. (h.walked e).shifts));
         cut-is = lends _ h.verdict ec (λ e. (h.walked e).cut);
-        box-is = lends _ h.verdict eb (λ e. (h.walked e).balance_box);
+        box-is = lends _ h.verdict eb (λ e. (h.walked e).balance-box);
       }
 
 module _ {b : List ℕ} {way : ℕ} {a z : Lent} {before after : List ℕ} {w : Walked} (h : Filters b way a z before after w)

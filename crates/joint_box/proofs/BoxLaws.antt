@@ -113,7 +113,7 @@ module _ {bx : List ℤ} (lo : BoxInBounds bx) where
     pub cell-more : {v : ℤ} → mag v < 2 ^ hbits w16 → v ≡ to_z w16 d +ℤ to_z w16 (of_z w16 (get_or bx f (pos 0))) →
         to_z w16 (of_z w16 v) ≡ box_sum bx (f + 1)
     cell-more s e =
-        to_z-of_z (record { sfits = s }) ∙ e ∙ ap₂ (λ (x y : ℤ). x +ℤ y) ed (cell-back f ∙ sym (mul-one (get_or bx f (pos 0))))
+        to_z-of_z {w = w16} (record { sfits = s }) ∙ e ∙ ap₂ (λ (x y : ℤ). x +ℤ y) ed (cell-back f ∙ sym (mul-one (get_or bx f (pos 0))))
         ∙ ap (λ (k : ℕ). box_sum bx f +ℤ get_or bx k (pos 0) *ℤ pos 1) (sym (zero-add f))
         ∙ sym (part-next bx (λ k. pos 1) 0 f) ∙ ap (box_sum bx) (sym (add-one f))
 
@@ -152,7 +152,7 @@ module _ {bx : List ℤ} {row : List ℕ} where
     more-asks = (before-low, rw back more-low)
 
     pub more : {v : ℤ} → mag v < 2 ^ hbits w32 → v ≡ to_z w32 d +ℤ to_z w32 (of_z w32 q) → to_z w32 (of_z w32 v) ≡ centred_part bx row f (n + k)
-    more s e = to_z-of_z (record { sfits = s }) ∙ e ∙ ap₂ (λ (x y : ℤ). x +ℤ y) ed (back ∙ eq) ∙ sym (part_join bx _ f n k)
+    more s e = to_z-of_z {w = w32} (record { sfits = s }) ∙ e ∙ ap₂ (λ (x y : ℤ). x +ℤ y) ed (back ∙ eq) ∙ sym (part_join bx _ f n k)
 
   -- ---- the first cells of the box, as the search asks for them
   pub part_of : {m : ℕ} → m ≤ 256 → RowFits m row → BoxInBounds bx → PartFits m 0 bx row

@@ -195,7 +195,7 @@ module _ (way : Way) {b vs : List ℕ} {z : Plan} (k : Pictured b vs z) (cs ws n
                   joined (p.set.levels * words_per_level p.set) (occupancy_words p s t) ws
                   (ap (λ (n : ℕ). take n ws) (sym (j.words-room p.set)) ∙ g.holds.words ∙ j.words p s t);
               box =
-                  g.balance_box ∙ j.box p s t v.cut.0 ∙ ap (λ (n : ℕ). balance_box_at p s t (joint.box_cut (by_blocks way) n v.cut.0))
+                  g.balance-box ∙ j.box p s t v.cut.0 ∙ ap (λ (n : ℕ). balance_box_at p s t (joint.box_cut (by_blocks way) n v.cut.0))
                   (sym (facts k).kind);
             };
           },
@@ -260,7 +260,7 @@ module _ (way : Way) {b : List ℕ} {z : Plan} (k : Planned b z) (cs ws ns : Lis
             below = g.carried.1;
             store = joined (room_of Columns (frame_of b).set).numbers (column_store (frame_of b) v.column v.row) ns g.holds.numbers;
           },
-          g.balance_box,
+          g.balance-box,
         )
 
     pub columns-visited : (s t c n : ℕ) (ns' : List ℕ) → way ≡ Columns → ColumnsVisited (frame_of b) (arrive Columns (frame_of b) s t c n) ns v ns'
@@ -297,7 +297,7 @@ module _ (way : Way) {b : List ℕ} {z : Plan} (k : Planned b z) (cs ws ns : Lis
             listed =
                 subst (λ (q : Plan). Listed b q v.column v.row v.running.free ns) (sym k.plan) g.carried.1;
           },
-          g.balance_box,
+          g.balance-box,
         )
 
     pub chain-visited : (s t c n : ℕ) (ns' : List ℕ) → way ≡ Chain → ChainVisited b z (arrive Chain (frame_of b) s t c n) ns v ns' → d ≡ zeros →

@@ -72,8 +72,7 @@ mul-x-2 : tie.Need-offset_bounds-p-next invariant-loop decreases-loop
 mul-x-2 c = omega (arith, turn_low c.before)
 
 shared-slice-read-x-2 : tie.Need-bounds-p-next invariant-loop decreases-loop
-shared-slice-read-x-2 c = let t =
-    c.before.before in omega (arith, (places-in (start t.before).args.p.now t.loop-k.k t.loop-k-test.true).1)
+shared-slice-read-x-2 c = let t = c.before.before in omega (arith, (places-in (start t.before).args.p.now t.loop-k.k t.loop-k-test.true).1)
 
 cast-x : tie.Need-overflow_cast-x invariant-loop decreases-loop
 cast-x c = omega (arith, inside c, (start (turn c).before).good.1.0, numbers c)

@@ -43,20 +43,20 @@ mul-row c = let t = c.before.before in let at =
     start t.before in omega (arith, t.loop-k-test.true, guides_high at.requires.0, t.loop-k.invariant.1.long, t.loop-k.invariant.3)
 
 element-write-row : tie.Need-bounds-row-k invariant-loop decreases-loop
-element-write-row c = let t = c.before.before in let at =
-    start t.before.before in omega (arith, t.loop-k-test.true, guides_high at.requires.0, t.loop-k.invariant.1.long, t.loop-k.invariant.3)
+element-write-row c = let t = c.before.before.before in let at =
+    start t.before in omega (arith, t.loop-k-test.true, guides_high at.requires.0, t.loop-k.invariant.1.long, t.loop-k.invariant.3)
 
 add-k : tie.Need-overflow_add-k invariant-loop decreases-loop
-add-k c = let t = c.before.before in let at =
-    start t.before.before in omega (arith, t.loop-k-test.true, guides_high at.requires.0, t.loop-k.invariant.1.long, t.loop-k.invariant.3)
+add-k c = let t = c.before.before.before in let at =
+    start t.before in omega (arith, t.loop-k-test.true, guides_high at.requires.0, t.loop-k.invariant.1.long, t.loop-k.invariant.3)
 
 loop-less : tie.Need-loop-k-smaller invariant-loop decreases-loop
 loop-less c = omega (arith, c.loop-k-test.true)
 
 loop-again : tie.Need-loop-k-preserved invariant-loop decreases-loop
 loop-again c =
-    let t = c.before.before in
-    let h = t.before.before in
+    let t = c.before.before.before in
+    let h = t.before in
     let w = c.weight_at.ensures in (
       omega (arith, t.loop-k-test.true),
       made-next h.loop-k.k _ (omega arith) (omega (arith, t.loop-k-test.true, guides_high (start h).requires.0, h.loop-k.invariant.3)) w.0

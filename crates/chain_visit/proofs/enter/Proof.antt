@@ -19,9 +19,9 @@ start-requires-2 c κs = let at = c.before.before.before.before in (at.requires.
 
 answer-at-requires : tie.Need-answer_at-requires
 answer-at-requires c κs =
-    let n = c.before.before.before in
+    let n = c.before.before in
     let a = n.before.before in
-    let at = a.before.before in
+    let at = a.before.before.before in
     (at.requires.0, ((at.requires.1.0.0, at.requires.1.0.1, omega arith), (a.start-sums.ensures, n.start-free.ensures.listed)))
 
 same_length : tie.Need-shape_of-numbers
@@ -34,7 +34,7 @@ begins c = c.answer_at.ensures.0
 
 returns : tie.Need-returns
 returns c =
-    let n = c.before.before.before.before in
+    let n = c.before.before.before in
     let a = n.before.before in
     let e = c.answer_at.ensures in
     chain-visited _ _ _ _ _ _ _ _ _ _ _ (begins c) (e.1, e.2) a.start-sums.ensures n.start-free.ensures

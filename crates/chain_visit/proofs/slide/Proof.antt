@@ -61,7 +61,7 @@ stored n =
     let r = both (carried n) in
     let d = step (first r) in
     let at = begin d in
-    slid-stored at.requires.0.0 at.requires.1.0.1 d.step_to-step.ensures (enters r) (leaves r) at.requires.1.1.listed n.slide-free.auto.1.1.1.0
+    slid-stored at.requires.0.0 at.requires.1.0.1 d.step_to-step.ensures (enters r) (leaves r) at.requires.1.1.listed n.slide-free.auto.nodes
     n.slide-free.ensures
 
 step-to-requires : tie.Need-step_to-step-requires
@@ -119,7 +119,7 @@ part-slide-start : tie.Need-slice_bounds-slide-start
 part-slide-start c = search rules
 
 part-slide-end : tie.Need-slice_bounds-slide-end
-part-slide-end c = let r = first (both c) in omega (arith, r.read-n.ensures.0, r.read-n.kept.1.1.1.0)
+part-slide-end c = let r = first (both c) in omega (arith, r.read-n.ensures.0, r.read-n.auto.places)
 
 sub-slide-2 : tie.Need-slice_bounds-slide-count-2
 sub-slide-2 c = search rules
@@ -128,7 +128,7 @@ part-slide-start-2 : tie.Need-slice_bounds-slide-start-2
 part-slide-start-2 c = search rules
 
 part-slide-end-2 : tie.Need-slice_bounds-slide-end-2
-part-slide-end-2 c = let r = both c.before in omega (arith, r.read-k.ensures.0, r.read-k.kept.1.1.1.0)
+part-slide-end-2 c = let r = both c.before in omega (arith, r.read-k.ensures.0, r.read-k.auto.places)
 
 slide-requires : tie.Need-slide-free-requires
 slide-requires c κs =
@@ -145,7 +145,7 @@ answer-at-requires c κs =
     (at.requires.0, ((k.2, k.3, at.requires.1.0.0.shifts), (summed (carried n), (stored n).listed)))
 
 same_length : tie.Need-shape_of-numbers
-same_length c = c.slide-free.auto.1.1.1.0
+same_length c = c.slide-free.auto.nodes
 
 returns : tie.Need-returns
 returns c =

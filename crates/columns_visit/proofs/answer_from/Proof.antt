@@ -34,8 +34,7 @@ part-answer-start : tie.Need-slice_bounds-answer-start
 part-answer-start c = search rules
 
 part-answer-end : tie.Need-slice_bounds-answer-end
-part-answer-end c = let st =
-    c.before.before in omega (arith, places-in st.args.plan.width st.args.plan.levels st.requires.0.0 st.requires.0.1 _ st.requires.0.2)
+part-answer-end c = let st = c.before.before in omega (arith, places-in st.args.plan.width st.args.plan.levels st.requires.0.0 st.requires.0.1 _ st.requires.0.2)
 
 mul-answer-2 : tie.Need-offset_bounds-blocks-middle
 mul-answer-2 c = omega (arith, small c.before.before.before, c.requires.0.1)

@@ -48,7 +48,7 @@ unread-requires : tie.Need-unread-requires
 unread-requires c κs = search rules
 
 same_length : tie.Need-shape_of-blocks-then-sums-eq0
-same_length c = (storing c.before.before.before).start.auto.1.1.0
+same_length c = (storing c.before.before.before).start.auto.blocks
 
 returns : tie.Need-returns-then-sums-eq0
 returns c =
@@ -67,8 +67,8 @@ of-window-requires c κs =
 
 answer-from-requires : tie.Need-answer_from-found-requires
 answer-from-requires c κs =
-    let k = c.before in
-    let m = storing (summing k) in
+    let k = c in
+    let m = storing (summing k.before) in
     let st = begin m in
     let h = made-self (frame_of st.args.file.now) st.args.column st.args.row _ _ m.start.ensures in (
       store-places st.requires.0.0 st.args.column st.args.row _ h,
@@ -82,19 +82,19 @@ answered-requires : tie.Need-answered-requires
 answered-requires c κs = search rules
 
 same-length-2 : tie.Need-shape_of-blocks
-same-length-2 c = let r = c.before.before.before.before.before in (storing (summing r)).start.auto.1.1.0
+same-length-2 c = let r = c.before.before.before.before.before in (storing (summing r)).start.auto.blocks
 
 returns-2 : tie.Need-returns
 returns-2 c =
     let f = c.before.before.before in
-    let k = f.before.before in
-    let a = summing k in
+    let k = f.before in
+    let a = summing k.before in
     let m = storing a in
     let st = begin m in
     let e = f.answer_from-found.ensures in
     visited (frame_of st.args.file.now) st.args.column st.args.row 0 0 _ _ _ _ _ c.answered.ensures a.start-sums.ensures
     (start-answered st.requires.0.0 st.requires.0.1 st.requires.1.0.0 st.requires.1.0.1 k.of_window-coefficients.ensures (cells m) Columns refl
-    (reads k) e.0 e.1)
+    (reads k.before) e.0 e.1)
     m.start.ensures
 
 pub enter_spec : {M : Type 1} → statement M

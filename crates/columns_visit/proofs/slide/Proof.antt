@@ -151,7 +151,7 @@ unread-requires : tie.Need-unread-requires
 unread-requires c κs = search rules
 
 same_length : tie.Need-shape_of-blocks-then-present-eq0
-same_length c = (storing c.before.before).slide.auto.1.1.0
+same_length c = (storing c.before.before).slide.auto.blocks
 
 returns : tie.Need-returns-then-present-eq0
 returns c =
@@ -186,7 +186,7 @@ part-carried-where-start c = search rules
 part-carried-where-end : tie.Need-slice_bounds-carried_where-end
 part-carried-where-end c =
     let r = first (lists (moved_on c.before.before)) in
-    omega (arith, r.read-n.ensures.0, r.read-n.kept.1.1.1.0)
+    omega (arith, r.read-n.ensures.0, r.read-n.auto.places)
 
 sub-carried-where-2 : tie.Need-slice_bounds-carried_where-count-2
 sub-carried-where-2 c = search rules
@@ -197,7 +197,7 @@ part-carried-where-start-2 c = search rules
 part-carried-where-end-2 : tie.Need-slice_bounds-carried_where-end-2
 part-carried-where-end-2 c =
     let r = lists (moved_on c.before.before.before) in
-    omega (arith, r.read-k.ensures.0, r.read-k.kept.1.1.1.0)
+    omega (arith, r.read-k.ensures.0, r.read-k.auto.places)
 
 carried-where-requires : tie.Need-carried_where-tally-requires
 carried-where-requires c κs =
@@ -235,7 +235,7 @@ answered-requires : tie.Need-answered-requires
 answered-requires c κs = search rules
 
 same-length-2 : tie.Need-shape_of-blocks
-same-length-2 c = let t = c.before.before.before.before in (moved_on (steady t).before).slide.auto.1.1.0
+same-length-2 c = let t = c.before.before.before.before in (moved_on (steady t).before).slide.auto.blocks
 
 returns-2 : tie.Need-returns
 returns-2 c =

@@ -46,11 +46,11 @@ back e =
     (e.add-reached.ensures ∙ ap₂ ◌+ℤ◌ t.loop-i.invariant.1 (sum_back t) ∙ sym (up_to-next sums t.loop-i.i))
     ∙ read-bounded w64 173129780571075 (next_low t) tt
 
-doubled : (e : tie.After-add invariant-loop decreases-loop) → let t = turn e.before in
+doubled : (e : tie.After-add invariant-loop decreases-loop) → let t = turn e in
     to_z w64 (of_z w64 e.add.result) ≡ pos 2 *ℤ up_to t.args.sums.now (suc t.loop-i.i)
 doubled e =
-    let t = turn e.before in
-    to_z-of_z {w = w64} (record { sfits = e.add.type_inv }) ∙ e.add.ensures ∙ ap₂ ◌+ℤ◌ (back e.before) (back e.before)
+    let t = turn e in
+    to_z-of_z {w = w64} (record { sfits = e.add.type_inv }) ∙ e.add.ensures ∙ ap₂ ◌+ℤ◌ (back e) (back e)
     ∙ sym (twice (up_to t.args.sums.now (suc t.loop-i.i)))
 
 loop-holds : tie.Need-loop-i-init invariant-loop decreases-loop
@@ -91,11 +91,11 @@ add-requires-2 : tie.Need-add-requires invariant-loop decreases-loop
 add-requires-2 c κs = let l = next_low (turn c) in (rw (back c) l, rw (back c) l)
 
 cast-t13 : tie.Need-overflow_cast-result invariant-loop decreases-loop
-cast-t13 c = let t = turn c.before.before in omega (arith, t.loop-i-test.true, t.requires.sums.few)
+cast-t13 c = let t = turn c.before in omega (arith, t.loop-i-test.true, t.requires.sums.few)
 
 returns : tie.Need-returns-then-total-add invariant-loop decreases-loop
 returns c =
-    let e = c.before.before in
+    let e = c.before in
     let t = turn e in
     let h = t.before in
     let at = h.before in
@@ -108,14 +108,14 @@ returns c =
     }
 
 add-i-2 : tie.Need-overflow_add-i-else-vacant invariant-loop decreases-loop
-add-i-2 c = let t = turn c.before.before in omega (arith, t.loop-i-test.true, t.requires.sums.few)
+add-i-2 c = let t = turn c.before in omega (arith, t.loop-i-test.true, t.requires.sums.few)
 
 loop-less-2 : tie.Need-loop-i-smaller invariant-loop decreases-loop
-loop-less-2 c = omega (arith, (turn c.before.before).loop-i-test.true)
+loop-less-2 c = omega (arith, (turn c.before).loop-i-test.true)
 
 loop-again-2 : tie.Need-loop-i-preserved invariant-loop decreases-loop
 loop-again-2 c =
-    let e = c.before.before in
+    let e = c.before in
     let t = turn e in
     let h = t.before in (
       omega (arith, t.loop-i-test.true),

@@ -108,8 +108,7 @@ step-requires c κs =
 
 add-i : tie.Need-overflow_add-i-in-loop-i invariant-loop decreases-loop
 unfolding entry
-add-i c = let h =
-    c.before.before.before.before.before.before.before.before.before.before.before.before.before.before.before in
+add-i c = let h = c.before.before.before.before.before.before.before.before.before.before.before.before.before.before.before in
     omega (arith, sweeping-low _ (entry h.before).requires.0.0 _ _ _ _ _ _ _ _ _ h.loop.invariant)
 
 -- the place of the answer
@@ -188,8 +187,7 @@ loop-less c =
 loop-again : tie.Need-loop-i-preserved invariant-loop decreases-loop
 unfolding entry
 loop-again c =
-    let l =
-    c.before.before.before.before.before.before.before.before.before.before.before.before.before.before.before.before.before.before in
+    let l = c.before.before.before.before.before.before.before.before.before.before.before.before.before.before.before.before.before.before in
     sweeping-more _ (entry l.before).requires.0.0 _ _ _ _ _ _ _ _ _ l.loop-i.invariant
     (omega (
       arith,

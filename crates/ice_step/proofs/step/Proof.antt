@@ -10,8 +10,7 @@ use Rattle.ice_step.proofs.step.Statement.{statement}
 use Rattle.ice_step.proofs.step.Tie as tie
 
 next-requires : tie.Need-next-m-requires
-next-requires c κs = let at =
-    c.before.before.before.before.before.before in (settings-limits-in at.requires.0.0, (at.requires.1.0.column, at.requires.1.0.row))
+next-requires c κs = let at = c.before.before.before.before.before.before in (settings-limits-in at.requires.0.0, (at.requires.1.0.column, at.requires.1.0.row))
 
 enum-known-m : tie.Need-enum_known-m
 enum-known-m c = search rules
@@ -46,8 +45,7 @@ same-length-3 c = search rules
 
 returns : tie.Need-returns-in-To
 returns c =
-    let at =
-    c.before.before.before.before.before.before.before.before.before.before.before.before.before.before.before.before.before.before.before.before.before.before in
+    let at = c.before.before.before.before.before.before.before.before.before.before.before.before.before.before.before.before.before.before.before.before.before.before in
     visited-moves _ at.requires.0.0 at.args.visit _ _ _ _ _ _ _ _
     (sym
     c.next-m.ensures ∙

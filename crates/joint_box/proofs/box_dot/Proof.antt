@@ -52,7 +52,7 @@ add-requires : tie.Need-add-dot-requires invariant-loop decreases-loop
 add-requires c κs =
     let t = c.before in
     let h = t.before in
-    more-asks h.loop-f.f 32 h.loop-f.dot (first h (h.loop-f.f + 32) t.loop-f-test.true) h.loop-f.invariant.1 (after h 32 c.part.ensures)
+    more-asks h.loop-f.f 32 h.loop-f.dot-bits (first h (h.loop-f.f + 32) t.loop-f-test.true) h.loop-f.invariant.1 (after h 32 c.part.ensures)
 
 add-f : tie.Need-overflow_add-f-in-loop-f invariant-loop decreases-loop
 add-f c = let t = c.before.before in omega (arith, t.loop-f-test.true, (start t.before).requires.0)
@@ -66,7 +66,7 @@ loop-again c =
     let t = p.before in
     let h = t.before in (
       omega (arith, t.loop-f-test.true),
-      more h.loop-f.f 32 h.loop-f.dot (first h (h.loop-f.f + 32) t.loop-f-test.true) h.loop-f.invariant.1 (after h 32 p.part.ensures)
+      more h.loop-f.f 32 h.loop-f.dot-bits (first h (h.loop-f.f + 32) t.loop-f-test.true) h.loop-f.invariant.1 (after h 32 p.part.ensures)
           c.add-dot.type_inv c.add-dot.ensures,
     )
 
@@ -84,7 +84,7 @@ add-requires-2 : tie.Need-add-whole-requires invariant-loop decreases-loop
 add-requires-2 c κs =
     let h = c.before.before in
     let n = (start h).args.m - h.loop-f.f in
-    more-asks h.loop-f.f n h.loop-f.dot (first h (h.loop-f.f + n) (omega (arith, rest h))) h.loop-f.invariant.1 (after h n c.part-2.ensures)
+    more-asks h.loop-f.f n h.loop-f.dot-bits (first h (h.loop-f.f + n) (omega (arith, rest h))) h.loop-f.invariant.1 (after h n c.part-2.ensures)
 
 -- all m of them
 abbrev head : tie.After-add-whole invariant-loop decreases-loop → tie.At-loop-f invariant-loop decreases-loop
@@ -95,7 +95,7 @@ whole : (a : tie.After-add-whole invariant-loop decreases-loop) → let at = sta
 whole a =
     let h = head a in
     let n = (start h).args.m - h.loop-f.f in
-    more h.loop-f.f n h.loop-f.dot (first h (h.loop-f.f + n) (omega (arith, rest h))) h.loop-f.invariant.1 (after h n a.part-2.ensures)
+    more h.loop-f.f n h.loop-f.dot-bits (first h (h.loop-f.f + n) (omega (arith, rest h))) h.loop-f.invariant.1 (after h n a.part-2.ensures)
     a.add-whole.type_inv a.add-whole.ensures ∙ ap (centred_part (start h).args.balance_box.now (start h).args.row.now 0) (rest h)
 
 sum-cells-requires : tie.Need-sum_cells-requires invariant-loop decreases-loop

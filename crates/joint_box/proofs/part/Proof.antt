@@ -84,7 +84,7 @@ product-requires c κs =
 add-requires : tie.Need-add-sum-requires invariant-loop decreases-loop
 add-requires c κs =
     let t = turn c.before in
-    more-asks t.loop-k.k 1 t.loop-k.sum (here t) t.loop-k.invariant.1 (product_is c)
+    more-asks t.loop-k.k 1 t.loop-k.sum-bits (here t) t.loop-k.invariant.1 (product_is c)
 
 add-k : tie.Need-overflow_add-k invariant-loop decreases-loop
 add-k c = let t = turn c.before.before in omega (arith, t.loop-k-test.true, (start t.before).requires.inside)
@@ -97,7 +97,7 @@ loop-again c =
     let p = c.before in
     let t = turn p.before in (
       omega (arith, t.loop-k-test.true),
-      more t.loop-k.k 1 t.loop-k.sum (here t) t.loop-k.invariant.1 (product_is p) c.add-sum.type_inv c.add-sum.ensures,
+      more t.loop-k.k 1 t.loop-k.sum-bits (here t) t.loop-k.invariant.1 (product_is p) c.add-sum.type_inv c.add-sum.ensures,
     )
 
 returns : tie.Need-returns invariant-loop decreases-loop

@@ -31,7 +31,7 @@ add-cell-requires : tie.Need-add_cell-sum-requires invariant-loop decreases-loop
 add-cell-requires c κs =
     let t = c.before in
     let h = t.before in
-    cell-asks (start h).requires.1 h.loop-f.f h.loop-f.sum (omega (arith, t.loop-f-test.true, (start h).requires.0)) h.loop-f.invariant.1
+    cell-asks (start h).requires.1 h.loop-f.f h.loop-f.sum-bits (omega (arith, t.loop-f-test.true, (start h).requires.0)) h.loop-f.invariant.1
 
 add-f : tie.Need-overflow_add-f invariant-loop decreases-loop
 add-f c = let t = c.before.before in omega (arith, t.loop-f-test.true, (start t.before).requires.0)
@@ -44,7 +44,7 @@ loop-again c =
     let t = c.before.before in
     let h = t.before in (
       omega (arith, t.loop-f-test.true),
-      cell-more (start h).requires.1 h.loop-f.f h.loop-f.sum (omega (arith, t.loop-f-test.true, (start h).requires.0)) h.loop-f.invariant.1
+      cell-more (start h).requires.1 h.loop-f.f h.loop-f.sum-bits (omega (arith, t.loop-f-test.true, (start h).requires.0)) h.loop-f.invariant.1
           c.add_cell-sum.type_inv c.add_cell-sum.ensures,
     )
 

@@ -54,8 +54,8 @@ part-arrive-end-2 c = search rules
 
 arrive-requires : tie.Need-arrive-requires
 arrive-requires c κs =
-    let w = c.before.before.before.before.before.before in
-    let a = w.before.before in
+    let w = c.before.before.before in
+    let a = w.before in
     let h = a.before.before.before in
     let at = begin h in
     let k = at.requires.0.0 in (
@@ -72,7 +72,7 @@ arrive-requires c κs =
     )
 
 same_length : tie.Need-shape_of-histogram
-same_length c = c.start.auto.1.1.1.1.0
+same_length c = c.start.auto.histogram
 
 returns : tie.Need-returns
 returns c = c.arrive.ensures

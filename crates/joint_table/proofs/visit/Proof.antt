@@ -52,8 +52,8 @@ answered-requires c κs = search rules
 
 returns-2 : tie.Need-returns
 returns-2 c =
-    let r = c.before in
-    let e = r.before.before.before in
+    let r = c.before.before in
+    let e = r.before.before in
     let at = start e in
     let p = frame_with at.args.file.now at.args.plane.now in
     let s = at.args.column in

@@ -49,7 +49,7 @@ returns c =
 
 enter-requires : tie.Need-enter-requires
 enter-requires c κs =
-    let i = c.before.before.before.before.before.before in
+    let i = c.before.before.before.before in
     let k = built i.before in
     let at = begin k in
     let f = at.requires.0.0 in
@@ -75,7 +75,7 @@ same-length-6 c = search rules
 returns-2 : tie.Need-returns-then-plan-eq2
 returns-2 c =
     let r = c.before.before in
-    let w = r.before.before.before.before.before in
+    let w = r.before.before.before in
     let i = w.before.before in
     let k = built i.before in
     let at = begin k in
@@ -87,7 +87,7 @@ start-requires c κs = let f = (begin (built c.before)).requires.0.0 in (with-ow
 
 visit-requires : tie.Need-visit-requires
 visit-requires c κs =
-    let i = c.before.before.before.before in
+    let i = c.before.before in
     let k = built i.before in
     let at = begin k in
     let f = at.requires.0.0 in (
@@ -108,7 +108,7 @@ same-length-8 c = search rules
 
 returns-3 : tie.Need-returns
 returns-3 c =
-    let i = c.before.before.before.before.before in
+    let i = c.before.before.before in
     let k = built i.before in
     let at = begin k in
     let f = at.requires.0.0.pictured in

@@ -173,7 +173,7 @@ part-moved-start c = search rules
 part-moved-end : tie.Need-slice_bounds-moved-end
 part-moved-end c =
     let r = first (both (stored c.before.before.before)) in
-    omega (arith, r.read_in-n.ensures.0, r.read_in-n.kept.1.1.1.1.0)
+    omega (arith, r.read_in-n.ensures.0, r.read_in-n.auto.places)
 
 sub-moved-2 : tie.Need-slice_bounds-moved-count-then-plan-eq2
 sub-moved-2 c = search rules
@@ -217,7 +217,7 @@ histogram-is h =
     let r = both (stored i) in
     let d = step (first r) in
     histogram.exchanged-histogram (begin d).requires.0.0.pictured (begin d).requires.0.1 d.step_to-step.ensures (enters r) (leaves r) (was i).histogram-1
-    h.exchange-then-plan-eq2.auto.1.1.1.0 h.exchange-then-plan-eq2.ensures
+    h.exchange-then-plan-eq2.auto.histogram h.exchange-then-plan-eq2.ensures
 
 -- way 4
 arrive-by-blocks-requires : tie.Need-arrive_by_blocks-requires
@@ -241,18 +241,18 @@ abbrev exchanged : tie.After-exchange-then-plan-eq2 → tie.After-exchange
 exchanged h = stored (kind (summed h))
 
 same_length : tie.Need-shape_of-counts-then-blocks
-same_length c = (exchanged c.before.before.before.before).exchange.auto.1.1.1.1.1.0
+same_length c = (exchanged c.before.before.before.before).exchange.auto.counts
 
 same-length-2 : tie.Need-shape_of-words-then-blocks
-same-length-2 c = (exchanged c.before.before.before.before).exchange.auto.1.1.1.1.1.1.0
+same-length-2 c = (exchanged c.before.before.before.before).exchange.auto.words
 
 same-length-3 : tie.Need-shape_of-histogram-then-blocks
 same-length-3 c = search rules
 
 returns : tie.Need-returns-then-blocks
 returns c =
-    let w = c.before.before in
-    let i = kind (summed w.before.before) in
+    let w = c.before in
+    let i = kind (summed w.before.before.before) in
     let x = stored i in
     let at = opened (both x) in
     let blocks = sym (kept x).by_blocks-blocks.ensures ∙ w.if-blocks.true in
@@ -276,14 +276,14 @@ part-arrive-start c = search rules
 part-arrive-end : tie.Need-slice_bounds-arrive-end
 part-arrive-end c =
     let r = first (both (exchanged c.before.before.before)) in
-    omega (arith, r.read_in-n.ensures.0, r.read_in-n.kept.1.1.1.1.0)
+    omega (arith, r.read_in-n.ensures.0, r.read_in-n.auto.places)
 
 sub-arrive-2 : tie.Need-slice_bounds-arrive-count-then-plan-eq2
 sub-arrive-2 c = search rules
 
 arrive-requires : tie.Need-arrive-requires
 arrive-requires c κs =
-    let w = c.before.before.before.before.before.before.before.before in
+    let w = c.before.before.before in
     let h = w.before.before.before in
     let i = kind (summed h) in
     let x = stored i in
@@ -318,18 +318,18 @@ arrive-requires c κs =
 
 same-length-4 : tie.Need-shape_of-counts-then-plan-eq2
 same-length-4 c =
-    (exchanged c.before.before.before.before.before.before.before).exchange.auto.1.1.1.1.1.0
+    (exchanged c.before.before.before.before.before.before.before).exchange.auto.counts
 
 same-length-5 : tie.Need-shape_of-words-then-plan-eq2
 same-length-5 c =
-    (exchanged c.before.before.before.before.before.before.before).exchange.auto.1.1.1.1.1.1.0
+    (exchanged c.before.before.before.before.before.before.before).exchange.auto.words
 
 same-length-6 : tie.Need-shape_of-histogram-then-plan-eq2
 same-length-6 c = search rules
 
 returns-2 : tie.Need-returns-then-plan-eq2
 returns-2 c =
-    let w = c.before.before.before.before.before.before.before.before.before in
+    let w = c.before.before.before.before in
     let i = kind (summed w.before.before.before) in
     let x = stored i in
     let at = opened (both x) in
@@ -341,10 +341,10 @@ abbrev told : tie.After-former-1 → tie.After-exchange
 told f = f.before.before.before.before.before.before.before.before
 
 entering-long : (r : tie.After-read_in-k) → (first r).read_in-n.result ≤ length (first r).read_in-n.new.places
-entering-long r = omega (arith, (first r).read_in-n.ensures.0, (first r).read_in-n.auto.1.1.1.1.0)
+entering-long r = omega (arith, (first r).read_in-n.ensures.0, (first r).read_in-n.auto.places)
 
 leaving-long : (r : tie.After-read_in-k) → r.read_in-k.result ≤ length r.read_in-k.new.places
-leaving-long r = omega (arith, r.read_in-k.ensures.0, r.read_in-k.auto.1.1.1.1.0)
+leaving-long r = omega (arith, r.read_in-k.ensures.0, r.read_in-k.auto.places)
 
 few : (f : tie.After-former-1) → (opened (both (told f))).args.from.running.sums.count ≤ 961
 few f =

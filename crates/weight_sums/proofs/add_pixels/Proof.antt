@@ -100,8 +100,7 @@ mul-x-2 : tie.Need-offset_bounds-p-next invariant-loop decreases-loop
 mul-x-2 c = omega (arith, turn_low c.before.before)
 
 shared-slice-read-x-2 : tie.Need-bounds-p-next invariant-loop decreases-loop
-shared-slice-read-x-2 c = let t =
-    c.before.before.before in omega (arith, (places-in (start t.before).args.p.now t.loop-k.k t.loop-k-test.true).1)
+shared-slice-read-x-2 c = let t = c.before.before.before in omega (arith, (places-in (start t.before).args.p.now t.loop-k.k t.loop-k-test.true).1)
 
 cast-x : tie.Need-overflow_cast-x invariant-loop decreases-loop
 cast-x c = omega (arith, numbers c.before.before.before)

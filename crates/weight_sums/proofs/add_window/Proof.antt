@@ -73,8 +73,7 @@ low-requires : tie.Need-low-x-requires invariant-loop decreases-loop
 low-requires c κs = tt
 
 span-of-requires : tie.Need-span_of-n-requires invariant-loop decreases-loop
-span-of-requires c κs = let at =
-    c.before.before.before in (at.requires.0.0.column, (plan-limits at.requires.0.0.planned).width, (plan-limits at.requires.0.0.planned).radius)
+span-of-requires c κs = let at = c.before.before.before in (at.requires.0.0.column, (plan-limits at.requires.0.0.planned).width, (plan-limits at.requires.0.0.planned).radius)
 
 loop-holds : tie.Need-loop-k-init invariant-loop decreases-loop
 loop-holds c =

@@ -46,7 +46,7 @@ sub-count : tie.Need-overflow_sub-count invariant-loop decreases-loop
 sub-count c = omega (arith, node-from (state c.before))
 
 mul-count : tie.Need-offset_bounds-nodes-at-in-loop-next invariant-loop decreases-loop
-mul-count c = omega (arith, node_in (state c.before), (start c.before).good)
+mul-count c = omega (arith, node_in (state c.before), (start c.before).well_formed)
 
 shared-slice-read-count : tie.Need-bounds-nodes-at-in-loop-next invariant-loop decreases-loop
 shared-slice-read-count c = omega (arith, node_in (state c.before.before))
@@ -127,7 +127,7 @@ sub-t9 : tie.Need-overflow_sub-result-2 invariant-loop decreases-loop
 sub-t9 c = omega (arith, node-from (state c.before))
 
 mul-t24 : tie.Need-offset_bounds-nodes-at-2 invariant-loop decreases-loop
-mul-t24 c = omega (arith, node_in (state c.before), (start c.before).good)
+mul-t24 c = omega (arith, node_in (state c.before), (start c.before).well_formed)
 
 shared-slice-read-t8 : tie.Need-bounds-nodes-at-2 invariant-loop decreases-loop
 shared-slice-read-t8 c = omega (arith, node_in (state c.before.before))

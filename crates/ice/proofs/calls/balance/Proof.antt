@@ -33,8 +33,7 @@ plan-at c =
     c.open_plan-opened.ensures
     (known c.stops.ensures c.if-stops.false)
 
-outcome-at : (c : tie.Else-stops-2) → let at =
-    c.before.before.before.before.before.before.before.before in balance_outcome at.args.file.now at.args.column at.args.row
+outcome-at : (c : tie.Else-stops-2) → let at = c.before.before.before.before.before.before.before.before in balance_outcome at.args.file.now at.args.column at.args.row
     at.args.level ≡ accepted
 unfolding balance_outcome
 outcome-at c =
@@ -90,8 +89,7 @@ balance-at-requires c κs = let k = plan-at c in let q = balance-granted k _ _ _
 -- src/calls.rt:190:1
 returns-3 : tie.Need-returns
 unfolding balance_outcome
-returns-3 c = let d =
-    c.before in balances-done _ _ _ _ _
+returns-3 c = let d = c.before in balances-done _ _ _ _ _
     (c.balance_verdict-w.ensures ∙ own-decides (plan-at d)
     (own c.before.before.before.before.before.before.before.before.before)) (outcome-at d)
     (to_z-of_z {w = w64} (record { sfits = c.balance_at-b.type_inv }) ∙ c.balance_at-b.ensures)

@@ -88,8 +88,7 @@ plan-at c =
     (known c.stops.ensures
     c.if-stops.false)
 
-outcome-at : (c : tie.After-sweep-arg-4-1) → let at =
-    c.before.before.before.before.before.before.before.before.before.before.before.before.before.before.before.before.before.before in
+outcome-at : (c : tie.After-sweep-arg-4-1) → let at = c.before.before.before.before.before.before.before.before.before.before.before.before.before.before.before.before.before.before in
     filter_outcome at.args.file.now at.args.way (room_in (held at)) (length at.args.output.now) ≡ accepted
 unfolding filter_outcome
 outcome-at c =

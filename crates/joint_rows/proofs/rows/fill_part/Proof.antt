@@ -49,12 +49,12 @@ mul-row c = let t = c.before in omega (arith, t.loop-k-test.true, (start t.befor
 
 element-write-row : tie.Need-bounds-row-from invariant-loop decreases-loop
 element-write-row c =
-    let t = c.before in
-    let at = start t.before.before in
+    let t = c.before.before in
+    let at = start t.before in
     omega (arith, t.loop-k-test.true, at.requires.1, at.requires.3, t.loop-k.invariant.1.long)
 
 add-k : tie.Need-overflow_add-k invariant-loop decreases-loop
-add-k c = let t = c.before in omega (arith, t.loop-k-test.true, (start t.before.before).requires.0)
+add-k c = let t = c.before.before in omega (arith, t.loop-k-test.true, (start t.before).requires.0)
 
 loop-less : tie.Need-loop-k-smaller invariant-loop decreases-loop
 loop-less c = omega (arith, c.loop-k-test.true)
@@ -72,11 +72,11 @@ number c =
 
 loop-again : tie.Need-loop-k-preserved invariant-loop decreases-loop
 loop-again c =
-    let t = c.before in
-    let h = t.before.before in
+    let t = c.before.before in
+    let h = t.before in
     let at = start h in (
       omega (arith, t.loop-k-test.true),
-      made-next (at.args.from + h.loop-k.k) _ refl (omega (arith, t.loop-k-test.true, at.requires.1, at.requires.3)) (number c.before) h.loop-k.invariant.1,
+      made-next (at.args.from + h.loop-k.k) _ refl (omega (arith, t.loop-k-test.true, at.requires.1, at.requires.3)) (number c) h.loop-k.invariant.1,
       h.loop-k.invariant.2,
     )
 

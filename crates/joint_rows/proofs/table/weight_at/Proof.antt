@@ -29,8 +29,8 @@ element-copy-out-result c = let h = (start c.before.before).requires in omega (a
 
 returns : tie.Need-returns-then-plan-eq0
 returns c =
-    let e = c.before in
-    let h = (start e.before.before).requires in
+    let e = c.before.before in
+    let h = (start e.before).requires in
     let is = built-entry _ _ _ h.0 (apart_low h.1 h.2 h.3 e.apart.ensures) e.apart.ensures in
     (is ∙ sym (table-built h.1 e.if-plan-eq0.true _ _), subst (λ (n : ℕ). n ≤ heaviest) (sym is) (built-in-low _ _))
 

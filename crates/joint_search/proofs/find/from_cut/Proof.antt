@@ -25,13 +25,11 @@ low : (at : tie.Start) (i : ℕ) → i < at.args.sizes.levels →
 low at i h = level-low at.args.sizes.guides at.args.counts.now at.args.row.now i
 
 -- on this side of the test the balance is negative, on the other it is not
-below : (c : tie.Then-bal-lt0) → let at =
-    c.before.before.before.before in balance_in at.args.sizes at.args.counts.now at.args.row.now
+below : (c : tie.Then-bal-lt0) → let at = c.before.before.before.before in balance_in at.args.sizes at.args.counts.now at.args.row.now
     at.args.cut.0 <ℤ pos 0
 below c = let less = lt-true (here c.before.before.before.before) refl c.if-bal-lt0.true in omega (arith, ints, less)
 
-enough : (c : tie.Else-bal-lt0) → let at =
-    c.before.before.before.before in pos 0 ≤ℤ balance_in at.args.sizes at.args.counts.now at.args.row.now
+enough : (c : tie.Else-bal-lt0) → let at = c.before.before.before.before in pos 0 ≤ℤ balance_in at.args.sizes at.args.counts.now at.args.row.now
     at.args.cut.0
 enough c = let not-less = lt-false (here c.before.before.before.before) refl c.if-bal-lt0.false in omega (arith, ints, not-less)
 

@@ -7,22 +7,26 @@ use Rattle.ways.proofs.dispatch.enter.Goals as goal
 pub enter-requires : goal.enter-requires
 enter-requires c =
     let w = joint-key c.args.way c.in-Chain.keys1 in record {
-      fresh = (fit-joint _ c.requires.pictured.0 _ _ _ c.requires.stores_fit _ _ w c.requires.column_lt_width, c.requires.balance_box_value.1);
-      weight_rows = (c.requires.pictured.1, w, plane-serves _ c.args.plan c.requires.pictured.2);
+      pictured = (fit-joint _ c.requires.pictured.0 _ _ _ c.requires.stores_fit _ _ w c.requires.column_lt_width, c.requires.balance_box_value.1);
+      column_lt_width = c.requires.pictured.1;
+      stores_fit = w;
+      balance_box_value = plane-serves _ c.args.plan c.requires.pictured.2;
     }
 
 pub enter-requires-in-Columns : goal.enter-requires-in-Columns
 enter-requires-in-Columns c =
     let e = c.in-Columns.is in record {
-      fresh = (with-own c.requires.pictured.0, guided-columns _ c.args.plan c.requires.pictured.2 e);
-      weight_rows = (c.requires.column_lt_width, fit-columns _ (with-own c.requires.pictured.0) _ _ _ c.requires.stores_fit e);
+      planned = (with-own c.requires.pictured.0, guided-columns _ c.args.plan c.requires.pictured.2 e);
+      column_lt_width = c.requires.column_lt_width;
+      file_in_bounds = fit-columns _ (with-own c.requires.pictured.0) _ _ _ c.requires.stores_fit e;
     }
 
 pub enter-requires-in-Chain : goal.enter-requires-in-Chain
 enter-requires-in-Chain c =
     let e = c.in-Chain.is in record {
-      fresh = (with-own c.requires.pictured.0, guided-chain _ c.args.plan c.requires.pictured.2 e);
-      weight_rows = (c.requires.column_lt_width, fit-chain _ (with-own c.requires.pictured.0) _ _ _ c.requires.stores_fit e);
+      planned = (with-own c.requires.pictured.0, guided-chain _ c.args.plan c.requires.pictured.2 e);
+      column_lt_width = c.requires.column_lt_width;
+      file_in_bounds = fit-chain _ (with-own c.requires.pictured.0) _ _ _ c.requires.stores_fit e;
     }
 
 pub returns-in-Joint : goal.returns-in-Joint

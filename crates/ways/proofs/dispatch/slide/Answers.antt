@@ -9,30 +9,29 @@ slide-requires c =
     let w = joint-key c.args.way c.in-Chain.keys1 in
     let h = joint-at _ c.requires.pictured.0 _ _ _ c.requires.stores_fit _ _ _ w c.requires.at_window c.requires.within in
     record {
-      held = (h.0, c.requires.adjacent, h.1);
-      weight_rows = (c.requires.pictured.1, c.requires.within, w, plane-serves _ c.args.plan c.requires.pictured.2);
+      pictured = (h.0, c.requires.adjacent, h.1);
+      within = c.requires.pictured.1;
+      adjacent = c.requires.within;
+      stores_fit = w;
+      at_window = plane-serves _ c.args.plan c.requires.pictured.2;
     }
 
 pub slide-requires-in-Columns : goal.slide-requires-in-Columns
 slide-requires-in-Columns c =
     let e = c.in-Columns.is in record {
-      held = (with-own c.requires.pictured.0, guided-columns _ c.args.plan c.requires.pictured.2 e);
-      weight_rows = (
-        (c.requires.within, c.requires.adjacent),
-        (columns-at _ (with-own c.requires.pictured.0) _ _ _ c.requires.stores_fit _ _ _ e
-            (at_own c.args.way c.args.file.now (none-columns _ c.args.plan c.requires.pictured.2 e) c.requires.at_window)).0,
-      );
+      planned = (with-own c.requires.pictured.0, guided-columns _ c.args.plan c.requires.pictured.2 e);
+      within = (c.requires.within, c.requires.adjacent);
+      chain_at = (columns-at _ (with-own c.requires.pictured.0) _ _ _ c.requires.stores_fit _ _ _ e
+          (at_own c.args.way c.args.file.now (none-columns _ c.args.plan c.requires.pictured.2 e) c.requires.at_window)).0;
     }
 
 pub slide-requires-in-Chain : goal.slide-requires-in-Chain
 slide-requires-in-Chain c =
     let e = c.in-Chain.is in record {
-      held = (with-own c.requires.pictured.0, guided-chain _ c.args.plan c.requires.pictured.2 e);
-      weight_rows = (
-        (c.requires.within, c.requires.adjacent),
-        (chain-at _ (with-own c.requires.pictured.0) _ _ _ c.requires.stores_fit _ _ _ e
-            (at_own c.args.way c.args.file.now (none-chain _ c.args.plan c.requires.pictured.2 e) c.requires.at_window)).0,
-      );
+      planned = (with-own c.requires.pictured.0, guided-chain _ c.args.plan c.requires.pictured.2 e);
+      within = (c.requires.within, c.requires.adjacent);
+      chain_at = (chain-at _ (with-own c.requires.pictured.0) _ _ _ c.requires.stores_fit _ _ _ e
+          (at_own c.args.way c.args.file.now (none-chain _ c.args.plan c.requires.pictured.2 e) c.requires.at_window)).0;
     }
 
 pub returns-in-Joint : goal.returns-in-Joint
