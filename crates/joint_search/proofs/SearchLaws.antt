@@ -201,7 +201,7 @@ module _ {sizes : Sizes} {cs ws row : List ℕ} (st : Searchable sizes cs ws) (f
       → to_z w32 (of_z w32 v) ≡ balance_in sizes cs row (i + 1)
   step-up i x y v h ex ey m e =
       let X = level_weight_in sizes.guides cs row in
-      to_z-of_z (record { sfits = m }) ∙ e ∙ ap₂ (λ (p q : ℤ). p +ℤ pos 2 *ℤ q) ex (level-back (i + 1) y h ey)
+      to_z-of_z {w = w32} (record { sfits = m }) ∙ e ∙ ap₂ (λ (p q : ℤ). p +ℤ pos 2 *ℤ q) ex (level-back (i + 1) y h ey)
       ∙ ap (λ (q : ℕ). balance_in sizes cs row i +ℤ pos 2 *ℤ X q) (add-one i) ∙ sym (balance-next X sizes.levels i) ∙ ap (balance_in sizes cs row)
       (sym (add-one i))
 
@@ -214,7 +214,7 @@ module _ {sizes : Sizes} {cs ws row : List ℕ} (st : Searchable sizes cs ws) (f
       let up : balance_in sizes cs row i ≡ balance_in sizes cs row (i - 1) +ℤ pos 2 *ℤ X i =
       ap (balance_in sizes cs row) (sym d) ∙ balance-next X sizes.levels (i - 1) ∙ ap (λ (q : ℕ). balance_in sizes cs row (i - 1) +ℤ pos 2 *ℤ X q)
       d in
-      to_z-of_z (record { sfits = m }) ∙ e ∙ ap₂ (λ (p q : ℤ). p +ℤ negsuc 1 *ℤ q) (ex ∙ up) (level-back i y h ey)
+      to_z-of_z {w = w32} (record { sfits = m }) ∙ e ∙ ap₂ (λ (p q : ℤ). p +ℤ negsuc 1 *ℤ q) (ex ∙ up) (level-back i y h ey)
       ∙ solve2 (λ x w. (x ⊕ # 2 ⊗ w) ⊕ opposite (# 2) ⊗ w ≐ x) refl (balance_in sizes cs row (i - 1)) (X i)
 
   -- ---- the balance by the box

@@ -106,7 +106,7 @@ add-signed-requires c κs =
     let t = turn (read c).before in
     let h = t.before in
     let at = start h in
-    sum-asks at.requires at.args.top.0 t.loop-k-test.true (to_z w64 h.loop-k.sum) c.weigh.result h.loop-k.invariant.1 (weighed c)
+    sum-asks at.requires at.args.top.0 t.loop-k-test.true (to_z w64 h.loop-k.sum-bits) c.weigh.result h.loop-k.invariant.1 (weighed c)
 
 add-k : tie.Need-overflow_add-k invariant-loop decreases-loop
 add-k c = omega (arith, turn_low (turn (read c.before).before))
@@ -121,7 +121,7 @@ loop-again c =
     let h = t.before in
     let at = start h in (
       omega (arith, t.loop-k-test.true),
-      sum-again at.requires at.args.top.0 t.loop-k-test.true (to_z w64 h.loop-k.sum) e.weigh.result h.loop-k.invariant.1 (weighed e)
+      sum-again at.requires at.args.top.0 t.loop-k-test.true (to_z w64 h.loop-k.sum-bits) e.weigh.result h.loop-k.invariant.1 (weighed e)
           c.add_signed-sum.result c.add_signed-sum.type_inv c.add_signed-sum.ensures,
     )
 

@@ -117,7 +117,7 @@ add-requires c κs =
     let r = list c in
     let h = (turn r).before in
     let at = start h in
-    column-asks at.requires (listed r) at.args.top.0 c.line_balance.ensures h.loop-k.k (to_z w64 h.loop-k.sum) h.loop-k.invariant.2
+    column-asks at.requires (listed r) at.args.top.0 c.line_balance.ensures h.loop-k.k (to_z w64 h.loop-k.sum-bits) h.loop-k.invariant.2
     (few (turn r))
 
 add-k : tie.Need-overflow_add-k invariant-loop decreases-loop
@@ -133,7 +133,7 @@ loop-again c =
     let h = (turn r).before in
     let at = start h in
     let q =
-    column_again at.requires (listed r) at.args.top.0 e.line_balance.ensures h.loop-k.k (to_z w64 h.loop-k.sum) h.loop-k.invariant.2
+    column_again at.requires (listed r) at.args.top.0 e.line_balance.ensures h.loop-k.k (to_z w64 h.loop-k.sum-bits) h.loop-k.invariant.2
     h.low-x.result (line r).column_line-line.ensures h.loop-k.invariant.1
     c.add-sum.type_inv c.add-sum.ensures in
     (omega (arith, (turn r).loop-k-test.true), q.0, q.1)

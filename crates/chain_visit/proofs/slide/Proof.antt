@@ -72,7 +72,7 @@ slice-aggregate-read c = search rules
 
 read-requires : tie.Need-read-n-requires
 read-requires c κs = let d = c.before.before in let at =
-    begin d in (at.requires.0.0, (step_in at.requires.0.0 at.requires.1.0.1 d.step_to-step.ensures).entering-1, omega arith)
+    begin d in (at.requires.0.0, (step_in at.requires.0.0 at.requires.1.0.1 d.step_to-step.ensures).entering, omega arith)
 
 slice-aggregate-read-2 : tie.Need-slice_bounds-read-end-2
 slice-aggregate-read-2 c = search rules
@@ -81,7 +81,7 @@ read-requires-2 : tie.Need-read-k-requires
 read-requires-2 c κs =
     let d = step c.before.before.before in
     let at = begin d in
-    (at.requires.0.0, (step_in at.requires.0.0 at.requires.1.0.1 d.step_to-step.ensures).leaving-1, omega arith)
+    (at.requires.0.0, (step_in at.requires.0.0 at.requires.1.0.1 d.step_to-step.ensures).leaving, omega arith)
 
 sub-moved : tie.Need-slice_bounds-moved-count
 sub-moved c = search rules

@@ -101,7 +101,7 @@ read-requires : tie.Need-read-n-requires
 read-requires c κs =
     let d = c.before.before in
     let at = begin d in
-    (at.requires.0.0, (step_in at.requires.0.0 at.requires.1.0.1 d.step_to-step.ensures).entering-1, omega arith)
+    (at.requires.0.0, (step_in at.requires.0.0 at.requires.1.0.1 d.step_to-step.ensures).entering, omega arith)
 
 slice-aggregate-read-2 : tie.Need-slice_bounds-read-end-2
 slice-aggregate-read-2 c = search rules
@@ -110,7 +110,7 @@ read-requires-2 : tie.Need-read-k-requires
 read-requires-2 c κs =
     let d = step c.before.before.before in
     let at = begin d in
-    (at.requires.0.0, (step_in at.requires.0.0 at.requires.1.0.1 d.step_to-step.ensures).leaving-1, omega arith)
+    (at.requires.0.0, (step_in at.requires.0.0 at.requires.1.0.1 d.step_to-step.ensures).leaving, omega arith)
 
 sub-moved : tie.Need-slice_bounds-moved-count
 sub-moved c = search rules
@@ -136,7 +136,7 @@ moved-requires c κs =
     let d = step (first r) in
     let at = begin d in
     let pl = at.requires.0.0 in (
-      (below-most pl (enters r).below-1, below-most pl (leaves r).below-1),
+      (below-most pl (enters r).below, below-most pl (leaves r).below),
       movable pl at.requires.1.0.1 d.step_to-step.ensures (enters r) (leaves r) at.requires.1.1.sums,
     )
 
@@ -205,7 +205,7 @@ carried-where-requires c κs =
     let d = step (first r) in
     let at = begin d in
     let pl = at.requires.0.0 in (
-      (below-most pl (enters r).below-1, below-most pl (leaves r).below-1),
+      (below-most pl (enters r).below, below-most pl (leaves r).below),
       carriable pl at.requires.1.0.1 d.step_to-step.ensures (enters r) (leaves r) at.requires.1.1.below,
     )
 

@@ -94,7 +94,7 @@ step-balance-requires c κs =
     let t = c.before.before.before.before in
     let h = t.before in
     let at = start h in
-    step-asks at.requires.0.0 at.requires.0.1 h.loop-b.i (h.loop-b.i + 1) (to_z w32 h.loop-b.b) c.raise_level.result (pos 2)
+    step-asks at.requires.0.0 at.requires.0.1 h.loop-b.i (h.loop-b.i + 1) (to_z w32 h.loop-b.b-bits) c.raise_level.result (pos 2)
     h.loop-b.invariant.1 (next t) h.loop-b.invariant.2 c.raise_level.ensures.0 (omega arith)
 
 loop-less-2 : tie.Need-loop-b-smaller invariant-loop decreases-loop
@@ -108,7 +108,7 @@ loop-again-2 c =
     let at = start h in (
       omega (arith, h.loop-b.invariant.0),
       next t,
-      step-up at.requires.0.0 at.requires.0.1 h.loop-b.i (to_z w32 h.loop-b.b) e.raise_level.result c.step_balance-b.result
+      step-up at.requires.0.0 at.requires.0.1 h.loop-b.i (to_z w32 h.loop-b.b-bits) e.raise_level.result c.step_balance-b.result
           (next t) h.loop-b.invariant.2 e.raise_level.ensures.0 c.step_balance-b.type_inv c.step_balance-b.ensures,
       λ j u v. ⊎_elim (λ x. h.loop-b.invariant.3 j u x) (λ x. let d : j ≡ h.loop-b.i =
           omega arith in subst (λ (q : ℕ). bal at q <ℤ pos 0) (sym d) (below t)) (lt-or-le j h.loop-b.i),

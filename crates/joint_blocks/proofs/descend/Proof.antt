@@ -39,7 +39,7 @@ lower v =
     let t = e.before.before.before in
     let h = t.before in
     let at = start h in
-    step_down at.requires.0.0 at.requires.0.1 h.loop-i.i (to_z w32 h.loop-i.b) e.level_weight.result v.step_balance-lower.result
+    step_down at.requires.0.0 at.requires.0.1 h.loop-i.i (to_z w32 h.loop-i.b-bits) e.level_weight.result v.step_balance-lower.result
     t.loop-i-test.true (inside t) h.loop-i.invariant.1 e.level_weight.ensures v.step_balance-lower.type_inv
     v.step_balance-lower.ensures
 
@@ -90,7 +90,7 @@ step-balance-requires c κs =
     let t = c.before.before.before in
     let h = t.before in
     let at = start h in
-    step-asks at.requires.0.0 at.requires.0.1 h.loop-i.i h.loop-i.i (to_z w32 h.loop-i.b) c.level_weight.result (negsuc 1)
+    step-asks at.requires.0.0 at.requires.0.1 h.loop-i.i h.loop-i.i (to_z w32 h.loop-i.b-bits) c.level_weight.result (negsuc 1)
     (inside t) (inside t) h.loop-i.invariant.1 c.level_weight.ensures (omega arith)
 
 -- the balance below falls short

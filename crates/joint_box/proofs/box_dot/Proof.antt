@@ -134,7 +134,7 @@ returns c =
     let d = c.before in
     let a = d.before in
     let at = start (head a) in
-    to_z-of_z (record { sfits = c.restored.type_inv }) ∙ c.restored.ensures ∙ ap₂ (λ (x y : ℤ). x +ℤ pos 32768 *ℤ y) (whole a) (cells-32 d)
+    to_z-of_z {w = w32} (record { sfits = c.restored.type_inv }) ∙ c.restored.ensures ∙ ap₂ (λ (x y : ℤ). x +ℤ pos 32768 *ℤ y) (whole a) (cells-32 d)
     ∙ sym (dot-centred at.args.balance_box.now at.args.row.now at.args.m)
 
 pub box_dot_spec : {M : Type 1} → statement M

@@ -154,7 +154,7 @@ add-requires-2 c κs =
     let t = turn (read e).before in
     let h = t.before in
     let at = start h in
-    let q = total-asks at.requires.0 65535 t.loop-k-test.true (to_z w64 h.loop-k.total) e.weigh-weight.result h.loop-k.invariant.2 (weighed e) in
+    let q = total-asks at.requires.0 65535 t.loop-k-test.true (to_z w64 h.loop-k.total-bits) e.weigh-weight.result h.loop-k.invariant.2 (weighed e) in
     (omega (arith, q.0, q.1), omega (arith, q.0, q.1))
 
 add-k : tie.Need-overflow_add-k invariant-loop decreases-loop
@@ -175,10 +175,10 @@ loop-again c =
       omega (arith, t.loop-k-test.true),
       added_next (2 ^ at.args.bits) at.requires.0 at.requires.1 t.loop-k-test.true h.loop-k.invariant.1 e.weigh-weight.result (weighed e)
           a.add.result a.add.type_inv a.add.ensures,
-      total-again at.requires.0 65535 t.loop-k-test.true (to_z w64 h.loop-k.total) e.weigh-weight.result h.loop-k.invariant.2 (weighed e)
+      total-again at.requires.0 65535 t.loop-k-test.true (to_z w64 h.loop-k.total-bits) e.weigh-weight.result h.loop-k.invariant.2 (weighed e)
           c.add-total.result c.add-total.type_inv
           (c.add-total.ensures
-          ∙ signed_up 65535 (level_in at.args.p.now h.loop-k.k) (to_z w64 h.loop-k.total) (to_z w64 (of_z w64 e.weigh-weight.result))
+          ∙ signed_up 65535 (level_in at.args.p.now h.loop-k.k) (to_z w64 h.loop-k.total-bits) (to_z w64 (of_z w64 e.weigh-weight.result))
           (omega (arith, (numbers r.before.before.before.before).0))),
     )
 

@@ -125,7 +125,7 @@ add-requires c κs =
     let r = list e in
     let h = (turn r).before in
     let at = start h in
-    let q = column-asks at.requires.0.0 (listed r) 65535 e.add_pixels-line_total.ensures.1 h.loop-k.k (to_z w64 h.loop-k.total) h.loop-k.invariant.3
+    let q = column-asks at.requires.0.0 (listed r) 65535 e.add_pixels-line_total.ensures.1 h.loop-k.k (to_z w64 h.loop-k.total-bits) h.loop-k.invariant.3
     (few (turn r)) in
     (omega (arith, q.0, q.1), omega (arith, q.0, q.1))
 
@@ -142,7 +142,7 @@ loop-again c =
     let h = (turn r).before in
     let at = start h in
     let q =
-    column_again at.requires.0.0 (listed r) 65535 e.add_pixels-line_total.ensures.1 h.loop-k.k (to_z w64 h.loop-k.total) h.loop-k.invariant.3
+    column_again at.requires.0.0 (listed r) 65535 e.add_pixels-line_total.ensures.1 h.loop-k.k (to_z w64 h.loop-k.total-bits) h.loop-k.invariant.3
     h.low-x.result (line r).column_line-line.ensures h.loop-k.invariant.2
     c.add-total.type_inv c.add-total.ensures in (
       omega (arith, (turn r).loop-k-test.true),
