@@ -110,7 +110,7 @@ module _ {p row : List ℕ} {w : Formula} (v : PixelsWeighed p row w) (c : ℕ) 
       pub sum-again : (r : ℤ) → mag r < 2 ^ hbits w64 → r ≡ x +ℤ side c (level_in p k) *ℤ to_z w64 (of_z w64 y) → to_z w64 (of_z w64 r) ≡ added (k + 1)
       unfolding signed_by
       sum-again r m e =
-          to_z-of_z (record { sfits = m }) ∙ e ∙ ap₂ (λ (u q : ℤ). u +ℤ side c (level_in p k) *ℤ q) ex back
+          to_z-of_z {w = w64} (record { sfits = m }) ∙ e ∙ ap₂ (λ (u q : ℤ). u +ℤ side c (level_in p k) *ℤ q) ex back
           ∙ sym (pixels-more ◌+ℤ◌ (pos 0) p (signed_by row w c) k)
 
 module _ {b : List ℕ} {z : Plan} {s t : ℕ} {row : List ℕ} {w : Formula} (wd : Weighed b z s t row w) where
@@ -146,7 +146,7 @@ module _ {b : List ℕ} {z : Plan} {s t : ℕ} {row : List ℕ} {w : Formula} (w
             (nat_abs (to_z w64 (of_z w64 r)) ≤ (k + 1) * 5584831631325)
         column_again x ed ea m e =
             let h = signed_by row w c in
-            let q = to_z-of_z (record { sfits = m }) ∙ e ∙ ap (λ (u : ℤ). a +ℤ u) handed-on in (
+            let q = to_z-of_z {w = w64} (record { sfits = m }) ∙ e ∙ ap (λ (u : ℤ). a +ℤ u) handed-on in (
               q ∙ ap (λ (u : ℤ). u +ℤ pixel_fold ◌+ℤ◌ (pos 0) p h) ea ∙ sym (columns-more ◌+ℤ◌ (pos 0) b [] z x t h k p ed (v.sumℤ h)),
               rw q
                   (omega (arith, abs-add a (pixel_fold ◌+ℤ◌ (pos 0) p (signed_by row w c)), low, small)),

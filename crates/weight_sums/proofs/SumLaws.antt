@@ -105,7 +105,7 @@ module _ (width : ℕ) {p ns : List ℕ} {w : Formula} (v : PixelsWeighed p ns w
           value = to_z w64 (of_z w64 z)
 
           is : value ≡ sum +ℤ weight_by ns w (guide_in p k)
-          is = to_z-of_z (record { sfits = m }) ∙ e ∙ ap₂ ◌+ℤ◌ sum_back back
+          is = to_z-of_z {w = w64} (record { sfits = m }) ∙ e ∙ ap₂ ◌+ℤ◌ sum_back back
 
           share : ℕ → ℤ
           share b = block_share width ns w b (level_in p k) (guide_in p k)

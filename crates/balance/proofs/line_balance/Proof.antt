@@ -75,10 +75,10 @@ shared-slice-read-x-2 : tie.Need-bounds-p-next invariant-loop decreases-loop
 shared-slice-read-x-2 c = let t = c.before.before in omega (arith, (places-in (start t.before).args.p.now t.loop-k.k t.loop-k-test.true).1)
 
 cast-x : tie.Need-overflow_cast-x invariant-loop decreases-loop
-cast-x c = omega (arith, inside c, (start (turn c).before).good.1.0, numbers c)
+cast-x c = omega (arith, inside c, (start (turn c).before).well_formed.1.0, numbers c)
 
 mul-x-3 : tie.Need-offset_bounds-weights-g invariant-loop decreases-loop
-mul-x-3 c = omega (arith, inside c, (start (turn c).before).good.1.0, numbers c)
+mul-x-3 c = omega (arith, inside c, (start (turn c).before).well_formed.1.0, numbers c)
 
 shared-slice-read-x-3 : tie.Need-bounds-weights-g invariant-loop decreases-loop
 shared-slice-read-x-3 c = omega (arith, inside c.before)

@@ -45,7 +45,7 @@ abbrev start : tie.After-table_row → tie.Start
 start r = r.before.before.before.before.before
 
 abbrev table : tie.After-window_balance-own → tie.After-table_row
-table e = e.before.before.before.before.before.before.before.before
+table e = e.before.before
 
 -- the row gives the own weights
 own : (r : tie.After-table_row) → let at = start r in

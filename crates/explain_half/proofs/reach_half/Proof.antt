@@ -35,7 +35,7 @@ next_low t = t.requires.small (suc t.loop-i.i) t.loop-i-test.true
 
 -- the places passed: the turn, from where the sum with the level was added up
 abbrev turn : tie.After-add-reached invariant-loop decreases-loop → tie.In-loop-i invariant-loop decreases-loop
-turn e = e.before.before.before.before.before
+turn e = e.before.before.before.before
 
 back : (e : tie.After-add-reached invariant-loop decreases-loop) → let t = turn e in
     to_z w64 (of_z w64 e.add-reached.result) ≡ up_to t.args.sums.now (suc t.loop-i.i)
@@ -46,11 +46,11 @@ back e =
     (e.add-reached.ensures ∙ ap₂ ◌+ℤ◌ t.loop-i.invariant.1 (sum_back t) ∙ sym (up_to-next sums t.loop-i.i))
     ∙ read-bounded w64 173129780571075 (next_low t) tt
 
-doubled : (e : tie.After-add invariant-loop decreases-loop) → let t = turn e in
+doubled : (e : tie.After-add invariant-loop decreases-loop) → let t = turn e.before in
     to_z w64 (of_z w64 e.add.result) ≡ pos 2 *ℤ up_to t.args.sums.now (suc t.loop-i.i)
 doubled e =
-    let t = turn e in
-    to_z-of_z {w = w64} (record { sfits = e.add.type_inv }) ∙ e.add.ensures ∙ ap₂ ◌+ℤ◌ (back e) (back e)
+    let t = turn e.before in
+    to_z-of_z {w = w64} (record { sfits = e.add.type_inv }) ∙ e.add.ensures ∙ ap₂ ◌+ℤ◌ (back e.before) (back e.before)
     ∙ sym (twice (up_to t.args.sums.now (suc t.loop-i.i)))
 
 loop-holds : tie.Need-loop-i-init invariant-loop decreases-loop
@@ -91,35 +91,35 @@ add-requires-2 : tie.Need-add-requires invariant-loop decreases-loop
 add-requires-2 c κs = let l = next_low (turn c) in (rw (back c) l, rw (back c) l)
 
 cast-t13 : tie.Need-overflow_cast-result invariant-loop decreases-loop
-cast-t13 c = let t = turn c.before in omega (arith, t.loop-i-test.true, t.requires.sums.few)
+cast-t13 c = let t = turn c.before.before in omega (arith, t.loop-i-test.true, t.requires.sums.few)
 
 returns : tie.Need-returns-then-total-add invariant-loop decreases-loop
 returns c =
     let e = c.before in
-    let t = turn e in
+    let t = turn e.before in
     let h = t.before in
     let at = h.before in
     record {
       inside = t.loop-i-test.true;
       below = h.loop-i.invariant.1;
-      reached = back e;
-      reaches = le-true (total-back at) (doubled e ∙ ap (λ (z : ℤ). pos 2 *ℤ z) (sym (back e))) c.if-total-add.true;
+      reached = back e.before;
+      reaches = le-true (total-back at) (doubled e ∙ ap (λ (z : ℤ). pos 2 *ℤ z) (sym (back e.before))) c.if-total-add.true;
       lowest = λ i l. rw (total-back at) at (h.loop-i.invariant.2 (suc i) l);
     }
 
 add-i-2 : tie.Need-overflow_add-i-else-vacant invariant-loop decreases-loop
-add-i-2 c = let t = turn c.before in omega (arith, t.loop-i-test.true, t.requires.sums.few)
+add-i-2 c = let t = turn c.before.before in omega (arith, t.loop-i-test.true, t.requires.sums.few)
 
 loop-less-2 : tie.Need-loop-i-smaller invariant-loop decreases-loop
-loop-less-2 c = omega (arith, (turn c.before).loop-i-test.true)
+loop-less-2 c = omega (arith, (turn c.before.before).loop-i-test.true)
 
 loop-again-2 : tie.Need-loop-i-preserved invariant-loop decreases-loop
 loop-again-2 c =
     let e = c.before in
-    let t = turn e in
+    let t = turn e.before in
     let h = t.before in (
       omega (arith, t.loop-i-test.true),
-      back e ∙ ap (up_to h.args.sums.now) (sym (add-one h.loop-i.i)),
+      back e.before ∙ ap (up_to h.args.sums.now) (sym (add-one h.loop-i.i)),
       short-next h.args.sums.now h.loop-i.invariant.2 (le-false refl (doubled e) c.if-total-add.false),
     )
 

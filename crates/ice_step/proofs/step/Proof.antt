@@ -17,7 +17,7 @@ enum-known-m c = search rules
 
 slide-requires : tie.Need-slide-requires
 slide-requires c κs =
-    let at = c.before.before.before.before.before.before.before.before.before.before.before.before.before.before.before in
+    let at = c.before.before.before.before.before.before.before.before.before.before.before.before.before.before in
     let to = c.before.before.before.before.before.before in
     let on = at.requires.1.0 in (
       at.requires.0,
@@ -45,7 +45,7 @@ same-length-3 c = search rules
 
 returns : tie.Need-returns-in-To
 returns c =
-    let at = c.before.before.before.before.before.before.before.before.before.before.before.before.before.before.before.before.before.before.before.before.before.before in
+    let at = c.before.before.before.before.before.before.before.before.before.before.before.before.before.before.before.before.before.before.before.before.before in
     visited-moves _ at.requires.0.0 at.args.visit _ _ _ _ _ _ _ _
     (sym
     c.next-m.ensures ∙
@@ -54,7 +54,7 @@ returns c =
 
 returns-2 : tie.Need-returns-in-Nowhere
 returns-2 c =
-    let at = c.before.before.before.before.before.before.before.before.before.before.before.before in
+    let at = c.before.before.before.before.before.before.before.before.before.before.before in
     let h = at.requires.1.1.1 in
     visited-stays _ at.requires.0.0 at.args.visit _ _ _ _ _ _
     (sym c.next-m.ensures ∙ c.in-Nowhere.is)

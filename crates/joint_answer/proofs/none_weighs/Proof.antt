@@ -5,7 +5,7 @@ use native.Mathlib.Omega.{arith}
 use Prim.Native.Nat.{ℕ, ◌-◌, ◌≤◌, ◌<◌}
 use lib.IntN.{ℤ, pos}
 use lib.Signed.{◌≤ℤ◌}
-use mir.Syntax.{w32, w64}
+use mir.Syntax.{w32}
 use mir.Val.{to_z, of_z}
 use mir.Facts.{to_z-of_z}
 use Rattle.ints.specs.Order.{≤-antisymm}
@@ -39,7 +39,7 @@ inside t = omega (arith, t.loop-i-test.true)
 
 weighed : (e : tie.After-level_weight-v invariant-loop decreases-loop) →
     to_z w32 (of_z w32 e.level_weight-v.result) ≡ weight (start e.before.before) e.loop-i.i
-weighed e = to_z-of_z {w = w64} (record { sfits = e.level_weight-v.type_inv }) ∙ e.level_weight-v.ensures
+weighed e = to_z-of_z {w = w32} (record { sfits = e.level_weight-v.type_inv }) ∙ e.level_weight-v.ensures
 
 -- the cut point's level
 level-weight-requires : tie.Need-level_weight-here-requires invariant-loop decreases-loop
@@ -50,7 +50,7 @@ returns c =
     let e = c.before in
     let at = e.before.before.before.before in
     weightless-some (low at) at.args.cut.0 at.requires.2
-    (lt-true refl (to_z-of_z {w = w64} (record { sfits = e.level_weight-here.type_inv }) ∙ e.level_weight-here.ensures) c.if-here-gt0.true)
+    (lt-true refl (to_z-of_z {w = w32} (record { sfits = e.level_weight-here.type_inv }) ∙ e.level_weight-here.ensures) c.if-here-gt0.true)
 
 cast-l : tie.Need-overflow_cast-l invariant-loop decreases-loop
 cast-l c = let at = c.before.before.before.before.before.before in omega (arith, at.requires.0.levels)

@@ -140,7 +140,7 @@ returns-2 c =
     (record {
       state =
           state-is Joint (frame_of at.args.file.now) at.args.s at.args.t at.args.cut.0 at.args.shifts f.level f.shifts
-          f.level (record { sums = at.args.a; below = f.tally; free = record { head = 0; count = 0 } }) h.cut h.shifts h.answer-r;
+          f.level (record { sums = at.args.a; below = f.tally; free = record { head = 0; count = 0 } }) h.cut h.shifts h.answer;
       box = box-at k m.move_to.ensures (omega arith) (answer-low k.pictured k.column k.row (read r.before.before.before) h);
       guided = record { sums = at.requires.1.0.0; below = h.below; histogram = at.requires.0.2 };
     })

@@ -96,7 +96,7 @@ returns-2 c =
           state-is Coarse (frame_of at.args.file.now) at.args.s at.args.t at.args.cut.0 at.args.shifts f.level f.shifts
           f.level
           (record { sums = at.args.a; below = f.tally; free = record { head = 0; count = 0 } })
-          (says r).cut (says r).shifts (says r).answer-r;
+          (says r).cut (says r).shifts (says r).answer;
       guided = record { sums = at.requires.1.0; below = (says r).below; histogram = at.requires.1.1 };
     })
 

@@ -122,7 +122,7 @@ read-in-requires : tie.Need-read_in-n-requires
 read-in-requires c κs =
     let d = c.before.before in
     let at = begin d in
-    (at.requires.0.0.pictured, (step_in at.requires.0.0.pictured at.requires.0.1 d.step_to-step.ensures).entering-1, omega arith)
+    (at.requires.0.0.pictured, (step_in at.requires.0.0.pictured at.requires.0.1 d.step_to-step.ensures).entering, omega arith)
 
 slice-aggregate-read-in-2 : tie.Need-slice_bounds-read_in-end-2
 slice-aggregate-read-in-2 c = search rules
@@ -131,7 +131,7 @@ read-in-requires-2 : tie.Need-read_in-k-requires
 read-in-requires-2 c κs =
     let d = c.before.before.before.before.before.before in
     let at = begin d in
-    (at.requires.0.0.pictured, (step_in at.requires.0.0.pictured at.requires.0.1 d.step_to-step.ensures).leaving-1, omega arith)
+    (at.requires.0.0.pictured, (step_in at.requires.0.0.pictured at.requires.0.1 d.step_to-step.ensures).leaving, omega arith)
 
 by-blocks-requires : tie.Need-by_blocks-blocks-requires
 by-blocks-requires c κs = search rules
@@ -184,7 +184,7 @@ moved-requires c κs =
     let r = both (stored i) in
     let d = step (first r) in
     let pl = (begin d).requires.0.0.pictured in (
-      (below-most pl (enters r).below-1, below-most pl (leaves r).below-1),
+      (below-most pl (enters r).below, below-most pl (leaves r).below),
       movable pl (begin d).requires.0.1 d.step_to-step.ensures (enters r) (leaves r) (was i).sums,
     )
 
@@ -199,7 +199,7 @@ exchange-requires-2 c κs =
     let i = kind c.before.before.before in
     let r = both (stored i) in
     let d = step (first r) in
-    histogram.exchange-asks (begin d).requires.0.0.pictured (begin d).requires.0.1 d.step_to-step.ensures (enters r) (leaves r) (was i).histogram-1
+    histogram.exchange-asks (begin d).requires.0.0.pictured (begin d).requires.0.1 d.step_to-step.ensures (enters r) (leaves r) (was i).histogram
 
 -- kind 2: the sums and the histogram are the neighbour's
 sums-are : (m : tie.After-moved-a) → let at = opened (both (stored (kind m))) in
@@ -216,7 +216,7 @@ histogram-is h =
     let i = kind (summed h) in
     let r = both (stored i) in
     let d = step (first r) in
-    histogram.exchanged-histogram (begin d).requires.0.0.pictured (begin d).requires.0.1 d.step_to-step.ensures (enters r) (leaves r) (was i).histogram-1
+    histogram.exchanged-histogram (begin d).requires.0.0.pictured (begin d).requires.0.1 d.step_to-step.ensures (enters r) (leaves r) (was i).histogram
     h.exchange-then-plan-eq2.auto.histogram h.exchange-then-plan-eq2.ensures
 
 -- way 4
@@ -260,8 +260,8 @@ returns c =
     ∙ box-cut-guided at.args.plan.kind at.args.from.cut.0 i.if-plan-eq2.true in
     blocks-visited at.requires.0.0.pictured at.args.way at.args.from.cut.0 at.args.from.shifts at.requires.1.2 blocks i.if-plan-eq2.true
     (at.requires.1.3 i.if-plan-eq2.true) (record {
-      counts = (moved x).counts-1;
-      words = (moved x).words-1;
+      counts = (moved x).counts;
+      words = (moved x).words;
       box = (moved x).box ∙ ap (balance_box_at (frame_with at.args.file.now at.args.plane.now) at.args.column at.args.row) zero;
     })
     c.arrive_by_blocks.ensures
@@ -304,7 +304,7 @@ arrive-requires c κs =
         (
           sums-own at.args.file.now at.args.column at.args.row none (sums-are (summed h)),
           carries_own at.args.file.now at.args.column at.args.row none
-              (carries-step pl at.requires.0.1 d.step_to-step.ensures (enters r) (leaves r) (was i).below-1),
+              (carries-step pl at.requires.0.1 d.step_to-step.ensures (enters r) (leaves r) (was i).below),
         ),
         (
           at.requires.1.1.cut,
@@ -358,8 +358,8 @@ enough f =
     let r = both (told f) in
     let d = step (first r) in
     let at = begin d in
-    count_enough at.requires.0.0.pictured at.requires.0.1 d.step_to-step.ensures (first r).read_in-n.last.1.1.1.1.0
-    r.read_in-k.last.1.1.1.1.0
+    count_enough at.requires.0.0.pictured at.requires.0.1 d.step_to-step.ensures (first r).read_in-n.new.places
+    r.read_in-k.new.places
     (entering-long r) (leaving-long r) (enters r) (leaves r) at.requires.0.2.count
 
 pixels-are : (f : tie.After-former-1) → let r = both (told f) in let at = opened r in
@@ -369,8 +369,8 @@ pixels-are f =
     let r = both (told f) in
     let d = step (first r) in
     let at = begin d in
-    count-moved at.requires.0.0.pictured at.requires.0.1 d.step_to-step.ensures (first r).read_in-n.last.1.1.1.1.0
-    r.read_in-k.last.1.1.1.1.0
+    count-moved at.requires.0.0.pictured at.requires.0.1 d.step_to-step.ensures (first r).read_in-n.new.places
+    r.read_in-k.new.places
     (entering-long r) (leaving-long r) (enters r) (leaves r) at.requires.0.2.count
 
 add-count : tie.Need-overflow_add-count

@@ -79,7 +79,7 @@ sub-add-window c = search rules
 part-add-window-start : tie.Need-slice_bounds-add_window-start
 part-add-window-start c = search rules
 
-part-add-window-end : tie.Need-slice_bounds-add_window-end
+part-add-window-end : tie.Need-slice_bounds-add_window-end-2
 part-add-window-end c =
     let z = zeros (asked c.before.before) in
     omega (arith, room (start z), z.clear.ensures.long)
@@ -109,8 +109,5 @@ returns-2 c =
     let at = start z in
     filled (room at) z.clear.ensures (count at) c.add_window.ensures.0
 
-auto_slice_bounds-add_window-end-2 : tie.Need-slice_bounds-add_window-end-2
-auto_slice_bounds-add_window-end-2 c = search rules
-
 pub fill_spec : {M : Type 1} → statement M
-fill_spec = tie.close (tie.spec sub-n add-n clear-requires start-requires is-empty-requires same_length returns weights-of-requires part-add-window-end sub-add-window part-add-window-start auto_slice_bounds-add_window-end-2 add-window-requires same-length-2 returns-2)
+fill_spec = tie.close (tie.spec sub-n add-n clear-requires start-requires is-empty-requires same_length returns weights-of-requires slice-aggregate-add-window sub-add-window part-add-window-start part-add-window-end add-window-requires same-length-2 returns-2)

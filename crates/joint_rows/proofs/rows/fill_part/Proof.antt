@@ -76,7 +76,7 @@ loop-again c =
     let h = t.before in
     let at = start h in (
       omega (arith, t.loop-k-test.true),
-      made-next (at.args.from + h.loop-k.k) _ refl (omega (arith, t.loop-k-test.true, at.requires.1, at.requires.3)) (number c) h.loop-k.invariant.1,
+      made-next (at.args.from + h.loop-k.k) _ refl (omega (arith, t.loop-k-test.true, at.requires.1, at.requires.3)) (number c.before) h.loop-k.invariant.1,
       h.loop-k.invariant.2,
     )
 

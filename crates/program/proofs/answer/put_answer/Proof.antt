@@ -59,7 +59,7 @@ abbrev before-rows : tie.After-put_rows-ways → tie.Start
 before-rows e = e.before.before.before.before.before.before.before.before.before.before.before
 
 abbrev before-joint : tie.After-put_way-next → tie.Start
-before-joint e = before-rows e.before.before.before.before.before.before.before.before.before.before.before.before.before.before.before.before.before.before.before
+before-joint e = before-rows e.before.before.before.before.before.before
 
 abbrev before-guided : tie.After-put_guided-last → tie.Start
 before-guided e = before-joint e.before.before.before.before.before

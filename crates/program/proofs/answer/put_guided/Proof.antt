@@ -68,7 +68,7 @@ put-way-requires-2 : tie.Need-put_way-requires
 put-way-requires-2 c κs =
     let d = c.before.before.before.before.before.before.before.before.before.before.before.before.before in
     let s = begun d in
-    rw (chain-count c.before.before.before) (room_next (second s) (both d) (columns c.before.before.before.before.before.before))
+    rw (chain-count c.before.before.before) (room_next (second s) (both d) (columns c.before.before.before.before.before.before.before))
 
 same_length : tie.Need-shape_of-out
 same_length c = search rules
@@ -78,7 +78,7 @@ returns-2 c =
     let d = c.before.before.before.before.before.before.before.before.before.before.before.before.before.before.before.before in
     let s = begun d in
     called (sym (guided-both s.args.plan.kind (shift_count Joint s.args.input.now) d.if-plan-ne2.false))
-    (joined (columns c.before.before)
+    (joined (columns c.before.before.before.before.before.before.before.before.before.before)
     (called (ap (way_text chain_word) (chain-count c.before.before.before.before.before.before)) c.put_way.ensures))
 
 pub put_guided_spec : {M : Type 1} → statement M

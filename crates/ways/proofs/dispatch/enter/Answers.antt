@@ -1,16 +1,14 @@
 -- `ways::dispatch::enter` meets its contract: each way's own promise is the common one. Assumes nothing.
 use borrow.Author.Rules.{rules}
 use Rattle.spec.proofs.Plans.{with-own}
-use Rattle.ways.proofs.WayLaws.{guided-columns, guided-chain, plane-serves, none-columns, none-chain, visited-own, fit-joint, fit-columns, fit-chain, joint-key, joint-visited, columns-visited, chain-visited}
+use Rattle.ways.proofs.WayLaws.{guided-columns, guided-chain, plane-serves, none-columns, none-chain, visited-own, fit-joint, fit-columns, fit-chain, joint-visited, columns-visited, chain-visited}
 use Rattle.ways.proofs.dispatch.enter.Goals as goal
 
 pub enter-requires : goal.enter-requires
 enter-requires c =
-    let w = joint-key c.args.way c.in-Chain.keys1 in record {
-      pictured = (fit-joint _ c.requires.pictured.0 _ _ _ c.requires.stores_fit _ _ w c.requires.column_lt_width, c.requires.balance_box_value.1);
-      column_lt_width = c.requires.pictured.1;
-      stores_fit = w;
-      balance_box_value = plane-serves _ c.args.plan c.requires.pictured.2;
+    let w = c.in-Joint.is in record {
+      fresh = (fit-joint _ c.requires.pictured.0 _ _ _ c.requires.stores_fit _ _ w c.requires.column_lt_width, c.requires.balance_box_value.1);
+      weight_rows = (c.requires.pictured.1, w, plane-serves _ c.args.plan c.requires.pictured.2);
     }
 
 pub enter-requires-in-Columns : goal.enter-requires-in-Columns
@@ -31,8 +29,7 @@ enter-requires-in-Chain c =
 
 pub returns-in-Joint : goal.returns-in-Joint
 returns-in-Joint c =
-    let keys = c.in-Chain.keys1 in
-    joint-visited _ c.requires.pictured.0 _ _ _ c.requires.stores_fit _ _ _ _ _ _ (joint-key c.args.way keys)
+    joint-visited _ c.requires.pictured.0 _ _ _ c.requires.stores_fit _ _ _ _ _ _ c.in-Joint.is
     c.enter.ensures
 
 pub returns-in-Columns : goal.returns-in-Columns

@@ -1,19 +1,16 @@
 -- `ways::dispatch::slide` meets its contract: each way's own promise is the common one. Assumes nothing.
 use borrow.Author.Rules.{rules}
 use Rattle.spec.proofs.Plans.{with-own}
-use Rattle.ways.proofs.WayLaws.{guided-columns, guided-chain, plane-serves, none-columns, none-chain, at_own, visited-own, joint-at, joint-key, joint-visited, columns-at, columns-visited, chain-at, chain-visited}
+use Rattle.ways.proofs.WayLaws.{guided-columns, guided-chain, plane-serves, none-columns, none-chain, at_own, visited-own, joint-at, joint-visited, columns-at, columns-visited, chain-at, chain-visited}
 use Rattle.ways.proofs.dispatch.slide.Goals as goal
 
 pub slide-requires : goal.slide-requires
 slide-requires c =
-    let w = joint-key c.args.way c.in-Chain.keys1 in
+    let w = c.in-Joint.is in
     let h = joint-at _ c.requires.pictured.0 _ _ _ c.requires.stores_fit _ _ _ w c.requires.at_window c.requires.within in
     record {
-      pictured = (h.0, c.requires.adjacent, h.1);
-      within = c.requires.pictured.1;
-      adjacent = c.requires.within;
-      stores_fit = w;
-      at_window = plane-serves _ c.args.plan c.requires.pictured.2;
+      held = (h.0, c.requires.adjacent, h.1);
+      weight_rows = (c.requires.pictured.1, c.requires.within, w, plane-serves _ c.args.plan c.requires.pictured.2);
     }
 
 pub slide-requires-in-Columns : goal.slide-requires-in-Columns
@@ -21,7 +18,7 @@ slide-requires-in-Columns c =
     let e = c.in-Columns.is in record {
       planned = (with-own c.requires.pictured.0, guided-columns _ c.args.plan c.requires.pictured.2 e);
       within = (c.requires.within, c.requires.adjacent);
-      chain_at = (columns-at _ (with-own c.requires.pictured.0) _ _ _ c.requires.stores_fit _ _ _ e
+      columns_at = (columns-at _ (with-own c.requires.pictured.0) _ _ _ c.requires.stores_fit _ _ _ e
           (at_own c.args.way c.args.file.now (none-columns _ c.args.plan c.requires.pictured.2 e) c.requires.at_window)).0;
     }
 
@@ -36,8 +33,7 @@ slide-requires-in-Chain c =
 
 pub returns-in-Joint : goal.returns-in-Joint
 returns-in-Joint c =
-    let keys = c.in-Chain.keys1 in
-    joint-visited _ c.requires.pictured.0 _ _ _ c.requires.stores_fit _ _ _ _ _ _ (joint-key c.args.way keys)
+    joint-visited _ c.requires.pictured.0 _ _ _ c.requires.stores_fit _ _ _ _ _ _ c.in-Joint.is
     c.slide.ensures
 
 pub returns-in-Columns : goal.returns-in-Columns
