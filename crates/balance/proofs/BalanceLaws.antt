@@ -20,7 +20,7 @@ use Rattle.ints.specs.Machine.{read-bounded}
 use Rattle.ints.specs.Polynomial.{◌⊕◌, ◌⊖◌, ◌⊗◌, opposite, #◌, ◌≐◌, solve2}
 use Rattle.ints.specs.Ring.{one-mul}
 use Rattle.spec.specs.declared.Plan.{Plan}
-use Rattle.spec.specs.Base.{if◌then◌else◌}
+use Rattle.std.specs.Prelude.{if◌then◌else◌}
 use Rattle.spec.specs.Frame.{Frame, level, guide, heaviest, frame_of}
 use Rattle.spec.specs.Checks.{Planned}
 use Rattle.spec.specs.Window.{span, pixel_count, empty, InWindow}

@@ -8,7 +8,7 @@ use native.Mathlib.Omega.{arith}
 use lib.Dec.{ltb, eqb}
 use borrow.Author.Tests.{lt-ltb, ltb-true, ltb-false, ne_eqb}
 use Rattle.spec.specs.declared.Settings.{Settings}
-use Rattle.spec.specs.Base.{if◌then◌else◌}
+use Rattle.std.specs.Prelude.{if◌then◌else◌}
 use Rattle.spec.specs.Refusal.{accepted}
 use Rattle.spec.specs.Checks.{outside, bad_size, bad_counts, bad_kind, bad_radius, settings_outcome}
 use Rattle.spec.proofs.Limits.{settings-limits}

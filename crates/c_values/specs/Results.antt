@@ -1,10 +1,9 @@
 -- What a call for C gives back of an outcome: a status, the lent results, the offset.
 -- Assumes nothing.
-use Rattle.std.specs.Prelude.{ℕ, ◌≡◌, List, [], ◌∷◌, eqb, ℤ}
+use Rattle.std.specs.Prelude.{ℕ, ◌≡◌, List, [], ◌∷◌, eqb, ℤ, if◌then◌else◌}
 use Rattle.spec.specs.declared.Grounds.{Grounds}
 use Rattle.spec.specs.declared.Cause.{Cause}
 use Rattle.spec.specs.declared.Cause.TheVariants.{Ordinary, Hollow, NegativeAtZero, NegativeAtLast, Empty}
-use Rattle.spec.specs.Base.{if◌then◌else◌}
 use Rattle.spec.specs.Refusal.{Outcome, accepted, refused}
 use Rattle.spec.specs.Walk.{answer_number}
 

@@ -9,7 +9,8 @@ use native.Mathlib.Omega.{arith}
 use lib.Dec.{eqb, leb, ltb}
 use borrow.Author.Tests.{leb-true, ltb-true}
 use Rattle.spec.specs.declared.Plan.{Plan}
-use Rattle.spec.specs.Base.{if◌then◌else◌, fold_rect, sum}
+use Rattle.std.specs.Prelude.{if◌then◌else◌}
+use Rattle.spec.specs.Base.{fold_rect, sum}
 use Rattle.spec.specs.Frame.{Frame, level, dead, guide, frame_of}
 use Rattle.spec.specs.Checks.{Planned}
 use Rattle.spec.specs.Window.{span, live, over, in_row, Σ, level_sum, InWindow}

@@ -1,7 +1,6 @@
 -- A line's pixels, as a list, and what they add to each level's count and guide sum.
 -- Assumes nothing.
-use Rattle.std.specs.Prelude.{Bool, true, false, not, List, ℕ, ◌+◌, ◌*◌, ◌≤◌, ◌<◌, eqb}
-use Rattle.spec.specs.Base.{if◌then◌else◌}
+use Rattle.std.specs.Prelude.{Bool, true, false, not, List, ℕ, ◌+◌, ◌*◌, ◌≤◌, ◌<◌, eqb, if◌then◌else◌}
 use Rattle.spec.specs.declared.Plan.{Plan}
 use Rattle.pixels.specs.Pixels.{count_of, pixel_fold, PixelsBelow}
 use Rattle.chain_nodes.specs.declared.FreeList.{FreeList}

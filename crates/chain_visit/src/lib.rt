@@ -2,7 +2,8 @@
 #![tactic(auto)]
 
 ghost use Rattle.std.specs.Prelude.{◌≡◌, ◌<◌, ◌≤◌, length};
-ghost use Rattle.spec.specs.Base.{if◌then◌else◌, distance};
+ghost use Rattle.std.specs.Prelude.{if◌then◌else◌};
+ghost use Rattle.spec.specs.Base.{distance};
 ghost use Rattle.spec.specs.Checks.{Planned};
 ghost use Rattle.spec.specs.Frame.{frame_of};
 ghost use Rattle.spec.specs.declared.Way.TheVariants.{Chain};

@@ -12,7 +12,8 @@ use lib.Dec.{eqb}
 use lib.ListN.{length, get_or, set, length-set}
 use lib.Seq.{get_or-set_same, get_or-set_other}
 use borrow.Author.Tests.{eq-eqb, ne_eqb}
-use Rattle.spec.specs.Base.{if◌then◌else◌, sum, when}
+use Rattle.std.specs.Prelude.{if◌then◌else◌}
+use Rattle.spec.specs.Base.{sum, when}
 use Rattle.spec.specs.Frame.{Frame, level, dead, guide}
 use Rattle.spec.specs.Window.{span}
 use Rattle.spec.proofs.Ranges.{nat_sums, fold-parts}

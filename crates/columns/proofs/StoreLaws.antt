@@ -12,7 +12,8 @@ use lib.Dec.{leb, ltb, eqb}
 use lib.ListN.{length, get_or, drop}
 use borrow.Author.Tests.{ltb-true, lt-ltb, le-ltb}
 use Rattle.spec.specs.declared.Plan.{Plan}
-use Rattle.spec.specs.Base.{if◌then◌else◌, sum, when}
+use Rattle.std.specs.Prelude.{if◌then◌else◌}
+use Rattle.spec.specs.Base.{sum, when}
 use Rattle.spec.specs.Frame.{Frame, frame_of, level, guide}
 use Rattle.spec.specs.Checks.{Planned}
 use Rattle.spec.specs.Window.{span, in_row}

@@ -1,8 +1,8 @@
 -- The column store as blocks of L numbers: block x the counts of column x, block w + x its guide sums, block 2w the window's counts and block 2w + 1
 -- its guide sums. A change adds D m i to number i of each block m, or takes it off.
 -- Assumes nothing.
-use Rattle.std.specs.Prelude.{◌≡◌, Bool, true, false, not, List, ◌⊎◌, ℕ, ◌+◌, ◌-◌, ◌*◌, ◌≤◌, ◌<◌, leb, ltb, eqb, length, get_or}
-use Rattle.spec.specs.Base.{if◌then◌else◌, sum, when}
+use Rattle.std.specs.Prelude.{◌≡◌, Bool, true, false, not, List, ◌⊎◌, ℕ, ◌+◌, ◌-◌, ◌*◌, ◌≤◌, ◌<◌, leb, ltb, eqb, length, get_or, if◌then◌else◌}
+use Rattle.spec.specs.Base.{sum, when}
 use Rattle.spec.specs.Frame.{Frame, level, guide}
 use Rattle.spec.specs.Window.{span, live}
 use Rattle.columns.specs.declared.store.Exchange.{Exchange}

@@ -11,7 +11,8 @@ use lib.ListN.{length, get_or}
 use Rattle.spec.specs.declared.Settings.{Settings}
 use Rattle.spec.specs.declared.Plan.{Plan}
 use Rattle.spec.specs.declared.Room.{Room}
-use Rattle.spec.specs.Base.{if◌then◌else◌, first}
+use Rattle.std.specs.Prelude.{if◌then◌else◌}
+use Rattle.spec.specs.Base.{first}
 use Rattle.spec.specs.Refusal.{Outcome, accepted, refused, ◌▷◌, refuse}
 use Rattle.spec.specs.Frame.{trailer_at, settings_of, trailer_of, plan_of, pixels}
 use Rattle.spec.specs.Checks.{

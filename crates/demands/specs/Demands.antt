@@ -3,7 +3,7 @@
 -- A reader starts here; proofs/Demands.antt proves each, proofs/BytePlanes.antt those of request 8. Cameras.antt beside this has request 9.
 -- b are a file's bytes, upper a plane of upper levels, before and after the stores around a call, old and new its answers or output, r its result.
 -- Assumes nothing.
-use Rattle.std.specs.Prelude.{ℕ, suc, ◌+◌, ◌-◌, ◌*◌, ◌≤◌, ◌<◌, ◌≡◌, true, false, ◌⊎◌, ◌↔◌, List, ◌++◌, leb, length, get_or, take, drop, pos, ◌*ℤ◌, ◌≤ℤ◌, ◌<ℤ◌}
+use Rattle.std.specs.Prelude.{ℕ, suc, ◌+◌, ◌-◌, ◌*◌, ◌≤◌, ◌<◌, ◌≡◌, true, false, ◌⊎◌, ◌↔◌, List, ◌++◌, leb, length, get_or, take, drop, pos, ◌*ℤ◌, ◌≤ℤ◌, ◌<ℤ◌, if◌then◌else◌}
 use Rattle.spec.specs.declared.Settings.{Settings}
 use Rattle.spec.specs.declared.Plan.{Plan}
 use Rattle.spec.specs.declared.Room.{Room}
@@ -14,7 +14,7 @@ use Rattle.spec.specs.declared.Cause.TheVariants.{Hollow, Empty}
 use Rattle.spec.specs.declared.Grounds.{Grounds}
 use Rattle.spec.specs.declared.Verdict.{Verdict}
 use Rattle.spec.specs.declared.Verdict.TheVariants.{Accepted}
-use Rattle.spec.specs.Base.{if◌then◌else◌, sum}
+use Rattle.spec.specs.Base.{sum}
 use Rattle.spec.specs.Refusal.{accepted, refused, numbered}
 use Rattle.spec.specs.Frame.{Frame, level, no_reading, pixels, settings_of, plan_of, frame_of, with_values}
 use Rattle.spec.specs.Window.{InWindow, Σ, pixel_count}

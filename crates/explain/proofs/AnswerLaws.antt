@@ -14,7 +14,7 @@ use lib.Signed.{◌≤ℤ◌, ◌<ℤ◌}
 use Rattle.ints.specs.Order.{add_parts, lt-or-le}
 use Rattle.ints.specs.Linear.{ints}
 use Rattle.ints.specs.Polynomial.{◌⊖◌, ◌⊗◌, #◌, ◌≐◌, solve1}
-use Rattle.spec.specs.Base.{if◌then◌else◌}
+use Rattle.std.specs.Prelude.{if◌then◌else◌}
 use Rattle.spec.specs.declared.Settings.{Settings}
 use Rattle.spec.specs.declared.Answer.{Answer}
 use Rattle.spec.specs.declared.Cause.{Cause}

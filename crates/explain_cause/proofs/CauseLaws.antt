@@ -14,7 +14,7 @@ use Rattle.ints.specs.Order.{≤-not-<, 0≤pos}
 use Rattle.spec.specs.declared.Settings.{Settings}
 use Rattle.spec.specs.declared.Cause.{Cause}
 use Rattle.spec.specs.declared.Cause.TheVariants.{Ordinary, Hollow, NegativeAtZero, NegativeAtLast}
-use Rattle.spec.specs.Base.{if◌then◌else◌}
+use Rattle.std.specs.Prelude.{if◌then◌else◌}
 use Rattle.spec.specs.Frame.{Frame}
 use Rattle.spec.specs.Window.{empty}
 use Rattle.spec.specs.Weight.{weightless, weight, monotone}

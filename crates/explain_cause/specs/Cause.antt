@@ -1,10 +1,9 @@
 -- The cause of a window with a reading, by what the two ends of the guides weigh.
 -- Assumes nothing.
-use Rattle.std.specs.Prelude.{Bool, ℤ}
+use Rattle.std.specs.Prelude.{Bool, ℤ, if◌then◌else◌}
 use Rattle.std.specs.Int.Signed.{non_neg}
 use Rattle.spec.specs.declared.Cause.{Cause}
 use Rattle.spec.specs.declared.Cause.TheVariants.{Ordinary, Hollow, NegativeAtZero, NegativeAtLast}
-use Rattle.spec.specs.Base.{if◌then◌else◌}
 
 unfoldable pub cause_by : Bool → ℤ → ℤ → Cause
 cause_by hollow first last =

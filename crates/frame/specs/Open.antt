@@ -1,9 +1,8 @@
 -- What an opened frame shows: parts of the caller's bytes; nothing where the file is refused.
 -- Assumes nothing.
-use Rattle.std.specs.Prelude.{◌≡◌, ℕ, ◌+◌, ◌-◌, ◌*◌, Bool, ◌||◌, List, [], ltb, length}
+use Rattle.std.specs.Prelude.{◌≡◌, ℕ, ◌+◌, ◌-◌, ◌*◌, Bool, ◌||◌, List, [], ltb, length, if◌then◌else◌}
 use Rattle.std.specs.Borrow.{Bor}
 use Rattle.spec.specs.declared.Trailer.{Trailer}
-use Rattle.spec.specs.Base.{if◌then◌else◌}
 use Rattle.spec.specs.Refusal.{fires, numbered}
 use Rattle.spec.specs.Frame.{trailer_at, settings_of, trailer_of, plan_of, part, pixels, own_weights, value_part, guide_part, table_part}
 use Rattle.spec.specs.Checks.{verdict}

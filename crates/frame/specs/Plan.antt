@@ -1,8 +1,7 @@
 -- The plan of an opened file.
 -- Assumes nothing.
-use Rattle.std.specs.Prelude.{ℕ, List}
+use Rattle.std.specs.Prelude.{ℕ, List, if◌then◌else◌}
 use Rattle.spec.specs.declared.Plan.{Plan}
-use Rattle.spec.specs.Base.{if◌then◌else◌}
 use Rattle.spec.specs.Refusal.{fires}
 use Rattle.spec.specs.Frame.{plan_of}
 use Rattle.spec.specs.Checks.{verdict}

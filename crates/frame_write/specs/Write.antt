@@ -1,9 +1,8 @@
 -- What the writer's answer says, what an accepted writing has, the writer's contract, and what reading the file gives back.
 -- Assumes nothing.
-use Rattle.std.specs.Prelude.{◌≡◌, ℕ, ◌+◌, ◌*◌, ◌≤◌, ◌<◌, List, eqb, length, get_or}
+use Rattle.std.specs.Prelude.{◌≡◌, ℕ, ◌+◌, ◌*◌, ◌≤◌, ◌<◌, List, eqb, length, get_or, if◌then◌else◌}
 use Rattle.spec.specs.declared.Settings.{Settings}
 use Rattle.spec.specs.declared.Verdict.TheVariants.{Accepted}
-use Rattle.spec.specs.Base.{if◌then◌else◌}
 use Rattle.spec.specs.Bytes.{all16}
 use Rattle.spec.specs.Refusal.{Outcome, accepted, refused, number, values_of}
 use Rattle.spec.specs.Frame.{pixels, table, built_in, settings_of, frame_of, value_part, guide_part, table_part, pixel_level, pixel_guide}

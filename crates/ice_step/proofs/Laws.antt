@@ -18,7 +18,7 @@ use Rattle.spec.specs.declared.Way.{Way}
 use Rattle.spec.specs.declared.Way.TheVariants.{Joint, Columns, Chain, Coarse}
 use Rattle.spec.specs.declared.Move.TheVariants.{To, Nowhere}
 use Rattle.spec.specs.declared.Verdict.TheVariants.{Accepted}
-use Rattle.spec.specs.Base.{if◌then◌else◌}
+use Rattle.std.specs.Prelude.{if◌then◌else◌}
 use Rattle.spec.specs.Frame.{Frame, frame_of, frame_with, settings_in}
 use Rattle.spec.specs.Checks.{Pictured, SettingsLimits}
 use Rattle.spec.specs.Coarse.{block_count, summary}

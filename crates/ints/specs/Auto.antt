@@ -17,8 +17,8 @@ use Rattle.std.specs.Int.{Width}
 use mir.Val.{SFits, hbits}
 use Rattle.ints.specs.Polynomial.{Expr, var, lit, ◌⊕◌, ◌⊖◌, ◌⊗◌, opposite, eval, normalize, ring}
 use Rattle.ints.specs.Computation.{Variable, Operations, values, bounds, computed, all_below}
-use Rattle.ints.specs.Machine.{Cell, read_back, signed_ops, before_store, need, computes}
-use Rattle.ints.specs.Float.{FloatOf, FloatCell, float_ops, rep_at, rep-computed}
+use Rattle.ints.specs.Machine.{Cell, read_back, signed_ops, before_store}
+use Rattle.ints.specs.Float.{FloatOf, FloatCell, float_ops, rep_at}
 
 -- ---- a value: one rule for each operation, for a literal, and for each place in the list of variables
 pub record Quoted (ρ : List ℤ) (z : ℤ) : Type 0 where
@@ -193,15 +193,6 @@ pub ruleset signed_code = (
   tt,
 )
 
--- a need `add-..`, `sub-..`, `mul-..`
-pub need! : (w : Width) {x : ℤ} (xs : List Cell) (p : BeforeStore w xs x) → T (all_below (2 ^ hbits w) (bounds xs) p.expr) → SFits w x
-need! w xs p t = subst (λ (z : ℤ). SFits w z) p.is (need w xs p.expr t)
-
--- what the code has is what the contract says, by the ring laws
-pub computes! : (w : Width) {x z : ℤ} (xs : List Cell) (p : Computed (signed_ops w) xs x) (q : Quoted (values xs) z) →
-    T (all_below (2 ^ hbits w) (bounds xs) p.expr) → normalize p.expr ≡ normalize q.expr → x ≡ z
-computes! w xs p q t e = sym p.is ∙ computes w xs p.expr t ∙ ring (values xs) p.expr q.expr e ∙ q.is
-
 -- ---- float code
 abbrev pub float_add : (f : Format) (xs : List (FloatCell f)) (x y : Float) → Computed (float_ops f) xs x → Computed (float_ops f) xs y →
     Computed (float_ops f) xs (add f x y)
@@ -219,13 +210,6 @@ abbrev pub float_neg : (f : Format) (xs : List (FloatCell f)) (x : Float) → Co
 float_neg f xs x p = record { expr = opposite p.expr; is = ap Ieee.neg p.is }
 
 pub ruleset float_code = (has₀, has₁, has₂, has₃, has₄, has₅, has₆, has₇, has₈, has₉, float_mul, float_sub, float_add, float_neg)
-
--- the float that the code has stands for what the contract says
-pub rep! : {f : Format} {x : Float} {z : ℤ} (xs : List (FloatCell f)) (p : Computed (float_ops f) xs x) (q : Quoted (values xs) z) →
-    T (all_below (suc (2 ^ prec f)) (bounds xs) p.expr) → normalize p.expr ≡ normalize q.expr → FloatOf f x z
-rep! {f} {x} xs p q t e =
-    rep_at (ring (values xs) p.expr q.expr e ∙ q.is)
-    (subst (λ (y : Float). FloatOf f y (eval (values xs) p.expr)) p.is (rep-computed f xs p.expr t))
 
 -- ---- test: six variables
 test-six : (u F a n G S : ℤ) → u *ℤ F +ℤ a *ℤ (n *ℤ G -ℤ S *ℤ F) ≡ (u -ℤ a *ℤ S) *ℤ F +ℤ (a *ℤ n) *ℤ G

@@ -1,6 +1,6 @@
 -- How large an integer is, and so whether a signed width holds it. `nat_abs z ≤ B` says |z| ≤ B; a literal B then answers a need of
--- signed code by one comparison of literals, `sfits-abs B h tt`. `eval-within ρ B e h` bounds a whole expression by the bounds of its
--- variables. A fact `nat_abs z ≤ B` does not tell z to the checker, so the laws take z by name. Assumes nothing.
+-- signed code by one comparison of literals, `sfits-abs B h tt`. `eval-within ρ B e h`, of proofs/Bound.antt, bounds a whole
+-- expression by the bounds of its variables. A fact `nat_abs z ≤ B` does not tell z to the checker, so the laws take z by name. Assumes nothing.
 use Rattle.std.specs.Prelude.{◌≡◌, refl, Bool, true, false, cond, List, [], ◌∷◌, ℕ, zero, suc, ◌+◌, ◌-◌, ◌*◌, ◌^◌, ◌≤◌, ◌<◌, T, leb, ltb, ℤ, pos, negsuc, neg_ℤ, nat_abs, ◌+ℤ◌, ◌-ℤ◌, ◌*ℤ◌, ◌≤ℤ◌}
 use Rattle.std.proofs.Common.{le_trans, le_of_eq, lt_of_le_of_lt, lt_of_lt_of_le, mul-le-mul, le_refl, arith, leb→le, ltb→lt}
 use Rattle.std.proofs.Math.IntN.{sub_ℕ}
@@ -50,7 +50,7 @@ abs-sub-le a b h l = omega (arith, abs-add a (neg_ℤ b), abs_neg b)
 pub abs-mul-le : (a b : ℤ) {A B : ℕ} → nat_abs a ≤ A → nat_abs b ≤ B → nat_abs (a *ℤ b) ≤ A * B
 abs-mul-le a b h l = le_trans (le_of_eq (abs-mul a b)) (mul-le-mul h l)
 
-abs-neg-le : (a : ℤ) {A : ℕ} → nat_abs a ≤ A → nat_abs (neg_ℤ a) ≤ A
+pub abs-neg-le : (a : ℤ) {A : ℕ} → nat_abs a ≤ A → nat_abs (neg_ℤ a) ≤ A
 abs-neg-le a h = omega (arith, abs_neg a)
 
 -- ---- a bound from two orders
@@ -100,17 +100,3 @@ abbrev pub WithinBounds : List ℤ → List ℕ → Type 0
 WithinBounds [] B = Unit {0}
 WithinBounds (z ∷ ρ) [] = ⊥
 WithinBounds (z ∷ ρ) (b ∷ B) = (nat_abs z ≤ b) × WithinBounds ρ B
-
-at-within : (ρ : List ℤ) (B : List ℕ) (i : ℕ) → WithinBounds ρ B → nat_abs (at ρ i) ≤ bound_at B i
-at-within [] B i h = omega arith
-at-within (z ∷ ρ) [] i h = absurd h
-at-within (z ∷ ρ) (b ∷ B) zero h = h.0
-at-within (z ∷ ρ) (b ∷ B) (suc i) h = at-within ρ B i h.1
-
-pub eval-within : (ρ : List ℤ) (B : List ℕ) (e : Expr) → WithinBounds ρ B → nat_abs (eval ρ e) ≤ bound_of B e
-eval-within ρ B (var i) h = at-within ρ B i h
-eval-within ρ B (lit c) h = le_refl (nat_abs c)
-eval-within ρ B (a ⊕ b) h = abs-add-le (eval ρ a) (eval ρ b) (eval-within ρ B a h) (eval-within ρ B b h)
-eval-within ρ B (a ⊖ b) h = abs-sub-le (eval ρ a) (eval ρ b) (eval-within ρ B a h) (eval-within ρ B b h)
-eval-within ρ B (a ⊗ b) h = abs-mul-le (eval ρ a) (eval ρ b) (eval-within ρ B a h) (eval-within ρ B b h)
-eval-within ρ B (opposite a) h = abs-neg-le (eval ρ a) (eval-within ρ B a h)

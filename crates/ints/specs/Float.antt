@@ -23,7 +23,7 @@ use Rattle.ints.specs.Ring.{neg-mul, mul-neg}
 use Rattle.ints.specs.Order.{nat_eq, add_parts, pos_part-neg, neg_part-neg}
 use Rattle.ints.specs.Polynomial.{Expr, eval}
 use Rattle.ints.specs.Bound.{abs_neg}
-use Rattle.ints.specs.Computation.{Variable, Operations, Exact, values, bounds, computed, all_below, eval-below, computed-means}
+use Rattle.ints.specs.Computation.{Variable, Operations, Exact, values, bounds, computed, all_below}
 use Rattle.ints.specs.Machine.{read_back, read-bounded}
 
 -- ±n, which is -n where the sign is set
@@ -402,30 +402,6 @@ unsigned_float f n B h = known_float (of_int f (pos n)) (pos n) B (rep-of_int f 
 
 abbrev pub float_ops : Format → Operations Float
 float_ops f = record { literal = of_int f; plus = add f; minus = sub f; times = mul f; negate = neg }
-
-float-exact : (f : Format) → Exact (λ (x : Float) (z : ℤ). FloatOf f x z) (float_ops f) (suc (2 ^ prec f))
-float-exact f =
-    record {
-      literal-means = λ c. rep-of_int f c;
-      plus-means = λ x y a b p q h k l. rep_add p q (le_of_suc-le-suc h) (le_of_suc-le-suc k);
-      minus-means = λ x y a b p q h k l. rep-sub p q (le_of_suc-le-suc h) (le_of_suc-le-suc k);
-      times-means = λ x y a b p q h k l. rep_mul p q (le_of_suc-le-suc h) (le_of_suc-le-suc k);
-      negate-means = λ x a p l. rep_neg p;
-    }
-
-module _ (f : Format) (xs : List (FloatCell f)) where
-  pub rep-computed : (e : Expr) → T (all_below (suc (2 ^ prec f)) (bounds xs) e) → FloatOf f (computed (float_ops f) xs e) (eval (values xs) e)
-  rep-computed e t = computed-means (float-exact f) xs e t
-
-  -- a test `<` of two expressions
-  pub lt-computed : (a b : Expr) → T (all_below (suc (2 ^ prec f)) (bounds xs) a && all_below (suc (2 ^ prec f)) (bounds xs) b)
-      → Ieee.lt (computed (float_ops f) xs a) (computed (float_ops f) xs b) ≡ lt_z (eval (values xs) a) (eval (values xs) b)
-  lt-computed a b t =
-      let both = and_yes (all_below (suc (2 ^ prec f)) (bounds xs) a) (all_below (suc (2 ^ prec f)) (bounds xs) b) t in
-      rep-lt (rep-computed a both.0) (rep-computed b both.1) (small a both.0) (small b both.1)
-    where
-      small : (e : Expr) → T (all_below (suc (2 ^ prec f)) (bounds xs) e) → nat_abs (eval (values xs) e) ≤ 2 ^ prec f
-      small e t = le_of_suc-le-suc (eval-below (float-exact f) xs e t)
 
 -- ---- literals of the code, by their bits. For another one: `rep-bits binary64 bits z refl` under the `unfolding` line of `rep-two`
 pub rep-bits : (f : Format) (b : ℕ) (z : ℤ) → Ieee.of_bits f b ≡ of_int f z → FloatOf f (Ieee.of_bits f b) z

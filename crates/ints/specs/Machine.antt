@@ -16,20 +16,7 @@ use mir.Val.{Fits, SFits, hbits, bits, to_z, of_z}
 use Rattle.ints.specs.Order.{not-≤}
 use Rattle.ints.specs.Polynomial.{Expr, var, lit, ◌⊕◌, ◌⊖◌, ◌⊗◌, opposite, eval}
 use Rattle.ints.specs.Bound.{bound_of, sfits-below, sfits-abs, sfits_pos}
-use Rattle.ints.specs.Computation.{
-  Variable,
-  Operations,
-  Exact,
-  values,
-  bounds,
-  bounded,
-  held_at,
-  computed,
-  all_below,
-  operands,
-  eval-below,
-  computed-means,
-}
+use Rattle.ints.specs.Computation.{Variable, Operations, Exact, values, bounds, held_at, computed, all_below, operands}
 
 -- written, and read back
 abbrev pub read_back : Width → ℤ → ℤ
@@ -73,21 +60,7 @@ signed_ops w =
       negate = λ x. read_back w (pos 0 -ℤ x);
     }
 
-signed-exact : (w : Width) → Exact (λ (x z : ℤ). x ≡ z) (signed_ops w) (2 ^ hbits w)
-signed-exact w =
-    record {
-      literal-means = λ c. refl;
-      plus-means = λ x y a b p q h k l. ap₂ (λ (i j : ℤ). read_back w (i +ℤ j)) p q ∙ read w (sfits-below l);
-      minus-means = λ x y a b p q h k l. ap₂ (λ (i j : ℤ). read_back w (i -ℤ j)) p q ∙ read w (sfits-below l);
-      times-means = λ x y a b p q h k l. ap₂ (λ (i j : ℤ). read_back w (i *ℤ j)) p q ∙ read w (sfits-below l);
-      negate-means = λ x a p l. ap (read_back w) (+ℤ_idl (neg_ℤ x) ∙ ap neg_ℤ p) ∙ read w (sfits-below l);
-    }
-
 module _ (w : Width) (xs : List Cell) where
-  -- what the code has of e is e's value
-  pub computes : (e : Expr) → T (all_below (2 ^ hbits w) (bounds xs) e) → computed (signed_ops w) xs e ≡ eval (values xs) e
-  computes e t = computed-means (signed-exact w) xs e t
-
   -- the last operation's result, before it is written
   abbrev pub before_store : Expr → ℤ
   before_store (var i) = held_at (signed_ops w) xs i
@@ -96,29 +69,6 @@ module _ (w : Width) (xs : List Cell) where
   before_store (a ⊖ b) = computed (signed_ops w) xs a -ℤ computed (signed_ops w) xs b
   before_store (a ⊗ b) = computed (signed_ops w) xs a *ℤ computed (signed_ops w) xs b
   before_store (opposite a) = pos 0 -ℤ computed (signed_ops w) xs a
-
-  before-is : (e : Expr) → T (all_below (2 ^ hbits w) (bounds xs) e) → before_store e ≡ eval (values xs) e
-  before-is (var i) t = computes (var i) t
-  before-is (lit c) t = refl
-  before-is (a ⊕ b) t =
-      let s = operands (2 ^ hbits w) (bounds xs) a b (bound_of (bounds xs) a + bound_of (bounds xs) b) t in
-      ap₂ (λ (x y : ℤ). x +ℤ y) (computes a s.0) (computes b s.1.0)
-  before-is (a ⊖ b) t =
-      let s = operands (2 ^ hbits w) (bounds xs) a b (bound_of (bounds xs) a + bound_of (bounds xs) b) t in
-      ap₂ (λ (x y : ℤ). x -ℤ y) (computes a s.0) (computes b s.1.0)
-  before-is (a ⊗ b) t =
-      let s = operands (2 ^ hbits w) (bounds xs) a b (bound_of (bounds xs) a * bound_of (bounds xs) b) t in
-      ap₂ (λ (x y : ℤ). x *ℤ y) (computes a s.0) (computes b s.1.0)
-  before-is (opposite a) t = +ℤ_idl (neg_ℤ (computed (signed_ops w) xs a)) ∙ ap neg_ℤ (computes a t)
-
-  -- a need `add-..`, `sub-..`, `mul-..`
-  pub need : (e : Expr) → T (all_below (2 ^ hbits w) (bounds xs) e) → SFits w (before_store e)
-  need e t = subst (λ (x : ℤ). SFits w x) (sym (before-is e t)) (sfits-below (eval-below (signed-exact w) xs e t))
-
-  -- `let_cell w64 xs e tt ∷ xs`
-  abbrev pub let_cell : (e : Expr) → T (all_below (2 ^ hbits w) (bounds xs) e) → Cell
-  let_cell e t =
-      record { has = computed (signed_ops w) xs e; is = eval (values xs) e; bound = bound_of (bounds xs) e; same = computes e t; small = bounded xs e }
 
 -- ---- a test of two signed numbers, whose operands e and f are what the code has of x and y
 pub lt-true : {e f x y : ℤ} → e ≡ x → f ≡ y → lt_z e f ≡ true → x <ℤ y

@@ -1,7 +1,6 @@
 -- What the window that the counts hold answers and adds, by a row of weights.
 -- Assumes nothing.
-use Rattle.std.specs.Prelude.{◌≡◌, Bool, List, ℕ, ◌+◌, replicate, ℤ}
-use Rattle.spec.specs.Base.{if◌then◌else◌}
+use Rattle.std.specs.Prelude.{◌≡◌, Bool, List, ℕ, ◌+◌, replicate, ℤ, if◌then◌else◌}
 use Rattle.spec.specs.Walk.{shifts_to}
 use Rattle.joint_search.specs.declared.Sizes.{Sizes}
 use Rattle.joint_search.specs.declared.find.SearchEnd.{SearchEnd}

@@ -1,8 +1,8 @@
 -- The occupied guides of a level, and sums over them.
 -- Assumes nothing.
-use Rattle.std.specs.Prelude.{◌≡◌, List, ℕ, ◌+◌, ◌*◌, ◌/◌, ◌%◌, ◌^◌, ◌≤◌, ◌<◌, min, eqb, length, get_or}
+use Rattle.std.specs.Prelude.{◌≡◌, List, ℕ, ◌+◌, ◌*◌, ◌/◌, ◌%◌, ◌^◌, ◌≤◌, ◌<◌, min, eqb, length, get_or, if◌then◌else◌}
 use Rattle.std.specs.Int.Count.{count_trailing_zeros}
-use Rattle.spec.specs.Base.{if◌then◌else◌, sum}
+use Rattle.spec.specs.Base.{sum}
 use Rattle.spec.specs.Frame.{heaviest}
 use Rattle.joint_pixel.specs.Bit.{bit}
 use Rattle.joint_cells.specs.declared.scan.Scan.{Scan}

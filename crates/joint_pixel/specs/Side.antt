@@ -1,7 +1,6 @@
 -- A pixel in the balance box.
 -- Assumes nothing.
-use Rattle.std.specs.Prelude.{ℕ, leb, eqb, ℤ, pos, negsuc}
-use Rattle.spec.specs.Base.{if◌then◌else◌}
+use Rattle.std.specs.Prelude.{ℕ, leb, eqb, ℤ, pos, negsuc, if◌then◌else◌}
 
 -- what a pixel of level i adds to its guide's cell of the box at the cut point c; and, if its guide is g, to cell f
 unfoldable pub side : ℕ → ℕ → ℤ

@@ -10,7 +10,8 @@ use lib.Arith.{digits_lt}
 use lib.Dec.{eqb}
 use lib.ListN.{length}
 use Rattle.spec.specs.declared.Plan.{Plan}
-use Rattle.spec.specs.Base.{if◌then◌else◌, distance}
+use Rattle.std.specs.Prelude.{if◌then◌else◌}
+use Rattle.spec.specs.Base.{distance}
 use Rattle.spec.specs.Frame.{table_size, settings_of, trailer_of, own_weights, plan_of}
 use Rattle.spec.specs.Checks.{Pictured}
 use Rattle.spec.proofs.Plans.{facts}

@@ -13,7 +13,8 @@ use lib.Signed.{le_z}
 use borrow.Author.Tests.{le-leb}
 use Rattle.ints.specs.Polynomial.{◌⊕◌, ◌⊖◌, ◌⊗◌, #◌, ◌≐◌, solve2}
 use Rattle.spec.specs.declared.Plan.{Plan}
-use Rattle.spec.specs.Base.{if◌then◌else◌, indicator, sum, sumℤ}
+use Rattle.std.specs.Prelude.{if◌then◌else◌}
+use Rattle.spec.specs.Base.{indicator, sum, sumℤ}
 use Rattle.spec.specs.Frame.{Frame, level, guide, frame_with}
 use Rattle.spec.specs.Window.{in_cell, count, pixel_count, empty}
 use Rattle.spec.specs.Median.{total_weight, cumulative, balance, median}

@@ -11,7 +11,7 @@ use lib.IntN.{ℤ, pos, nat_abs}
 use borrow.Author.Tests.{eq-eqb, eqb-false}
 use Rattle.spec.specs.declared.Plan.{Plan}
 use Rattle.spec.specs.declared.Way.{Way}
-use Rattle.spec.specs.Base.{if◌then◌else◌}
+use Rattle.std.specs.Prelude.{if◌then◌else◌}
 use Rattle.spec.specs.Frame.{Frame, level, guide, no_reading, frame_with, value_of}
 use Rattle.spec.specs.Checks.{Pictured}
 use Rattle.spec.specs.Window.{InWindow, empty}

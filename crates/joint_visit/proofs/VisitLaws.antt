@@ -15,7 +15,7 @@ use borrow.Author.Tests.{eq-eqb, ne_eqb}
 use Rattle.spec.specs.declared.Plan.{Plan}
 use Rattle.spec.specs.declared.Way.{Way}
 use Rattle.spec.specs.declared.Way.TheVariants.{Joint, Coarse}
-use Rattle.spec.specs.Base.{if◌then◌else◌}
+use Rattle.std.specs.Prelude.{if◌then◌else◌}
 use Rattle.spec.specs.Frame.{Frame, frame_of, frame_with}
 use Rattle.spec.specs.Checks.{Pictured}
 use Rattle.spec.specs.Window.{pixel_count}

@@ -1,10 +1,9 @@
 -- A walk at a window, in either kind.
 -- Assumes nothing.
-use Rattle.std.specs.Prelude.{◌≡◌, Bool, ◌⊎◌, List, [], ℕ, eqb, ℤ}
+use Rattle.std.specs.Prelude.{◌≡◌, Bool, ◌⊎◌, List, [], ℕ, eqb, ℤ, if◌then◌else◌}
 use Rattle.spec.specs.declared.Plan.{Plan}
 use Rattle.spec.specs.declared.Way.{Way}
 use Rattle.spec.specs.declared.Way.TheVariants.{Joint, Coarse}
-use Rattle.spec.specs.Base.{if◌then◌else◌}
 use Rattle.spec.specs.Frame.{Frame}
 use Rattle.spec.specs.Window.{pixel_count}
 use Rattle.spec.specs.Walk.{State, by_blocks}

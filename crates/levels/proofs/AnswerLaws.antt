@@ -17,7 +17,8 @@ use Rattle.ints.specs.Order.{≤_trans, ≤-of-eq}
 use Rattle.ints.specs.Ring.{mul-one}
 use Rattle.spec.specs.declared.Plan.{Plan}
 use Rattle.spec.specs.declared.Way.{Way}
-use Rattle.spec.specs.Base.{if◌then◌else◌, sum}
+use Rattle.std.specs.Prelude.{if◌then◌else◌}
+use Rattle.spec.specs.Base.{sum}
 use Rattle.spec.specs.Frame.{Frame, level, guide, frame_of}
 use Rattle.spec.specs.Checks.{Planned}
 use Rattle.spec.specs.Window.{empty, level_sum}

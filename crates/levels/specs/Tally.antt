@@ -1,7 +1,6 @@
 -- The count and the guide sum of the window's pixels below a level: cumulative numbers that the search keeps at the cut point and every move carries.
 -- Assumes nothing.
-use Rattle.std.specs.Prelude.{◌≡◌, ℕ, ltb}
-use Rattle.spec.specs.Base.{if◌then◌else◌}
+use Rattle.std.specs.Prelude.{◌≡◌, ℕ, ltb, if◌then◌else◌}
 use Rattle.spec.specs.Frame.{Frame, level, guide}
 use Rattle.spec.specs.Window.{Σ}
 use Rattle.level_search.specs.declared.Tally.{Tally}

@@ -1,6 +1,7 @@
 // The window's answer from its counts and guide sums of each level. The two lists are the window's: how they are kept is the way's own.
 ghost use Rattle.std.specs.Prelude.{◌≡◌, ◌+◌};
-ghost use Rattle.spec.specs.Base.{if◌then◌else◌, distance};
+ghost use Rattle.std.specs.Prelude.{if◌then◌else◌};
+ghost use Rattle.spec.specs.Base.{distance};
 ghost use Rattle.level_search.specs.Search.{FoundAt};
 ghost use Rattle.levels.specs.Answer.{Answerable, FromCut};
 

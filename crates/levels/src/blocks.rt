@@ -1,7 +1,7 @@
 // The answer by blocks of 16 levels: where the window is monotone, the cumulative weight never falls, so that the first block whose end reaches half
 // has the answer. No cut point enters the search.
 ghost use Rattle.std.specs.Prelude.{◌≡◌, true, ◌+◌};
-ghost use Rattle.spec.specs.Base.{if◌then◌else◌};
+ghost use Rattle.std.specs.Prelude.{if◌then◌else◌};
 ghost use Rattle.spec.specs.Walk.{shifts_to};
 ghost use Rattle.level_search.specs.Search.{ListsSearchable, Rising, FoundAt};
 ghost use Rattle.levels.specs.Answer.{Answerable};

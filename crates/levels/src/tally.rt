@@ -1,6 +1,6 @@
 // The count and the guide sum of the window's pixels below a level, carried over a move by the pixels that leave and enter.
 ghost use Rattle.std.specs.Prelude.{◌≡◌, true, ltb};
-ghost use Rattle.spec.specs.Base.{if◌then◌else◌};
+ghost use Rattle.std.specs.Prelude.{if◌then◌else◌};
 ghost use Rattle.pixels.specs.Pixels.{count_of, PixelsBelow};
 ghost use Rattle.levels.specs.ListTally.{ListTally, Carriable, CarriedBy};
 

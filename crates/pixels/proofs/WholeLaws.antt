@@ -14,7 +14,7 @@ use lib.Seq.{get_or-set_same, get_or-set_other, get_or-take, length-take-le}
 use borrow.Author.Tests.{eq-eqb, ne_eqb}
 use Rattle.ints.specs.Order.{eq-or-ne}
 use Rattle.spec.specs.declared.Plan.{Plan}
-use Rattle.spec.specs.Base.{if◌then◌else◌}
+use Rattle.std.specs.Prelude.{if◌then◌else◌}
 use Rattle.spec.specs.Frame.{no_reading, value_of, pixel_guide}
 use Rattle.spec.specs.Checks.{Pictured}
 use Rattle.spec.proofs.Ranges.{AdditionLaws, nat_sums, int_sums, fold-none, fold_same}

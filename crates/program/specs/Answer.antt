@@ -1,8 +1,7 @@
 -- What the program makes of a file that no check refuses: its filtered plane and shift counts, and how long its text is.
 -- Assumes nothing.
-use Rattle.std.specs.Prelude.{ℕ, ◌≡◌, ◌⊎◌, List, [], ◌++◌, eqb, length, drop}
+use Rattle.std.specs.Prelude.{ℕ, ◌≡◌, ◌⊎◌, List, [], ◌++◌, eqb, length, drop, if◌then◌else◌}
 use Rattle.spec.specs.declared.Plan.{Plan}
-use Rattle.spec.specs.Base.{if◌then◌else◌}
 use Rattle.spec.specs.Frame.{frame_of, pixels}
 use Rattle.spec.specs.Filter.{filtered, filter_end}
 use Rattle.spec.specs.Calls.{way_of}

@@ -14,7 +14,8 @@ use lib.ListN.{length, get_or, take, set, replicate, length-set, length-replicat
 use lib.Seq.{get_or-set_same, get_or-set_other, take-suc, take_all}
 use borrow.Author.Tests.{lt-ltb, le-ltb, ltb-true}
 use Rattle.spec.specs.declared.Round.{Round}
-use Rattle.spec.specs.Base.{if◌then◌else◌, first}
+use Rattle.std.specs.Prelude.{if◌then◌else◌}
+use Rattle.spec.specs.Base.{first}
 use Rattle.spec.specs.Schedule.{opening, unfinished, looked, passed_over, serve, grant, grants, periods}
 use Rattle.spec.specs.Cameras.{total}
 use Rattle.spec.proofs.First.{First, first-is, first-unique}

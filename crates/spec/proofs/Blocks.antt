@@ -11,7 +11,8 @@ use lib.IntN.{ℤ, pos, ◌+ℤ◌, ◌*ℤ◌, +ℤ_idl, +ℤ_idr}
 use lib.Signed.{le_z}
 use borrow.Author.Tests.{eq-eqb, ne_eqb, le-leb, lt-leb}
 use Rattle.ints.specs.Order.{≤_trans}
-use Rattle.spec.specs.Base.{if◌then◌else◌, fold, sumℤ}
+use Rattle.std.specs.Prelude.{if◌then◌else◌}
+use Rattle.spec.specs.Base.{fold, sumℤ}
 use Rattle.spec.specs.Frame.{Frame, level, guide}
 use Rattle.spec.specs.Weight.{weight, monotone}
 use Rattle.spec.specs.Median.{total_weight, cumulative, median}

@@ -10,7 +10,8 @@ use lib.IntN.{ℤ, pos, negsuc, nat_abs, ◌-ℤ◌, ◌*ℤ◌}
 use Rattle.ints.specs.Order.{add_parts, diff-parts, pos_part-neg, neg_part-neg, <-to-≤}
 use Rattle.ints.specs.Linear.{ints}
 use Rattle.ints.specs.Bound.{abs-add-le, abs-sub-le, abs-mul-le, abs-mul, abs-le, abs-le-nonneg}
-use Rattle.spec.specs.Base.{if◌then◌else◌, indicator, distance}
+use Rattle.std.specs.Prelude.{if◌then◌else◌}
+use Rattle.spec.specs.Base.{indicator, distance}
 use Rattle.spec.specs.declared.Settings.{Settings}
 use Rattle.spec.specs.Frame.{Frame, level, guide, table, heaviest}
 use Rattle.spec.specs.Window.{span, Σ, Σℤ, pixel_count, guide_sum, square_sum, in_cell, count, InWindow}

@@ -11,7 +11,7 @@ use borrow.Author.Tests.{ltb-true, ltb-false, eqb-true, not-false}
 use Rattle.spec.specs.declared.Settings.{Settings}
 use Rattle.spec.specs.declared.Room.{Room}
 use Rattle.spec.specs.declared.Way.TheVariants.{Joint, Columns, Chain, Coarse}
-use Rattle.spec.specs.Base.{if◌then◌else◌}
+use Rattle.std.specs.Prelude.{if◌then◌else◌}
 use Rattle.spec.specs.Refusal.{accepted, ◌▷◌, refuse}
 use Rattle.spec.specs.Frame.{Frame, pixels, settings_of, frame_of}
 use Rattle.spec.specs.Checks.{outside, verdict}

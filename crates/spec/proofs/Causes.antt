@@ -12,7 +12,7 @@ use lib.Signed.{◌≤ℤ◌, ◌<ℤ◌, non_neg, clash_ℤ}
 use Rattle.ints.specs.Order.{add_parts, diff-parts, ≤-or->, mul-nonneg, square-nonneg, 0≤pos}
 use Rattle.ints.specs.Linear.{ints}
 use Rattle.ints.specs.Polynomial.{◌⊕◌, ◌⊖◌, ◌⊗◌, #◌, ◌≐◌, solve4, solve5}
-use Rattle.spec.specs.Base.{if◌then◌else◌}
+use Rattle.std.specs.Prelude.{if◌then◌else◌}
 use Rattle.spec.specs.declared.Settings.{Settings}
 use Rattle.spec.specs.declared.Cause.{Cause}
 use Rattle.spec.specs.declared.Cause.TheVariants.{Ordinary, Hollow, NegativeAtZero, NegativeAtLast, Empty}

@@ -12,7 +12,8 @@ use borrow.Author.Tests.{ltb-false, leb-false, le-leb, lt-leb, lt-ltb, le-ltb, e
 use Rattle.spec.specs.declared.Settings.{Settings}
 use Rattle.spec.specs.declared.Trailer.{Trailer}
 use Rattle.spec.specs.declared.Plan.{Plan}
-use Rattle.spec.specs.Base.{if◌then◌else◌, first}
+use Rattle.std.specs.Prelude.{if◌then◌else◌}
+use Rattle.spec.specs.Base.{first}
 use Rattle.spec.specs.Refusal.{Outcome, accepted, refused, ◌▷◌, refuse}
 use Rattle.spec.specs.Frame.{no_reading, trailer_at, settings_of, trailer_of, pixels, table_size, own_weights, plane, plan_of}
 use Rattle.spec.specs.Checks.{

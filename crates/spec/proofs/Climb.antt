@@ -11,7 +11,7 @@ use lib.Dec.{eqb}
 use lib.IntN.{ℤ, pos, ◌+ℤ◌, ◌*ℤ◌, +ℤ_idr, +ℤ_idl}
 use lib.Signed.{◌<ℤ◌, le_z, clash_ℤ}
 use borrow.Author.Tests.{eqb-true}
-use Rattle.spec.specs.Base.{if◌then◌else◌}
+use Rattle.std.specs.Prelude.{if◌then◌else◌}
 use Rattle.spec.specs.declared.Settings.{Settings}
 use Rattle.spec.specs.Frame.{Frame, guide}
 use Rattle.spec.specs.Median.{total_weight, cumulative, balance, median}

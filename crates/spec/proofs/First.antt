@@ -8,7 +8,8 @@ use Prim.Native.Nat.{ℕ, zero, suc, ◌+◌, ◌≤◌, ◌<◌}
 use native.Mathlib.Nat.{add-zero, zero-add, add-suc, suc-add, not-suc-le-zero, le_of_suc-le-suc}
 use native.Mathlib.Omega.{arith}
 use lib.ListN.{length, get_or}
-use Rattle.spec.specs.Base.{if◌then◌else◌, first, tabulate_from, tabulate}
+use Rattle.std.specs.Prelude.{if◌then◌else◌}
+use Rattle.spec.specs.Base.{first, tabulate_from, tabulate}
 
 -- first p n passes the test where it is below n, is at most n, and every number below it fails
 pub record First (p : ℕ → Bool) (n k : ℕ) : Type 0 where

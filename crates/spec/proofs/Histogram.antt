@@ -8,7 +8,8 @@ use native.Mathlib.Omega.{arith}
 use native.Mathlib.Decide.{ℕ_discrete}
 use lib.Dec.{eqb}
 use borrow.Author.Tests.{eq-eqb, ne_eqb}
-use Rattle.spec.specs.Base.{if◌then◌else◌, indicator, fold, fold_rect}
+use Rattle.std.specs.Prelude.{if◌then◌else◌}
+use Rattle.spec.specs.Base.{indicator, fold, fold_rect}
 use Rattle.spec.specs.Frame.{Frame, level, guide, dead}
 use Rattle.spec.specs.Window.{live, span, over, count, in_cell}
 use Rattle.spec.proofs.Ranges.{AdditionLaws, fold-none, fold_same, fold_rect-turn}

@@ -13,7 +13,8 @@ use borrow.Author.Tests.{ltb-false, eqb-true, not-false, eqb-false}
 use Rattle.spec.specs.declared.Settings.{Settings}
 use Rattle.spec.specs.declared.Trailer.{Trailer}
 use Rattle.spec.specs.declared.Plan.{Plan}
-use Rattle.spec.specs.Base.{if◌then◌else◌, distance}
+use Rattle.std.specs.Prelude.{if◌then◌else◌}
+use Rattle.spec.specs.Base.{distance}
 use Rattle.spec.specs.Bytes.{AllBytes, be16}
 use Rattle.spec.specs.Refusal.{accepted, ◌▷◌, refuse}
 use Rattle.spec.specs.Frame.{

@@ -13,7 +13,8 @@ use borrow.Author.Tests.{le-leb, lt-leb}
 use Rattle.ints.specs.Order.{add_parts, ≤_trans, <-to-≤}
 use Rattle.ints.specs.Linear.{ints}
 use Rattle.ints.specs.Polynomial.{◌⊕◌, ◌⊗◌, opposite, #◌, ◌≐◌, solve2}
-use Rattle.spec.specs.Base.{if◌then◌else◌, distance}
+use Rattle.std.specs.Prelude.{if◌then◌else◌}
+use Rattle.spec.specs.Base.{distance}
 use Rattle.spec.specs.declared.Settings.{Settings}
 use Rattle.spec.specs.Frame.{Frame, level, guide}
 use Rattle.spec.specs.Window.{pixel_count, empty}

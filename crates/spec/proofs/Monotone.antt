@@ -14,7 +14,8 @@ use borrow.Author.Tests.{eq-eqb, ne_eqb, le-leb, lt-leb}
 use Rattle.ints.specs.Order.{add_parts, ≤_trans, ≤-<-trans, +-mono, sub-mono, mul-nonneg, mul-mono-l, mul-cancel-≤, 0≤pos, pos-<, litℤ≤}
 use Rattle.ints.specs.Linear.{ints}
 use Rattle.ints.specs.Polynomial.{◌⊕◌, ◌⊖◌, ◌⊗◌, #◌, ◌≐◌, solve3, solve4}
-use Rattle.spec.specs.Base.{if◌then◌else◌, indicator}
+use Rattle.std.specs.Prelude.{if◌then◌else◌}
+use Rattle.spec.specs.Base.{indicator}
 use Rattle.spec.specs.declared.Settings.{Settings}
 use Rattle.spec.specs.Frame.{Frame, level, guide}
 use Rattle.spec.specs.Window.{pixel_count, in_cell, count, InWindow}

@@ -14,7 +14,7 @@ use Rattle.ints.specs.Order.{add_parts, ≤-or->, <-to-≤, ≤-of-eq, ≤-antis
 use Rattle.ints.specs.Linear.{ints}
 use Rattle.ints.specs.Ring.{mul-one}
 use Rattle.ints.specs.Polynomial.{◌⊕◌, ◌⊖◌, ◌⊗◌, opposite, #◌, ◌≐◌, solve3, solve4, solve5}
-use Rattle.spec.specs.Base.{if◌then◌else◌}
+use Rattle.std.specs.Prelude.{if◌then◌else◌}
 use Rattle.spec.specs.declared.Settings.{Settings}
 use Rattle.spec.specs.Frame.{Frame, level, dead, guide, table}
 use Rattle.spec.specs.Window.{Σ, Σℤ, pixel_count, empty, guide_sum, square_sum, InWindow}

@@ -9,7 +9,8 @@ use native.Mathlib.Omega.{arith}
 use lib.Dec.{leb, ltb}
 use borrow.Author.Tests.{ltb-true, ltb-false, leb-true, leb-false}
 use lib.IntN.{pos, ◌+ℤ◌, +ℤ_idl, +ℤ_idr, +ℤ_assoc, +ℤ_comm}
-use Rattle.spec.specs.Base.{if◌then◌else◌, fold, fold_rect}
+use Rattle.std.specs.Prelude.{if◌then◌else◌}
+use Rattle.spec.specs.Base.{fold, fold_rect}
 use Rattle.spec.specs.Frame.{Frame}
 use Rattle.spec.specs.Window.{span, live, over, in_column, in_row}
 

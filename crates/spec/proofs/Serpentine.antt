@@ -16,7 +16,7 @@ use Rattle.spec.specs.declared.Way.{Way}
 use Rattle.spec.specs.declared.Way.TheVariants.{Joint}
 use Rattle.spec.specs.declared.Move.{Move}
 use Rattle.spec.specs.declared.Move.TheVariants.{To, Nowhere}
-use Rattle.spec.specs.Base.{if◌then◌else◌}
+use Rattle.std.specs.Prelude.{if◌then◌else◌}
 use Rattle.spec.specs.Frame.{Frame, pixels}
 use Rattle.spec.specs.Median.{answer}
 use Rattle.spec.specs.Walk.{State, arrive, start, move, step, after, walk_end, walk_answers}

@@ -12,7 +12,8 @@ use Rattle.ints.specs.Ring.{mul-add}
 use Rattle.ints.specs.Order.{pos_part, neg_part, add_parts, +-mono, ≤_trans}
 use Rattle.ints.specs.Linear.{ints}
 use Rattle.ints.specs.Bound.{abs-add}
-use Rattle.spec.specs.Base.{if◌then◌else◌, fold, fold_rect, sum, sumℤ}
+use Rattle.std.specs.Prelude.{if◌then◌else◌}
+use Rattle.spec.specs.Base.{fold, fold_rect, sum, sumℤ}
 use Rattle.spec.specs.declared.Settings.{Settings}
 use Rattle.spec.specs.Frame.{Frame, dead}
 use Rattle.spec.specs.Window.{span, live, over, Σ, Σℤ, pixel_count, InWindow}

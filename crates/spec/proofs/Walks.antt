@@ -11,7 +11,8 @@ use lib.Dec.{ltb, eqb}
 use lib.ListN.{length, get_or, take}
 use lib.Seq.{take-suc, take-length}
 use borrow.Author.Tests.{ltb-true, eqb-true, eqb-false}
-use Rattle.spec.specs.Base.{if◌then◌else◌, fold, sum}
+use Rattle.std.specs.Prelude.{if◌then◌else◌}
+use Rattle.spec.specs.Base.{fold, sum}
 use Rattle.spec.specs.declared.Settings.{Settings}
 use Rattle.spec.specs.declared.Way.{Way}
 use Rattle.spec.specs.declared.Way.TheVariants.{Joint, Columns, Chain, Coarse}

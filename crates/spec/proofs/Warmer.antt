@@ -12,7 +12,8 @@ use lib.IntN.{ℤ, pos, ◌+ℤ◌, ◌*ℤ◌}
 use lib.Signed.{◌≤ℤ◌, le_z, ≤ℤ_refl}
 use borrow.Author.Tests.{le-leb, lt-leb}
 use Rattle.ints.specs.Order.{≤_trans, mul-mono-l, litℤ≤, 0≤pos}
-use Rattle.spec.specs.Base.{if◌then◌else◌, first, fold_rect}
+use Rattle.std.specs.Prelude.{if◌then◌else◌}
+use Rattle.spec.specs.Base.{first, fold_rect}
 use Rattle.spec.specs.declared.Settings.{Settings}
 use Rattle.spec.specs.Frame.{Frame, level, dead, guide, table, no_reading}
 use Rattle.spec.specs.Window.{span, live, over, Σℤ, pixel_count, empty, guide_sum, square_sum, InWindow}

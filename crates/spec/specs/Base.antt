@@ -1,13 +1,8 @@
--- Choices, sums over ranges and rectangles, the first number that passes a test, and lists made place by place.
+-- Choices by a test, sums over ranges and rectangles, the first number that passes a test, and lists made place by place.
 -- Assumes nothing.
-use Rattle.std.specs.Prelude.{ℕ, zero, suc, ◌+◌, ◌-◌, Bool, true, false, List, [], ◌∷◌, ℤ, pos, ◌+ℤ◌}
+use Rattle.std.specs.Prelude.{ℕ, zero, suc, ◌+◌, ◌-◌, Bool, true, false, List, [], ◌∷◌, ℤ, pos, ◌+ℤ◌, if◌then◌else◌}
 
 -- ---- choices
-infixr 2 if◌then◌else◌
-abbrev pub if◌then◌else◌ : {A : Type 0} → Bool → A → A → A
-if true then x else y = x
-if false then x else y = y
-
 -- 1 where the test passes, else 0
 abbrev pub indicator : Bool → ℕ
 indicator true = 1

@@ -1,11 +1,10 @@
 -- Which way a number names, how long its stores are and what they hold; and the outcomes of walk, filter, balance and explain.
 -- Assumes nothing.
-use Rattle.std.specs.Prelude.{ℕ, ◌+◌, ◌*◌, ◌≡◌, Bool, not, ◌&&◌, ◌||◌, List, [], ltb, eqb, take, replicate, ℤ, pos}
+use Rattle.std.specs.Prelude.{ℕ, ◌+◌, ◌*◌, ◌≡◌, Bool, not, ◌&&◌, ◌||◌, List, [], ltb, eqb, take, replicate, ℤ, pos, if◌then◌else◌}
 use Rattle.spec.specs.declared.Settings.{Settings}
 use Rattle.spec.specs.declared.Room.{Room}
 use Rattle.spec.specs.declared.Way.{Way}
 use Rattle.spec.specs.declared.Way.TheVariants.{Joint, Columns, Chain, Coarse}
-use Rattle.spec.specs.Base.{if◌then◌else◌}
 use Rattle.spec.specs.Refusal.{Outcome, ◌▷◌, refuse}
 use Rattle.spec.specs.Frame.{Frame, settings_of, pixels}
 use Rattle.spec.specs.Checks.{outside, verdict}

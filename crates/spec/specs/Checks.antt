@@ -1,10 +1,10 @@
 -- Checks 1 to 7, which every call on a file makes first.
 -- Assumes nothing.
-use Rattle.std.specs.Prelude.{◌⊎◌, ◌≡◌, ℕ, ◌+◌, ◌*◌, ◌≤◌, ◌<◌, Bool, true, false, not, ◌&&◌, ◌||◌, List, [], ◌∷◌, leb, ltb, eqb, length, get_or}
+use Rattle.std.specs.Prelude.{◌⊎◌, ◌≡◌, ℕ, ◌+◌, ◌*◌, ◌≤◌, ◌<◌, Bool, true, false, not, ◌&&◌, ◌||◌, List, [], ◌∷◌, leb, ltb, eqb, length, get_or, if◌then◌else◌}
 use Rattle.spec.specs.declared.Settings.{Settings}
 use Rattle.spec.specs.declared.Trailer.{Trailer}
 use Rattle.spec.specs.declared.Plan.{Plan}
-use Rattle.spec.specs.Base.{if◌then◌else◌, first}
+use Rattle.spec.specs.Base.{first}
 use Rattle.spec.specs.Bytes.{be32}
 use Rattle.spec.specs.Refusal.{Outcome, accepted, refused, ◌▷◌, refuse}
 use Rattle.spec.specs.Frame.{no_reading, trailer_at, settings_of, trailer_of, pixels, table_size, plane, plan_of, pixel_level}

@@ -1,10 +1,10 @@
 -- Way 4, coarse (document 02): the joint histogram and its occupancy words (Joint), and beside them the summary, the window's weight sums over blocks
 -- of 16 levels.
 -- Assumes nothing.
-use Rattle.std.specs.Prelude.{ℕ, suc, ◌+◌, ◌/◌, List, eqb, ℤ, pos, ◌*ℤ◌}
+use Rattle.std.specs.Prelude.{ℕ, suc, ◌+◌, ◌/◌, List, eqb, ℤ, pos, ◌*ℤ◌, if◌then◌else◌}
 use Rattle.std.specs.Int.Signed.{le_z}
 use Rattle.spec.specs.declared.Settings.{Settings}
-use Rattle.spec.specs.Base.{if◌then◌else◌, first, sumℤ, tabulate}
+use Rattle.spec.specs.Base.{first, sumℤ, tabulate}
 use Rattle.spec.specs.Frame.{Frame, level, guide}
 use Rattle.spec.specs.Window.{Σℤ}
 use Rattle.spec.specs.Weight.{weight}

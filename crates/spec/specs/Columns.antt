@@ -1,8 +1,8 @@
 -- Way 2, columns: per column and level a count and a guide sum over the window's rows; then the window's own.
 -- Assumes nothing.
-use Rattle.std.specs.Prelude.{ℕ, ◌+◌, ◌*◌, ◌/◌, ◌%◌, List, ◌++◌, eqb}
+use Rattle.std.specs.Prelude.{ℕ, ◌+◌, ◌*◌, ◌/◌, ◌%◌, List, ◌++◌, eqb, if◌then◌else◌}
 use Rattle.spec.specs.declared.Settings.{Settings}
-use Rattle.spec.specs.Base.{if◌then◌else◌, tabulate}
+use Rattle.spec.specs.Base.{tabulate}
 use Rattle.spec.specs.Frame.{Frame, level, guide}
 use Rattle.spec.specs.Window.{in_column, level_sum}
 

@@ -1,12 +1,11 @@
 -- Why a window has its level (document 02): what the levels below the answer weigh, and one cause.
 -- Assumes nothing.
-use Rattle.std.specs.Prelude.{ℕ, zero, suc, ◌-◌, ◌≡◌, true, false, ℤ, pos, ◌<ℤ◌}
+use Rattle.std.specs.Prelude.{ℕ, zero, suc, ◌-◌, ◌≡◌, true, false, ℤ, pos, ◌<ℤ◌, if◌then◌else◌}
 use Rattle.std.specs.Int.Signed.{non_neg}
 use Rattle.spec.specs.declared.Settings.{Settings}
 use Rattle.spec.specs.declared.Grounds.{Grounds}
 use Rattle.spec.specs.declared.Cause.{Cause}
 use Rattle.spec.specs.declared.Cause.TheVariants.{Ordinary, Hollow, NegativeAtZero, NegativeAtLast, Empty}
-use Rattle.spec.specs.Base.{if◌then◌else◌}
 use Rattle.spec.specs.Frame.{Frame}
 use Rattle.spec.specs.Window.{pixel_count, empty}
 use Rattle.spec.specs.Weight.{own_weight, weightless, weight, monotone}

@@ -1,9 +1,9 @@
 -- The filter: its walk through the whole picture, and its plane of answers.
 -- Assumes nothing.
-use Rattle.std.specs.Prelude.{ℕ, ◌+◌, ◌-◌, ◌/◌, ◌%◌, List, eqb}
+use Rattle.std.specs.Prelude.{ℕ, ◌+◌, ◌-◌, ◌/◌, ◌%◌, List, eqb, if◌then◌else◌}
 use Rattle.spec.specs.declared.Settings.{Settings}
 use Rattle.spec.specs.declared.Way.{Way}
-use Rattle.spec.specs.Base.{if◌then◌else◌, tabulate}
+use Rattle.spec.specs.Base.{tabulate}
 use Rattle.spec.specs.Frame.{Frame, pixels}
 use Rattle.spec.specs.Median.{answer}
 use Rattle.spec.specs.Walk.{State, walk_end}

@@ -1,11 +1,11 @@
 -- The frame of a file: its trailer, its planes and its weights.
 -- Assumes nothing.
-use Rattle.std.specs.Prelude.{ℕ, ◌+◌, ◌-◌, ◌*◌, ◌/◌, Bool, List, [], ◌∷◌, eqb, length, get_or, take, drop}
+use Rattle.std.specs.Prelude.{ℕ, ◌+◌, ◌-◌, ◌*◌, ◌/◌, Bool, List, [], ◌∷◌, eqb, length, get_or, take, drop, if◌then◌else◌}
 use Rattle.spec.specs.declared.Settings.{Settings}
 use Rattle.spec.specs.declared.Trailer.{Trailer}
 use Rattle.spec.specs.declared.Plan.{Plan}
 use Rattle.spec.specs.declared.Guide.{Guide}
-use Rattle.spec.specs.Base.{if◌then◌else◌, distance}
+use Rattle.spec.specs.Base.{distance}
 use Rattle.spec.specs.Bytes.{be16, be32}
 
 -- a new record

@@ -1,8 +1,8 @@
 -- Way 1, joint: the joint histogram, its occupancy words, and the balance box, for the window at (s, t).
 -- Assumes nothing.
-use Rattle.std.specs.Prelude.{ℕ, ◌+◌, ◌*◌, ◌/◌, ◌%◌, ◌^◌, List, ltb, leb, eqb, ℤ, pos, negsuc}
+use Rattle.std.specs.Prelude.{ℕ, ◌+◌, ◌*◌, ◌/◌, ◌%◌, ◌^◌, List, ltb, leb, eqb, ℤ, pos, negsuc, if◌then◌else◌}
 use Rattle.spec.specs.declared.Settings.{Settings}
-use Rattle.spec.specs.Base.{if◌then◌else◌, indicator, sum, tabulate}
+use Rattle.spec.specs.Base.{indicator, sum, tabulate}
 use Rattle.spec.specs.Frame.{Frame, level, guide}
 use Rattle.spec.specs.Window.{Σℤ, count}
 

@@ -1,9 +1,9 @@
 -- The window's weight sum, its cumulative weights, its balance, its answer, and what the answer minimises.
 -- Assumes nothing.
-use Rattle.std.specs.Prelude.{ℕ, ◌<◌, ◌≡◌, ◌⊎◌, leb, ℤ, pos, ◌-ℤ◌, ◌*ℤ◌, ◌≤ℤ◌}
+use Rattle.std.specs.Prelude.{ℕ, ◌<◌, ◌≡◌, ◌⊎◌, leb, ℤ, pos, ◌-ℤ◌, ◌*ℤ◌, ◌≤ℤ◌, if◌then◌else◌}
 use Rattle.std.specs.Int.Signed.{le_z}
 use Rattle.spec.specs.declared.Settings.{Settings}
-use Rattle.spec.specs.Base.{if◌then◌else◌, distance, first}
+use Rattle.spec.specs.Base.{distance, first}
 use Rattle.spec.specs.Frame.{Frame, level, guide, no_reading}
 use Rattle.spec.specs.Window.{Σℤ, InWindow, empty}
 use Rattle.spec.specs.Weight.{own_weight, weight}

@@ -1,9 +1,8 @@
 -- What the program icemedian writes for the bytes that it read.
 -- Assumes nothing.
-use Rattle.std.specs.Prelude.{ℕ, zero, suc, ◌+◌, ◌-◌, ◌/◌, ◌%◌, Bool, ◌||◌, List, [], ◌∷◌, ◌++◌, ltb, eqb, length}
+use Rattle.std.specs.Prelude.{ℕ, zero, suc, ◌+◌, ◌-◌, ◌/◌, ◌%◌, Bool, ◌||◌, List, [], ◌∷◌, ◌++◌, ltb, eqb, length, if◌then◌else◌}
 use Rattle.spec.specs.declared.Settings.{Settings}
 use Rattle.spec.specs.declared.Way.TheVariants.{Joint, Coarse}
-use Rattle.spec.specs.Base.{if◌then◌else◌}
 use Rattle.spec.specs.Refusal.{Outcome, accepted, refused, ◌▷◌, refuse}
 use Rattle.spec.specs.Frame.{Frame, settings_of, frame_of}
 use Rattle.spec.specs.Checks.{verdict}

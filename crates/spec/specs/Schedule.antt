@@ -1,8 +1,8 @@
 -- Document 02, ask 9: whose turn it is where up to eight frames share the grants of control periods. A grant answers one pixel.
 -- Assumes nothing.
-use Rattle.std.specs.Prelude.{ℕ, zero, suc, ◌+◌, ◌%◌, Bool, List, [], ◌∷◌, ◌++◌, ltb, get_or, set, replicate}
+use Rattle.std.specs.Prelude.{ℕ, zero, suc, ◌+◌, ◌%◌, Bool, List, [], ◌∷◌, ◌++◌, ltb, get_or, set, replicate, if◌then◌else◌}
 use Rattle.spec.specs.declared.Round.{Round}
-use Rattle.spec.specs.Base.{if◌then◌else◌, first}
+use Rattle.spec.specs.Base.{first}
 
 -- There are eight files; where a call has fewer, the others have no pixels, and so are finished from the start.
 

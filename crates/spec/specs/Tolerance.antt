@@ -1,10 +1,10 @@
 -- Document 02, ask 7: levels known within a tolerance. A second value plane has each reading's upper level; which frames lie between the two, what is
 -- the least and the greatest answer over all of them, and the outcome of the call that gives both.
 -- Assumes nothing.
-use Rattle.std.specs.Prelude.{ℕ, ◌≤◌, ◌<◌, ◌/◌, ◌%◌, ◌≡◌, Bool, true, not, ◌||◌, List, leb, ltb, eqb, length, get_or}
+use Rattle.std.specs.Prelude.{ℕ, ◌≤◌, ◌<◌, ◌/◌, ◌%◌, ◌≡◌, Bool, true, not, ◌||◌, List, leb, ltb, eqb, length, get_or, if◌then◌else◌}
 use Rattle.spec.specs.declared.Settings.{Settings}
 use Rattle.spec.specs.declared.Room.{Room}
-use Rattle.spec.specs.Base.{if◌then◌else◌, first, tabulate}
+use Rattle.spec.specs.Base.{first, tabulate}
 use Rattle.spec.specs.Refusal.{Outcome, ◌▷◌, refuse}
 use Rattle.spec.specs.Frame.{Frame, level, no_reading, pixels, with_values, settings_of, pixel_level}
 use Rattle.spec.specs.Checks.{verdict}

@@ -1,13 +1,13 @@
 -- The walk: its moves, its answers, its cut point and its shift count.
 -- Assumes nothing.
-use Rattle.std.specs.Prelude.{ℕ, ◌+◌, ◌-◌, ◌/◌, ◌%◌, Bool, true, false, List, [], ◌∷◌, ltb, eqb, get_or, take}
+use Rattle.std.specs.Prelude.{ℕ, ◌+◌, ◌-◌, ◌/◌, ◌%◌, Bool, true, false, List, [], ◌∷◌, ltb, eqb, get_or, take, if◌then◌else◌}
 use Rattle.spec.specs.declared.Settings.{Settings}
 use Rattle.spec.specs.declared.Answer.{Answer}
 use Rattle.spec.specs.declared.Way.{Way}
 use Rattle.spec.specs.declared.Way.TheVariants.{Joint, Columns, Chain, Coarse}
 use Rattle.spec.specs.declared.Move.{Move}
 use Rattle.spec.specs.declared.Move.TheVariants.{To, Nowhere}
-use Rattle.spec.specs.Base.{if◌then◌else◌, distance}
+use Rattle.spec.specs.Base.{distance}
 use Rattle.spec.specs.Frame.{Frame, no_reading}
 use Rattle.spec.specs.Window.{empty}
 use Rattle.spec.specs.Weight.{monotone}

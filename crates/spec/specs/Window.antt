@@ -1,8 +1,8 @@
 -- The window: the picture's pixels with a reading at most r columns and r rows away from its centre, in column s and row t; and its sums.
 -- Assumes nothing.
-use Rattle.std.specs.Prelude.{ℕ, ◌+◌, ◌-◌, ◌*◌, min, ◌≤◌, ◌<◌, ◌≡◌, Bool, false, ◌&&◌, eqb, ℤ, pos, ◌+ℤ◌}
+use Rattle.std.specs.Prelude.{ℕ, ◌+◌, ◌-◌, ◌*◌, min, ◌≤◌, ◌<◌, ◌≡◌, Bool, false, ◌&&◌, eqb, ℤ, pos, ◌+ℤ◌, if◌then◌else◌}
 use Rattle.spec.specs.declared.Settings.{Settings}
-use Rattle.spec.specs.Base.{if◌then◌else◌, indicator, fold, fold_rect}
+use Rattle.spec.specs.Base.{indicator, fold, fold_rect}
 use Rattle.spec.specs.Frame.{Frame, level, dead, guide}
 
 -- how many of the numbers below size are at most r away from c: they begin at c − r, or at 0

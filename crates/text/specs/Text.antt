@@ -1,8 +1,7 @@
 -- What a function that puts text into a lent buffer promises, and the texts that are put piece by piece.
 -- Assumes nothing.
-use Rattle.std.specs.Prelude.{ℕ, zero, suc, ◌+◌, ◌-◌, ◌*◌, ◌≤◌, ◌≡◌, List, [], ◌∷◌, ◌++◌, eqb, length, get_or}
+use Rattle.std.specs.Prelude.{ℕ, zero, suc, ◌+◌, ◌-◌, ◌*◌, ◌≤◌, ◌≡◌, List, [], ◌∷◌, ◌++◌, eqb, length, get_or, if◌then◌else◌}
 use Rattle.std.proofs.lemmas.List.Edits.{sets}
-use Rattle.spec.specs.Base.{if◌then◌else◌}
 use Rattle.spec.specs.Program.{decimal, spaced, line, refused_word, beside}
 
 -- a buffer l has room for a text from a place on

@@ -19,7 +19,7 @@ use Rattle.ints.specs.Bound.{abs-add}
 use Rattle.ints.specs.Order.{eq-or-ne}
 use Rattle.ints.specs.Machine.{read-bounded}
 use Rattle.spec.specs.declared.Plan.{Plan}
-use Rattle.spec.specs.Base.{if◌then◌else◌}
+use Rattle.std.specs.Prelude.{if◌then◌else◌}
 use Rattle.spec.specs.Frame.{Frame, frame_of}
 use Rattle.spec.specs.Window.{span, empty}
 use Rattle.spec.specs.Weight.{weight}

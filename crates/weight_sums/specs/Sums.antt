@@ -1,7 +1,6 @@
 -- A window's weight sums over blocks of so many levels, pixel by pixel; a block of one level is that level.
 -- Assumes nothing.
-use Rattle.std.specs.Prelude.{◌≡◌, List, ℕ, ◌/◌, ◌≤◌, ◌<◌, eqb, length, get_or, ℤ, pos, nat_abs, ◌+ℤ◌}
-use Rattle.spec.specs.Base.{if◌then◌else◌}
+use Rattle.std.specs.Prelude.{◌≡◌, List, ℕ, ◌/◌, ◌≤◌, ◌<◌, eqb, length, get_or, ℤ, pos, nat_abs, ◌+ℤ◌, if◌then◌else◌}
 use Rattle.spec.specs.Frame.{Frame, level, guide}
 use Rattle.spec.specs.Window.{Σℤ}
 use Rattle.spec.specs.Weight.{weightless, weight}

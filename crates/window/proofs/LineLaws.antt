@@ -11,7 +11,8 @@ use native.Mathlib.Omega.{arith}
 use lib.Dec.{leb, ltb}
 use borrow.Author.Tests.{ltb-true}
 use Rattle.spec.specs.declared.Plan.{Plan}
-use Rattle.spec.specs.Base.{if◌then◌else◌, fold, fold_rect}
+use Rattle.std.specs.Prelude.{if◌then◌else◌}
+use Rattle.spec.specs.Base.{fold, fold_rect}
 use Rattle.spec.specs.Frame.{level, guide, pixel_guide, frame_with, value_of}
 use Rattle.spec.specs.Checks.{Pictured}
 use Rattle.spec.specs.Window.{span, live, over, in_column, in_row}

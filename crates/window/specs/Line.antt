@@ -1,8 +1,8 @@
 -- Lines of pixels: a column or a row of a window, and what a window loses and gains as its centre moves by one pixel.
 -- Assumes nothing.
-use Rattle.std.specs.Prelude.{◌≡◌, Bool, List, ℕ, ◌+◌, ◌-◌, ◌*◌, ◌≤◌, ◌<◌, leb, ltb, eqb}
+use Rattle.std.specs.Prelude.{◌≡◌, Bool, List, ℕ, ◌+◌, ◌-◌, ◌*◌, ◌≤◌, ◌<◌, leb, ltb, eqb, if◌then◌else◌}
 use Rattle.spec.specs.declared.Plan.{Plan}
-use Rattle.spec.specs.Base.{if◌then◌else◌, fold}
+use Rattle.spec.specs.Base.{fold}
 use Rattle.spec.specs.Frame.{no_reading, pixel_guide, value_of}
 use Rattle.spec.specs.Window.{span}
 use Rattle.window.specs.declared.line.Line.{Line}

@@ -7,8 +7,8 @@ use Rattle.ice_step.proofs.finish.Goals as goal
 pub fill-requires : goal.fill-requires
 fill-requires c =
     let on = c.requires.planned.1 in record {
-      pictured = (c.requires.planned.0, on.column, on.row);
-      filled = blocks-fit c.args.way (sym c.by_blocks.ensures ∙ c.if-by_blocks.true) c.requires.planned.0 _ c.requires.plan_in_bounds;
+      planned = (c.requires.planned.0, on.column, on.row);
+      file_in_bounds = blocks-fit c.args.way (sym c.by_blocks.ensures ∙ c.if-by_blocks.true) c.requires.planned.0 _ c.requires.plan_in_bounds;
     }
 
 pub returns-then-by_blocks : goal.returns-then-by_blocks

@@ -17,15 +17,14 @@ enum-known-m c = search rules
 
 slide-requires : tie.Need-slide-requires
 slide-requires c κs =
-    let at = c.before.before.before.before.before.before.before.before.before.before.before.before.before.before in
-    let to = c.before.before.before.before.before.before in
+    let at = c.before.before.before.before.before.before.before.before.before.before.before.before.before in
     let on = at.requires.1.0 in (
       at.requires.0,
       (
         on,
         (
           move-adjacent _ _ _ _ _ _ on.column on.row
-              (sym to.next-m.ensures ∙ to.in-To.is),
+              (sym c.next-m.ensures ∙ c.in-To.is),
           (at.requires.1.1.0, at.requires.1.1.1),
         ),
       ),
@@ -45,7 +44,7 @@ same-length-3 c = search rules
 
 returns : tie.Need-returns-in-To
 returns c =
-    let at = c.before.before.before.before.before.before.before.before.before.before.before.before.before.before.before.before.before.before.before.before.before in
+    let at = c.before.before.before.before.before.before.before.before.before.before.before.before.before.before.before.before.before.before.before.before in
     visited-moves _ at.requires.0.0 at.args.visit _ _ _ _ _ _ _ _
     (sym
     c.next-m.ensures ∙
@@ -54,11 +53,11 @@ returns c =
 
 returns-2 : tie.Need-returns-in-Nowhere
 returns-2 c =
-    let at = c.before.before.before.before.before.before.before.before.before.before.before in
+    let at = c.before.before.before.before.before.before.before.before.before.before in
     let h = at.requires.1.1.1 in
     visited-stays _ at.requires.0.0 at.args.visit _ _ _ _ _ _
     (sym c.next-m.ensures ∙ c.in-Nowhere.is)
-    (record { holds = h.holds; balance-box = h.balance_box; carried = h.carried }) refl
+    (record { holds = h.holds; balance-box = h.balance-box; carried = h.carried }) refl
 
 pub step_spec : {M : Type 1} → statement M
 step_spec = tie.close (tie.spec next-requires enum-known-m slide-requires enum-known-m-2 same_length same-length-2 same-length-3 returns returns-2)

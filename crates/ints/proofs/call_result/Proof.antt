@@ -6,7 +6,8 @@ use lib.IntN.{pos}
 use borrow.Author.Rules.{rules}
 use mir.Syntax.{w64}
 use Rattle.ints.specs.Polynomial.{◌⊗◌, #◌, x₀ as x}
-use Rattle.ints.specs.Machine.{Cell, result_cell, need, computes}
+use Rattle.ints.specs.Machine.{Cell, result_cell}
+use Rattle.ints.proofs.Machine.{need, computes}
 use Rattle.ints.proofs.call_result.Statement.{statement}
 use Rattle.ints.proofs.call_result.Tie as tie
 

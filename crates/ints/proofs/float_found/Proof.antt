@@ -4,7 +4,8 @@ use mathlib.Core.List.{List, [], ◌∷◌}
 use lib.Ieee.{binary64}
 use mir.Syntax.{w64}
 use Rattle.ints.specs.Float.{FloatCell, signed_float, float-need}
-use Rattle.ints.specs.Auto.{quote, float_code, rep! }
+use Rattle.ints.specs.Auto.{quote, float_code}
+use Rattle.ints.proofs.Auto.{rep! }
 use Rattle.ints.proofs.float_found.Statement.{statement}
 use Rattle.ints.proofs.float_found.Tie as tie
 

@@ -9,7 +9,8 @@ use lib.ListN.{length, get_or}
 use lib.Ieee.{binary64}
 use Rattle.ints.specs.Polynomial.{◌⊕◌, x₀ as acc, x₁ as x}
 use Rattle.ints.specs.Sum.{Σ, Σ-zero, Σ-more, Σ-abs}
-use Rattle.ints.specs.Float.{FloatOf, FloatCell, known_float, unsigned_float, rep-computed, rep_at, rep_zero}
+use Rattle.ints.specs.Float.{FloatOf, FloatCell, known_float, unsigned_float, rep_at, rep_zero}
+use Rattle.ints.proofs.Float.{rep-computed}
 use Rattle.ints.proofs.float_loop.Statement.{statement}
 use Rattle.ints.proofs.float_loop.Tie as tie
 
@@ -20,7 +21,7 @@ abbrev invariant-loop : tie.invariant-loop-i
 invariant-loop a acc₀ i₀ acc i = (i ≤ length a) × FloatOf binary64 acc (total a i)
 
 abbrev decreases-loop : tie.decreases-loop-i
-decreases-loop a acc₀ i₀ acc i = length a - i
+decreases-loop a acc₀ i₀ _ i = length a - i
 
 -- the place in the loop's body after the element is known, and what is known there
 abbrev Body : Type 0

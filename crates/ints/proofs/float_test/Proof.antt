@@ -8,7 +8,8 @@ use lib.Ieee.{binary64, of_bits}
 use mir.Syntax.{w64}
 use Rattle.ints.specs.Polynomial.{◌⊗◌, x₀ as two, x₁ as u, x₂ as t}
 use Rattle.ints.specs.Machine.{lt-true, lt-false}
-use Rattle.ints.specs.Float.{FloatCell, signed_float, known_float, float-need, lt-computed, rep-two}
+use Rattle.ints.specs.Float.{FloatCell, signed_float, known_float, float-need, rep-two}
+use Rattle.ints.proofs.Float.{lt-computed}
 use Rattle.ints.proofs.float_test.Statement.{statement}
 use Rattle.ints.proofs.float_test.Tie as tie
 

@@ -2,7 +2,8 @@
 use mathlib.Core.List.{List, [], ◌∷◌}
 use mir.Syntax.{w64}
 use Rattle.ints.specs.Polynomial.{◌⊕◌, ◌⊖◌, ◌⊗◌, x₀ as n, x₁ as q, x₂ as s, x₃ as e}
-use Rattle.ints.specs.Machine.{Cell, param_cell, need, computes}
+use Rattle.ints.specs.Machine.{Cell, param_cell}
+use Rattle.ints.proofs.Machine.{need, computes}
 use Rattle.ints.proofs.signed_by_hand.Statement.{statement}
 use Rattle.ints.proofs.signed_by_hand.Tie as tie
 

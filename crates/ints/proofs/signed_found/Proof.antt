@@ -2,9 +2,11 @@
 use mathlib.Core.Path.{refl}
 use mathlib.Core.List.{List, [], ◌∷◌}
 use mir.Syntax.{w64}
-use Rattle.ints.specs.Machine.{Cell, param_cell, let_cell}
+use Rattle.ints.specs.Machine.{Cell, param_cell}
+use Rattle.ints.proofs.Machine.{let_cell}
 use Rattle.ints.specs.Polynomial.{◌⊖◌, ◌⊗◌, x₁, x₂, x₃}
-use Rattle.ints.specs.Auto.{quote, signed_code, need!, computes! }
+use Rattle.ints.specs.Auto.{quote, signed_code}
+use Rattle.ints.proofs.Auto.{need!, computes! }
 use Rattle.ints.proofs.signed_found.Statement.{statement}
 use Rattle.ints.proofs.signed_found.Tie as tie
 

@@ -9,8 +9,10 @@ use lib.ListN.{length, get_or}
 use mir.Syntax.{w64}
 use mir.Val.{to_z}
 use Rattle.ints.specs.Polynomial.{◌⊕◌, ◌⊖◌, ◌⊗◌, x₀ as n, x₁ as x, x₂ as s, x₃ as acc}
-use Rattle.ints.specs.Bound.{eval-within, sfits_pos}
-use Rattle.ints.specs.Machine.{Cell, read_back, param_cell, unsigned_cell, local_cell, read, need, computes}
+use Rattle.ints.specs.Bound.{sfits_pos}
+use Rattle.ints.proofs.Bound.{eval-within}
+use Rattle.ints.specs.Machine.{Cell, read_back, param_cell, unsigned_cell, local_cell, read}
+use Rattle.ints.proofs.Machine.{need, computes}
 use Rattle.ints.specs.Sum.{Σ, Σ-zero, Σ-more, Σ-abs}
 use Rattle.ints.proofs.signed_loop.Statement.{statement}
 use Rattle.ints.proofs.signed_loop.Tie as tie
@@ -23,7 +25,7 @@ abbrev invariant-loop : tie.invariant-loop-i
 invariant-loop a n s acc₀ i₀ acc i = (i ≤ length a) × (to_z w64 acc ≡ Σ i (term a (to_z w64 n) (to_z w64 s)))
 
 abbrev decreases-loop : tie.decreases-loop-i
-decreases-loop a n s acc₀ i₀ acc i = length a - i
+decreases-loop a n s acc₀ i₀ _ i = length a - i
 
 abbrev Start : Type 0
 Start = tie.Start invariant-loop decreases-loop

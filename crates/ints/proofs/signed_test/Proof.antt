@@ -4,7 +4,8 @@ use lib.Signed.{clash_ℤ}
 use mir.Syntax.{w64}
 use Rattle.ints.specs.Polynomial.{◌⊕◌, ◌⊖◌, ◌⊗◌, #◌, x₀ as u, x₁ as t, x₂ as w}
 use Rattle.ints.specs.Bound.{abs-le-nonneg}
-use Rattle.ints.specs.Machine.{Cell, param_cell, need, computes, le-true, le-false}
+use Rattle.ints.specs.Machine.{Cell, param_cell, le-true, le-false}
+use Rattle.ints.proofs.Machine.{need, computes}
 use Rattle.ints.proofs.signed_test.Statement.{statement}
 use Rattle.ints.proofs.signed_test.Tie as tie
 

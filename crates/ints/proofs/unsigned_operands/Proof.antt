@@ -4,7 +4,8 @@ use mathlib.Core.List.{List, [], ◌∷◌}
 use mir.Syntax.{w64}
 use borrow.Author.Rules.{rules}
 use Rattle.ints.specs.Machine.{Cell, unsigned_cell}
-use Rattle.ints.specs.Auto.{quote, signed_code, need!, computes! }
+use Rattle.ints.specs.Auto.{quote, signed_code}
+use Rattle.ints.proofs.Auto.{need!, computes! }
 use Rattle.ints.proofs.unsigned_operands.Statement.{statement}
 use Rattle.ints.proofs.unsigned_operands.Tie as tie
 

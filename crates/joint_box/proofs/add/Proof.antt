@@ -3,7 +3,8 @@ use mathlib.Core.Path.{refl}
 use mathlib.Core.List.{List, [], ◌∷◌}
 use mir.Syntax.{w32}
 use Rattle.ints.specs.Machine.{Cell, param_cell}
-use Rattle.ints.specs.Auto.{quote, signed_code, need!, computes! }
+use Rattle.ints.specs.Auto.{quote, signed_code}
+use Rattle.ints.proofs.Auto.{need!, computes!}
 use Rattle.joint_box.proofs.add.Statement.{statement}
 use Rattle.joint_box.proofs.add.Tie as tie
 

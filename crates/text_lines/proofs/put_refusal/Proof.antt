@@ -5,7 +5,7 @@ use mathlib.Core.List.{[], ◌∷◌, ◌++◌}
 use lib.Dec.{eqb}
 use lib.ListN.{length-append}
 use native.Mathlib.Omega.{arith}
-use Rattle.spec.specs.Base.{if◌then◌else◌}
+use Rattle.std.specs.Prelude.{if◌then◌else◌}
 use Rattle.spec.specs.Program.{decimal, refused_word, beside}
 use Rattle.text.specs.Text.{TextRoom, refusal_text, spaced_one}
 use Rattle.text.proofs.Putting.{joined, called, room-first, room_next, room-line, room-second, room-end}

@@ -6,10 +6,12 @@ use native.Mathlib.Omega.{arith}
 use lib.IntN.{ℤ, nat_abs}
 use mir.Syntax.{w64}
 use Rattle.ints.specs.Order.{≤-of-eq, ≤_trans}
-use Rattle.ints.specs.Computation.{bounded}
-use Rattle.ints.specs.Machine.{Cell, param_cell, unsigned_cell, read_back, read-bounded, computes}
+use Rattle.ints.proofs.Computation.{bounded}
+use Rattle.ints.specs.Machine.{Cell, param_cell, unsigned_cell, read_back, read-bounded}
+use Rattle.ints.proofs.Machine.{computes}
 use Rattle.ints.specs.Polynomial.{◌⊕◌, ◌⊗◌, x₀, x₁, x₂}
-use Rattle.ints.specs.Auto.{signed_code, need! }
+use Rattle.ints.specs.Auto.{signed_code}
+use Rattle.ints.proofs.Auto.{need!}
 use borrow.Author.Rules.{rules}
 use Rattle.level_search.specs.Block.{EndsBelow}
 use Rattle.level_search.proofs.block.heaviest.Statement.{statement}

@@ -1,0 +1,5 @@
+pub mod Bound
+pub mod Computation
+pub mod Machine
+pub mod Float
+pub mod Auto
