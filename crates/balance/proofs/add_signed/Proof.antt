@@ -5,7 +5,7 @@ use native.Mathlib.Omega.{arith}
 use mir.Syntax.{w64}
 use Rattle.ints.specs.Machine.{Cell, param_cell}
 use Rattle.ints.specs.Auto.{quote, signed_code}
-use Rattle.ints.proofs.Auto.{need!, computes!}
+use Rattle.ints.proofs.Auto.{need!, computes! }
 use Rattle.balance.proofs.BalanceLaws.{signed_up, signed-down}
 use Rattle.balance.proofs.add_signed.Statement.{statement}
 use Rattle.balance.proofs.add_signed.Tie as tie

@@ -4,7 +4,7 @@ use mathlib.Core.List.{List, [], ◌∷◌}
 use mir.Syntax.{w16}
 use Rattle.ints.specs.Machine.{Cell, param_cell}
 use Rattle.ints.specs.Auto.{quote, signed_code}
-use Rattle.ints.proofs.Auto.{need!, computes!}
+use Rattle.ints.proofs.Auto.{need!, computes! }
 use Rattle.joint_box.proofs.add_cell.Statement.{statement}
 use Rattle.joint_box.proofs.add_cell.Tie as tie
 

@@ -9,7 +9,7 @@ use mir.Val.{SFits, to_z, of_z}
 use Rattle.ints.specs.Bound.{sfits_pos}
 use Rattle.ints.specs.Machine.{Cell, unsigned_cell, read}
 use Rattle.ints.specs.Auto.{quote, signed_code}
-use Rattle.ints.proofs.Auto.{need!, computes!}
+use Rattle.ints.proofs.Auto.{need!, computes! }
 use Rattle.joint_box.specs.Products.{centred}
 use Rattle.joint_box.proofs.BoxLaws.{centred-fits}
 use Rattle.joint_box.proofs.centred.Statement.{statement}

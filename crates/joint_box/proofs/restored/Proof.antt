@@ -5,7 +5,7 @@ use lib.IntN.{ℤ, pos, ◌+ℤ◌, ◌*ℤ◌}
 use mir.Syntax.{w32}
 use Rattle.ints.specs.Machine.{Cell, param_cell, read_back}
 use Rattle.ints.specs.Auto.{quote, signed_code}
-use Rattle.ints.proofs.Auto.{need!, computes!}
+use Rattle.ints.proofs.Auto.{need!, computes! }
 use Rattle.joint_box.proofs.restored.Statement.{statement}
 use Rattle.joint_box.proofs.restored.Tie as tie
 

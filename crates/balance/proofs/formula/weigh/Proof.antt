@@ -4,7 +4,7 @@ use mathlib.Core.List.{List, [], ◌∷◌}
 use mir.Syntax.{w64}
 use Rattle.ints.specs.Machine.{Cell, param_cell}
 use Rattle.ints.specs.Auto.{quote, signed_code}
-use Rattle.ints.proofs.Auto.{need!, computes!}
+use Rattle.ints.proofs.Auto.{need!, computes! }
 use Rattle.balance.proofs.formula.weigh.Statement.{statement}
 use Rattle.balance.proofs.formula.weigh.Tie as tie
 

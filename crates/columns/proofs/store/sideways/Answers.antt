@@ -10,7 +10,7 @@ overflow_mul-w c = omega (arith, c.requires.w_bound.0)
 pub update_block-requires : goal.update_block-requires
 update_block-requires c =
     let i = c.requires.w_bound.3 in record {
-  l_bound = (
+      l_bound = (
         c.requires.w_bound.1,
         omega (arith, c.requires.w_bound.0),
         omega (arith, i.entering_small),
@@ -18,9 +18,9 @@ update_block-requires c =
         (blocks-in c.args.w
             c.args.l _ c.requires.w_bound.2).0,
       );
-  more_lt_at = ((λ o. omega (arith, i.entering o)), λ o. omega (arith, i.leaving o));
-  block_ready = c.requires.side_ready.counts;
-}
+      more_lt_at = ((λ o. omega (arith, i.entering o)), λ o. omega (arith, i.leaving o));
+      block_ready = c.requires.side_ready.counts;
+    }
 
 pub overflow_mul-w-2 : goal.overflow_mul-w-2
 overflow_mul-w-2 c = omega (arith, c.requires.w_bound.0)
@@ -40,16 +40,16 @@ pub update_block-requires-2 : goal.update_block-requires-2
 update_block-requires-2 c =
     let i = c.requires.w_bound.3 in
     let e = c.update_block.ensures in record {
-  l_bound = (
+      l_bound = (
         c.requires.w_bound.1,
         omega (arith, c.requires.w_bound.0),
         omega (arith, c.requires.w_bound.0, i.entering_small, i.leaving_small),
         omega (arith, c.requires.w_bound.0, i.entering_small, i.leaving_small),
         rw e.len (blocks-in c.args.w c.args.l _ c.requires.w_bound.2).1,
       );
-  more_lt_at = ((λ o. omega (arith, i.entering o)), λ o. omega (arith, i.leaving o));
-  block_ready = ready-second c.args.w c.args.l _ _ _ _ e _ _ _ _ i.entering i.leaving c.requires.side_ready.guides;
-}
+      more_lt_at = ((λ o. omega (arith, i.entering o)), λ o. omega (arith, i.leaving o));
+      block_ready = ready-second c.args.w c.args.l _ _ _ _ e _ _ _ _ i.entering i.leaving c.requires.side_ready.guides;
+    }
 
 pub returns : goal.returns
 returns c =

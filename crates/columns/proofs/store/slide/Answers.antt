@@ -14,10 +14,10 @@ use Rattle.columns.proofs.store.slide.Goals as goal
 pub vertical-requires : goal.vertical-requires
 vertical-requires c = let k =
     along-is c.requires.adjacent c.if-s-s2.true in record {
-  planned = c.requires.planned;
-  s_lt_width = k;
-  blocks_value = c.requires.blocks_value;
-}
+      planned = c.requires.planned;
+      s_lt_width = k;
+      blocks_value = c.requires.blocks_value;
+    }
 
 pub returns-then-s-s2 : goal.returns-then-s-s2
 returns-then-s-s2 c = let p =

@@ -5,7 +5,7 @@ use mathlib.Core.List.{List, [], ◌∷◌}
 use mir.Syntax.{w16}
 use Rattle.ints.specs.Machine.{Cell, param_cell, unsigned_cell}
 use Rattle.ints.specs.Auto.{quote, signed_code}
-use Rattle.ints.proofs.Auto.{need!, computes!}
+use Rattle.ints.proofs.Auto.{need!, computes! }
 use Rattle.joint_cells.proofs.shift.plus_times.Statement.{statement}
 use Rattle.joint_cells.proofs.shift.plus_times.Tie as tie
 

@@ -5,7 +5,7 @@ use lib.IntN.{ℤ, ◌+ℤ◌}
 use mir.Syntax.{w16}
 use Rattle.ints.specs.Machine.{Cell, param_cell}
 use Rattle.ints.specs.Auto.{quote, signed_code}
-use Rattle.ints.proofs.Auto.{need!, computes!}
+use Rattle.ints.proofs.Auto.{need!, computes! }
 use Rattle.joint_pixel.proofs.SideLaws.{side-low, side-high}
 use Rattle.joint_pixel.proofs.side.side_more.Statement.{statement}
 use Rattle.joint_pixel.proofs.side.side_more.Tie as tie

@@ -4,7 +4,7 @@ use mathlib.Core.List.{List, [], ◌∷◌}
 use mir.Syntax.{w32}
 use Rattle.ints.specs.Machine.{Cell, param_cell}
 use Rattle.ints.specs.Auto.{quote, signed_code}
-use Rattle.ints.proofs.Auto.{need!, computes!}
+use Rattle.ints.proofs.Auto.{need!, computes! }
 use Rattle.joint_search.proofs.find.step_balance.Statement.{statement}
 use Rattle.joint_search.proofs.find.step_balance.Tie as tie
 

@@ -11,7 +11,7 @@ use Rattle.ints.specs.Machine.{Cell, param_cell, unsigned_cell, read_back, read-
 use Rattle.ints.proofs.Machine.{computes}
 use Rattle.ints.specs.Polynomial.{◌⊕◌, ◌⊗◌, x₀, x₁, x₂}
 use Rattle.ints.specs.Auto.{signed_code}
-use Rattle.ints.proofs.Auto.{need!}
+use Rattle.ints.proofs.Auto.{need! }
 use borrow.Author.Rules.{rules}
 use Rattle.level_search.specs.Block.{EndsBelow}
 use Rattle.level_search.proofs.block.heaviest.Statement.{statement}

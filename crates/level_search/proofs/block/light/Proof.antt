@@ -12,7 +12,7 @@ use Rattle.ints.specs.Machine.{Cell, param_cell, unsigned_cell, lt-true}
 use Rattle.ints.proofs.Machine.{computes}
 use Rattle.ints.specs.Polynomial.{var, ◌⊕◌, ◌⊗◌, #◌, x₀, x₁, x₂, x₃, x₄}
 use Rattle.ints.specs.Auto.{signed_code}
-use Rattle.ints.proofs.Auto.{need!}
+use Rattle.ints.proofs.Auto.{need! }
 use borrow.Author.Rules.{rules}
 use Rattle.window_weights.specs.Coefficients.{weight_of}
 use Rattle.level_search.specs.Search.{sum_to}

@@ -4,7 +4,7 @@ use mathlib.Core.List.{List, [], ◌∷◌}
 use mir.Syntax.{w64}
 use Rattle.ints.specs.Machine.{Cell, unsigned_cell}
 use Rattle.ints.specs.Auto.{quote, signed_code}
-use Rattle.ints.proofs.Auto.{need!, computes!}
+use Rattle.ints.proofs.Auto.{need!, computes! }
 use borrow.Author.Rules.{rules}
 use Rattle.window_weights.proofs.coefficients.from_sums.Statement.{statement}
 use Rattle.window_weights.proofs.coefficients.from_sums.Tie as tie

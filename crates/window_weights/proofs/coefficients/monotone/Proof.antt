@@ -11,7 +11,7 @@ use Rattle.ints.specs.Machine.{Cell, param_cell, unsigned_cell, lt-true, lt-fals
 use Rattle.ints.proofs.Machine.{computes}
 use Rattle.ints.specs.Polynomial.{◌⊕◌, ◌⊗◌, x₀, x₁, x₂}
 use Rattle.ints.specs.Auto.{signed_code}
-use Rattle.ints.proofs.Auto.{need!}
+use Rattle.ints.proofs.Auto.{need! }
 use Rattle.window_weights.specs.Coefficients.{ends_not_negative}
 use Rattle.window_weights.proofs.CoefficientLaws.{not_neg, is-neg, both_false}
 use borrow.Author.Rules.{rules}

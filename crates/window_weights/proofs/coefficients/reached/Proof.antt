@@ -7,7 +7,7 @@ use Rattle.ints.specs.Machine.{Cell, param_cell, unsigned_cell}
 use Rattle.ints.proofs.Machine.{computes}
 use Rattle.ints.specs.Polynomial.{◌⊕◌, ◌⊗◌, #◌, x₀, x₁, x₂, x₃, x₄}
 use Rattle.ints.specs.Auto.{signed_code}
-use Rattle.ints.proofs.Auto.{need!}
+use Rattle.ints.proofs.Auto.{need! }
 use Rattle.window_weights.specs.Coefficients.{reaches_half}
 use borrow.Author.Rules.{rules}
 use Rattle.window_weights.proofs.coefficients.reached.Statement.{statement}
