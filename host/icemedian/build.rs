@@ -1,4 +1,4 @@
-//! Finds libicemedian_c.a: in `ICEMEDIAN_LIB_DIR`, else where `rt staticlib icemedian_c` writes it.
+//! Finds libicemedian_c.a: in `ICEMEDIAN_LIB_DIR`, else where `host/build_library` puts it.
 
 use std::env;
 use std::path::PathBuf;
@@ -12,7 +12,7 @@ fn main() {
     println!("cargo::rerun-if-changed={}", archive.display());
     if !archive.is_file() {
         println!(
-            "cargo::error={} is missing: run `rt staticlib icemedian_c`, or set ICEMEDIAN_LIB_DIR to the archive's folder",
+            "cargo::error={} is missing: run `host/build_library`, or set ICEMEDIAN_LIB_DIR to the archive's folder",
             archive.display()
         );
         return;
