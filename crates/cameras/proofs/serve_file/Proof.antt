@@ -41,7 +41,7 @@ add_begin c =
       at.requires.1.counts,
       ap (λ (r : Room). r.words) e,
       (cells_low _ (limits-planned (plan-at o))).1,
-      at.good.1.1.1.0.1,
+      at.well_formed.1.1.1.0.1,
     )
 
 add-begin-2 : tie.Need-overflow_add-next-2

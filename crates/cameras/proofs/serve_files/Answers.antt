@@ -66,12 +66,12 @@ serve_file-place-requires c =
     let h = c.loop-i-test.true in
     let e = part-is b ns l.i l.at _ refl in record {
       file_value = (
-        ap verdict e ∙ next-accepted b ns c.args.t3 old c.requires _ l.place l.at l.i l.invariant h,
-        subst (λ (q : List ℕ). get_or c.args.t3 l.i 0 ≤ pixels_in q) (sym e)
-            (next_low b ns c.args.t3 old c.requires _ l.place l.at l.i l.invariant h),
+        ap verdict e ∙ next-accepted b ns c.args.tallies old c.requires _ l.place l.at l.i l.invariant h,
+        subst (λ (q : List ℕ). get_or c.args.tallies l.i 0 ≤ pixels_in q) (sym e)
+            (next_low b ns c.args.tallies old c.requires _ l.place l.at l.i l.invariant h),
       );
       room_from = subst (λ (q : List ℕ). RoomFrom q l.place (parts l.counts l.words l.answers)) (sym e)
-          (next-room b ns c.args.t3 old c.requires _ l.place l.at l.i l.invariant h);
+          (next-room b ns c.args.tallies old c.requires _ l.place l.at l.i l.invariant h);
     }
 
 pub overflow_add-i : goal.overflow_add-i
@@ -91,13 +91,13 @@ loop-i-preserved c =
     let ns = c.args.lengths.now in
     let old = parts c.args.counts.now c.args.words.now c.args.answers.now in
     let f = c.serve_file-place in
-    let new = parts f.new.1.1.1.0 f.new.1.1.1.1.0 f.new.1.1.1.1.1.0 in
+    let new = parts f.new.counts f.new.words f.new.answers in
     let e = part-is b ns l.i l.at _ refl in
-    serving-more b ns c.args.t3 old c.requires (parts l.counts l.words l.answers) l.place l.at l.i l.invariant
+    serving-more b ns c.args.tallies old c.requires (parts l.counts l.words l.answers) l.place l.at l.i l.invariant
     c.loop-i-test.true _ f.result
-    (subst (λ (q : List ℕ). PartMade q (get_or c.args.t3 l.i 0) l.place (parts l.counts l.words l.answers) new f.result) e
+    (subst (λ (q : List ℕ). PartMade q (get_or c.args.tallies l.i 0) l.place (parts l.counts l.words l.answers) new f.result) e
     f.ensures)
-    f.auto.1.1.1.0 f.auto.1.1.1.1.0 f.auto.1.1.1.1.1.0
+    f.auto.counts f.auto.words f.auto.answers
 
 pub shape_of-counts : goal.shape_of-counts
 shape_of-counts c = c.loop-i.invariant.counts-long

@@ -109,7 +109,7 @@ step-requires c κs =
 add-i : tie.Need-overflow_add-i-in-loop-i invariant-loop decreases-loop
 unfolding entry
 add-i c = let h = c.before.before.before.before.before.before.before.before.before.before.before.before.before.before.before in
-    omega (arith, sweeping-low _ (entry h.before).requires.0.0 _ _ _ _ _ _ _ _ _ h.loop.invariant)
+    omega (arith, sweeping-low _ (entry h.before).requires.0.0 _ _ _ _ _ _ _ _ _ c.loop-i.invariant)
 
 -- the place of the answer
 placed : (c : tie.After-slice_known-in-loop-i-3-1 invariant-loop decreases-loop) →
@@ -243,7 +243,7 @@ returns c =
     (omega (arith, c.loop-i-test.false)) (simp length-set (room l.before)) v.state v.kept _ refl in (
       finished l.loop-i.visit _ refl refl refl q.0
           (handed_back at.args.way at.requires.0.0 at.requires.0.1 (state_of at.args.way l.loop-i.visit)
-          l.loop-i.invariant.going.visited.here.balance_box c.finish.ensures),
+          l.loop-i.invariant.going.visited.here.balance-box c.finish.ensures),
       q.1,
     )
 

@@ -201,7 +201,7 @@ returns c =
     l.loop-i.invariant (omega (arith, c.loop-i-test.false)) v.state v.kept _ refl in (
       finished l.loop-i.visit _ refl refl refl q.0
           (handed_back at.args.way at.requires.0.0 at.requires.0.1 (state_of at.args.way l.loop-i.visit)
-          l.loop-i.invariant.going.visited.here.balance_box c.finish.ensures),
+          l.loop-i.invariant.going.visited.here.balance-box c.finish.ensures),
       q.1,
     )
 

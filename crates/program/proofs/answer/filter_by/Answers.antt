@@ -15,4 +15,4 @@ returns c =
     filter_passes c.args.way _ _ c.requires.admitted c.requires.serving
     (record { counts = refl; words = refl; numbers = refl; summary = refl; plane = n }) in
     let e = q.ensures.filtered l in
-    record { plane = e.answers; long = q.auto.1.1.1.1.1.1.0 ∙ n; shifts = e.shifts }
+    record { plane = e.answers; long = q.auto.output ∙ n; shifts = e.shifts }
