@@ -21,7 +21,7 @@ pub enum Written {
     Refused(Refusal),
 }
 
-// Check 6: a plane of the wrong length, or a table that is neither empty nor, in kind 1, M.M.
+// Check 6: a plane of the wrong length, or a table that is neither empty nor, in kind 1, M·M.
 fn bad_length(settings: Settings, v: usize, g: usize, a: usize) -> bool
     ensures { result ≡ bad_length settings v g a }
 {

@@ -14,7 +14,7 @@ use Rattle.ints.proofs.Machine.{need, computes}
 use Rattle.ints.proofs.Float.{rep-computed}
 use Rattle.ints.specs.Float.{FloatOf, FloatCell, float_ops, rep_at}
 
--- a need `add-..`, `sub-..`, `mul-..`
+-- a goal `overflow_add-..`, `overflow_sub-..`, `overflow_mul-..`
 pub need! : (w : Width) {x : ℤ} (xs : List Cell) (p : BeforeStore w xs x) → T (all_below (2 ^ hbits w) (bounds xs) p.expr) → SFits w x
 need! w xs p t = subst (λ (z : ℤ). SFits w z) p.is (need w xs p.expr t)
 

@@ -41,7 +41,7 @@ module _ (w : Width) (xs : List Cell) where
       ap₂ (λ (x y : ℤ). x *ℤ y) (computes a s.0) (computes b s.1.0)
   before-is (opposite a) t = +ℤ_idl (neg_ℤ (computed (signed_ops w) xs a)) ∙ ap neg_ℤ (computes a t)
 
-  -- a need `add-..`, `sub-..`, `mul-..`
+  -- a goal `overflow_add-..`, `overflow_sub-..`, `overflow_mul-..`
   pub need : (e : Expr) → T (all_below (2 ^ hbits w) (bounds xs) e) → SFits w (before_store w xs e)
   need e t = subst (λ (x : ℤ). SFits w x) (sym (before-is e t)) (sfits-below (eval-below (signed-exact w) xs e t))
 

@@ -3,11 +3,12 @@
 --   Computed O xs x    an expression of which code with the operations O has x: `search signed_code`, `search float_code`
 --   BeforeStore w xs x an expression of which x is the last operation's result, before it is written: `search signed_code`
 -- An identity of ℤ:      `ring! ρ (search quote depth 12) (search quote depth 12) refl`
--- A need of signed code: `need! w64 xs (search signed_code depth 12) tt`
+-- A goal of signed code: `need! w64 xs (search signed_code depth 12) tt`
 -- Its result:            `computes! w64 xs (search signed_code depth 12) (search quote depth 12) tt refl`, which also proves the ring
 --                        identity between the code's form and the contract's
 -- Float code:            `rep! xs (search float_code depth 12) (search quote depth 12) tt refl`
--- `depth` is the depth of the expression's tree, one more for a leaf; ten variables at the most. Assumes nothing.
+-- `depth` is the depth of the expression's tree, one more for a leaf; ten variables at the most. `need!`, `computes!` and
+-- `rep!` are in proofs/Auto.antt. Assumes nothing.
 use Rattle.std.specs.Prelude.{◌≡◌, refl, List, [], ◌∷◌, ℕ, suc, ◌^◌, T, leb, ℤ, pos, negsuc, neg_ℤ, ◌+ℤ◌, ◌-ℤ◌, ◌*ℤ◌, Float}
 use Rattle.std.proofs.Common.{sym, ◌∙◌, ap, ap₂, subst}
 use Rattle.std.specs.Float.Ieee

@@ -1,7 +1,7 @@
 -- What code has after it computed an expression, for any kind of numbers: signed integers (`Machine`) and floats (`Float`) round or wrap
 -- after each operation, and are exact as long as every part of the expression is small. A `Variable` is what the code has, the integer
--- that it stands for, and a bound on that integer. `computed` is what the code has of an expression over such variables, and
--- `computed-means` that it stands for the expression's value, by one test of literals (`all_below`). Assumes nothing.
+-- that it stands for, and a bound on that integer. `computed` is what the code has of an expression over such variables. That it stands
+-- for the expression's value, by one test of literals (`all_below`), is `computed-means` of proofs/Computation.antt. Assumes nothing.
 use Rattle.std.specs.Prelude.{Bool, ◌&&◌, List, [], ◌∷◌, ℕ, zero, suc, ◌+◌, ◌*◌, ◌≤◌, ◌<◌, T, ltb, ℤ, pos, neg_ℤ, nat_abs, ◌+ℤ◌, ◌-ℤ◌, ◌*ℤ◌}
 use Rattle.std.proofs.Common.{lt_of_le_of_lt, ltb→lt}
 use Rattle.std.proofs.Math.Facts.{and_yes}

@@ -1,7 +1,8 @@
 -- Whole numbers as floats, so that code may compute with `f64` and lose nothing. `FloatOf f x z` says that x is the float of the format f
 -- that stands for the integer z: what rounding ±|z| gives, so that x is `of_int f z`, or, where z is 0, perhaps -0 (0 * -3 is -0).
 -- A sum, a difference and a product of two such floats of at most 2 ^ prec in size (2 ^ 53 in an `f64`) stands for the integers' sum,
--- difference and product, and a comparison is the integers'. `rep-computed` says the same of a whole expression. Assumes nothing.
+-- difference and product, and a comparison is the integers'. `rep-computed`, of proofs/Float.antt, says the same of a whole expression.
+-- Assumes nothing.
 use Rattle.std.specs.Prelude.{◌≡◌, refl, Bool, true, false, not, cond, ◌&&◌, List, T, ltb, leb, Float}
 use Rattle.std.proofs.Common.{sym, ◌∙◌, ap, ap₂, subst, subst₂, true≢false, le_trans, zero-lt-suc, le_of_suc-le-suc, arith, ltb→lt, nltb→le, lt→ltb, le→leb, leb→le}
 use Prim.Native.Nat.{ℕ, zero, suc, ◌+◌, ◌-◌, ◌*◌, ◌/◌, ◌%◌, ◌^◌, ◌≤◌, ◌<◌, compare}

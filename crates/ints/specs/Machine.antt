@@ -5,8 +5,8 @@
 --   local_cell      bits of which a loop's invariant says what they are
 --   unsigned_cell   an unsigned number that was cast
 --   let_cell        a `let` of the code, so that what follows does not go through its expression again
--- Then `need w xs e tt` answers each need `add-..`, `sub-..`, `mul-..` of the code, and `computes w xs e tt` says that the code
--- has e's value in the end. `Auto` finds e by itself. Assumes nothing.
+-- Then, in proofs/Machine.antt, `need w xs e tt` answers each goal `overflow_add-..`, `overflow_sub-..`, `overflow_mul-..` of the code, and
+-- `computes w xs e tt` says that the code has e's value in the end; `let_cell` is there too. `Auto` finds e by itself. Assumes nothing.
 use Rattle.std.specs.Prelude.{◌≡◌, refl, Bool, true, false, not, List, ℕ, ◌+◌, ◌*◌, ◌^◌, ◌≤◌, ◌<◌, T, ltb, ◌≤ℤ◌, ◌<ℤ◌, ℤ, pos, neg_ℤ, nat_abs, ◌+ℤ◌, ◌-ℤ◌, ◌*ℤ◌}
 use Rattle.std.proofs.Common.{sym, ◌∙◌, ap, ap₂, subst, subst₂, T_not, to_z-of_z}
 use Rattle.std.specs.Int.Signed.{le_z, lt_z, non_neg, le_z_yes, lt_z_yes, lt_z_no, yes_non_neg, pos-nat_abs}
@@ -41,7 +41,7 @@ param_cell w z B h t = record { has = read_back w z; is = z; bound = B; same = r
 abbrev pub result_cell : (w : Width) (r z : ℤ) (B : ℕ) → r ≡ z → nat_abs z ≤ B → T (ltb B (2 ^ hbits w)) → Cell
 result_cell w r z B p h t = record { has = read_back w r; is = z; bound = B; same = ap (read_back w) p ∙ read-bounded w B h t; small = h }
 
--- bits n that are z: `local_cell w64 n z B (c.loop.inv ..) h`
+-- bits n that are z: `local_cell w64 n z B (c.loop-k.invariant ..) h`
 abbrev pub local_cell : (w : Width) (n : ℕ) (z : ℤ) (B : ℕ) → to_z w n ≡ z → nat_abs z ≤ B → Cell
 local_cell w n z B p h = record { has = to_z w n; is = z; bound = B; same = p; small = h }
 

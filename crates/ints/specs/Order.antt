@@ -1,4 +1,4 @@
--- `lib.Signed` has the order of ℤ and few of its laws. This file has the rest, by way of natural numbers, where `omega` works:
+-- `Rattle.std.specs.Int.Signed` has the order of ℤ and few of its laws. This file has the rest, by way of natural numbers, where `omega` works:
 -- an integer z is `pos_part z - neg_part z`, two natural numbers of which one is 0, so an order or an equation of integers is one of their
 -- parts (`le-nat`, `nat_le`, ..), given what the parts of a sum, a difference, a negation and a product are (`add_parts`, ..).
 -- The operators of the order bind tighter than those of sums and products: write `(a +ℤ b) ≤ℤ c`. Assumes nothing.
@@ -106,7 +106,7 @@ pub neg_part-zero : {n : ℕ} {z : ℤ} → pos n ≤ℤ z → neg_part z ≡ 0
 neg_part-zero {n} {z = pos m} h = refl
 neg_part-zero {n} {z = negsuc m} h = absurd h.le
 
--- ---- the laws of the order. `≤ℤ_refl`, `<ℤ_irrefl` and `clash_ℤ` are in `lib.Signed`
+-- ---- the laws of the order. `≤ℤ_refl`, `<ℤ_irrefl` and `clash_ℤ` are in `Rattle.std.specs.Int.Signed`
 pub ≤-of-eq : {a b : ℤ} → a ≡ b → a ≤ℤ b
 ≤-of-eq {a} e = subst (λ (x : ℤ). a ≤ℤ x) e (≤ℤ_refl a)
 

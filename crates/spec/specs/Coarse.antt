@@ -18,7 +18,8 @@ block_count settings = (settings.levels + 15) / 16
 unfoldable pub block_weight : Frame → ℕ → ℕ → ℕ → ℤ
 block_weight p s t b = Σℤ p s t (λ x y. if eqb (level p x y / 16) b then weight p s t (guide p x y) else pos 0)
 
--- the first block whose end reaches half. In a window that is steady the answer is in it, and then the level inside (`First-Block` of proofs/Blocks)
+-- the first block whose end reaches half. In a window that is steady the answer is in it, and then the level inside (`first_block_lem` of
+-- proofs/Blocks)
 unfoldable pub first_block : Frame → ℕ → ℕ → ℕ
 first_block p s t = first (λ b. le_z (total_weight p s t) (pos 2 *ℤ sumℤ (block_weight p s t) 0 (suc b))) (block_count p.set)
 

@@ -24,7 +24,7 @@ written settings v g a = all16 v ++ all16 g ++ all16 a ++ field_bytes settings +
 unfoldable pub written_size : Settings → ℕ → ℕ
 written_size settings n = 4 * pixels settings + 2 * n + 28
 
--- a plane of the wrong length, or a table that is neither empty nor, in kind 1, M-as-M
+-- a plane of the wrong length, or a table that is neither empty nor, in kind 1, M·M
 unfoldable pub bad_length : Settings → ℕ → ℕ → ℕ → Bool
 bad_length settings v g a =
     not (eqb v (pixels settings)) || not (eqb g (pixels settings)) || (not (eqb a 0) && not (eqb settings.kind 1 && eqb a (table_size settings)))
