@@ -1,2 +1,1 @@
-pub mod ResultLaws
 pub mod SettingsLaws

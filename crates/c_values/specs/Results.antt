@@ -1,9 +1,10 @@
 -- What a call for C gives back of an outcome: a status, the lent results, the offset.
 -- Assumes nothing.
-use Rattle.std.specs.Prelude.{ℕ, ◌≡◌, List, [], ◌∷◌, eqb, ℤ, if◌then◌else◌}
+use Rattle.std.specs.Prelude.{ℕ, ◌≡◌, List, [], ◌∷◌, eqb, ℤ, if◌then◌else◌, Result, Ok, Err}
 use Rattle.spec.specs.declared.Grounds.{Grounds}
 use Rattle.spec.specs.declared.Cause.{Cause}
 use Rattle.spec.specs.declared.Cause.TheVariants.{Ordinary, Hollow, NegativeAtZero, NegativeAtLast, Empty}
+use Rattle.spec.specs.declared.Refusal.{Refusal}
 use Rattle.spec.specs.Refusal.{Outcome, accepted, refused}
 use Rattle.spec.specs.Walk.{answer_number}
 
@@ -16,6 +17,11 @@ status_of (refused n l) = n
 abbrev pub given : {A : Type 0} → Outcome → A → A → A
 given accepted new old = new
 given (refused n l) new old = old
+
+-- the same by the call's own result: what it gives, as f reads it, or the old content
+abbrev pub given_by : {T A : Type 0} → Result T Refusal → (T → A) → A → A
+given_by (Ok x) f old = f x
+given_by (Err e) f old = old
 
 -- the first of some values, or the old content where there are none
 abbrev pub first_or : ℕ → List ℕ → ℕ
@@ -55,10 +61,10 @@ lent_grounds pixels total level below reached cause =
     record { pixels = pixels; total = total; level = level; below = below; reached = reached; cause = cause }
 
 -- each before and after the call
-pub record GroundsGiven (o : Outcome) (g : Grounds) (before after : LentGrounds) : Type 0 where
-  pub pixels : after.pixels ≡ given o g.pixels before.pixels
-  pub total : after.total ≡ given o g.total before.total
-  pub level : after.level ≡ given o (answer_number g.answer) before.level
-  pub below : after.below ≡ given o g.below before.below
-  pub reached : after.reached ≡ given o g.reached before.reached
-  pub cause : after.cause ≡ given o (cause_number g.cause) before.cause
+pub record GroundsGiven (r : Result Grounds Refusal) (before after : LentGrounds) : Type 0 where
+  pub pixels : after.pixels ≡ given_by r (λ g. g.pixels) before.pixels
+  pub total : after.total ≡ given_by r (λ g. g.total) before.total
+  pub level : after.level ≡ given_by r (λ g. answer_number g.answer) before.level
+  pub below : after.below ≡ given_by r (λ g. g.below) before.below
+  pub reached : after.reached ≡ given_by r (λ g. g.reached) before.reached
+  pub cause : after.cause ≡ given_by r (λ g. cause_number g.cause) before.cause

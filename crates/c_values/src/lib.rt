@@ -4,22 +4,22 @@
 
 ghost use Rattle.std.specs.Prelude.{◌≡◌, min};
 ghost use Rattle.spec.specs.Refusal.{numbered};
-ghost use Rattle.c_values.specs.Results.{given, Reported, cause_number, lent_grounds, GroundsGiven};
+ghost use Rattle.c_values.specs.Results.{given_by, Reported, cause_number, lent_grounds, GroundsGiven};
 ghost use Rattle.c_values.specs.Settings.{Narrowed, settings_from};
 
-use spec::{Cause, Grounds, Settings, Verdict};
+use ice_step::Walked;
+use spec::{Cause, Grounds, Refusal, Settings};
 
-// A verdict as a status, and the offset of number 7.
-pub fn report(verdict: Verdict, offset: &mut u64) -> u32
-    ensures { Reported (numbered verdict) result offset.old offset.new }
+// A call's result as a status, and the offset of number 7.
+pub fn report<T>(call: &Result<T, Refusal>, offset: &mut u64) -> u32
+    ensures { Reported (numbered call.now) result offset.old offset.new }
 {
-    match verdict {
-        Verdict::Accepted => 0,
-        Verdict::Refused(refusal) => {
-            let number = spec::number_of(refusal) as u32;
+    match call {
+        Ok(_) => 0,
+        Err(refusal) => {
+            let number = u8::from(*refusal) as u32;
             if number == 7 {
-                let at = spec::offset_of(refusal) as u64;
-                *offset = at;
+                *offset = spec::offset_of(*refusal) as u64;
             }
             number
         }
@@ -28,21 +28,19 @@ pub fn report(verdict: Verdict, offset: &mut u64) -> u32
 
 // The lent results of a walk: its shift count, cut point and balance box where it is accepted.
 pub fn give_walk(
-    verdict: Verdict,
-    shifts: u64,
-    cut: u16,
-    balance_box: [i16; 256],
+    walk: Result<Walked, Refusal>,
     lent_shifts: &mut u64,
     lent_cut: &mut u16,
     lent_box: &mut [i16; 256],
 )
-    ensures { (lent_shifts.new ≡ given (numbered verdict) shifts lent_shifts.old)
-        × (lent_cut.new ≡ given (numbered verdict) cut lent_cut.old)
-        × (lent_box.new ≡ given (numbered verdict) balance_box lent_box.old) }
+    ensures shifts { lent_shifts.new ≡ given_by walk (λ w. w.shifts) lent_shifts.old }
+    ensures cut { lent_cut.new ≡ given_by walk (λ w. w.cut.0) lent_cut.old }
+    ensures balance_box { lent_box.new ≡ given_by walk (λ w. w.balance_box) lent_box.old }
 {
-    if let Verdict::Accepted = verdict {
-        *lent_shifts = shifts;
-        *lent_cut = cut;
+    if let Ok(walked) = walk {
+        *lent_shifts = walked.shifts;
+        *lent_cut = walked.cut.0;
+        let balance_box = walked.balance_box;
         *lent_box = balance_box;
     }
 }
@@ -62,8 +60,7 @@ pub fn cause_number(cause: Cause) -> u32
 
 // The lent results of an explanation, where it is accepted.
 pub fn give_grounds(
-    v: Verdict,
-    grounds: Grounds,
+    explanation: Result<Grounds, Refusal>,
     pixels: &mut usize,
     total: &mut i64,
     level: &mut u16,
@@ -71,22 +68,17 @@ pub fn give_grounds(
     reached: &mut i64,
     cause: &mut u32,
 )
-    ensures { GroundsGiven (numbered v) grounds
+    ensures { GroundsGiven explanation
         (lent_grounds pixels.old total.old level.old below.old reached.old cause.old)
         (lent_grounds pixels.new total.new level.new below.new reached.new cause.new) }
 {
-    if let Verdict::Accepted = v {
-        let all = grounds.total;
-        let less = grounds.below;
-        let enough = grounds.reached;
-        let why = grounds.cause;
-        let answer = grounds.answer;
+    if let Ok(grounds) = explanation {
         *pixels = grounds.pixels;
-        *total = all;
-        *level = spec::answer_number(answer);
-        *below = less;
-        *reached = enough;
-        *cause = cause_number(why);
+        *total = grounds.total;
+        *level = u16::from(grounds.answer);
+        *below = grounds.below;
+        *reached = grounds.reached;
+        *cause = cause_number(grounds.cause);
     }
 }
 
@@ -94,10 +86,7 @@ pub fn give_grounds(
 fn at_most(n: u32, most: u32) -> u32
     ensures { result ≡ min n most }
 {
-    if n < most {
-        return n;
-    }
-    most
+    n.min(most)
 }
 
 // The settings that seven numbers make. A number that its field cannot hold becomes the field's largest, which its own check refuses too: none is cut
@@ -113,20 +102,13 @@ pub fn settings_from(
 ) -> Settings
     ensures { Narrowed (settings_from width height levels guides kind radius smoothing) result }
 {
-    let width = at_most(width, 65535);
-    let height = at_most(height, 65535);
-    let levels = at_most(levels, 65535);
-    let guides = at_most(guides, 65535);
-    let kind = at_most(kind, 255);
-    let radius = at_most(radius, 255);
-    let smoothing = at_most(smoothing, 65535);
     Settings {
-        width: width as u16,
-        height: height as u16,
-        levels: levels as u16,
-        guides: guides as u16,
-        kind: kind as u8,
-        radius: radius as u8,
-        smoothing: smoothing as u16,
+        width: at_most(width, 65535) as u16,
+        height: at_most(height, 65535) as u16,
+        levels: at_most(levels, 65535) as u16,
+        guides: at_most(guides, 65535) as u16,
+        kind: at_most(kind, 255) as u8,
+        radius: at_most(radius, 255) as u8,
+        smoothing: at_most(smoothing, 65535) as u16,
     }
 }

@@ -1,6 +1,6 @@
 -- The loops over the lengths, the limits and the files, each by what is left of its list.
 -- Assumes nothing.
-use Prim.Native.Nat.{ℕ, zero, suc, ◌+◌, ◌-◌, ◌*◌, ◌≤◌, ◌<◌}
+use Prim.Native.Nat.{ℕ, zero, suc, ◌+◌, ◌-◌, ◌≤◌, ◌<◌}
 use mathlib.Core.Path.{◌≡◌, refl, sym, ap, ◌∙◌}
 use mathlib.Core.Bool.{Bool, true, false, true≢false, not, ◌||◌}
 use mathlib.Core.List.{List, [], ◌∷◌}
@@ -8,6 +8,7 @@ use native.Mathlib.Decide.{ℕ_discrete}
 use native.Mathlib.Numerals.{add-one}
 use native.Mathlib.Omega.{arith}
 use lib.Dec.{ltb, eqb}
+use Rattle.std.specs.List.{list_any}
 use lib.ListN.{length, get_or, drop}
 use lib.Seq.{drop-cons}
 use borrow.Author.Tests.{lt-ltb, le-ltb, ltb-false, eq-eqb, ne_eqb, eqb-true, not-false}
@@ -16,7 +17,7 @@ use Rattle.spec.specs.Cameras.{total, any_above, bad_batch}
 use Rattle.spec.proofs.Checks.{neither}
 use Rattle.spec.proofs.Outcomes.{or_else}
 
--- a verdict that fires is not accepted
+-- a verdict that fires is not accepted; docs/CHANGES.md names this
 pub fires-not : {o : Outcome} → fires o ≡ true → o ≡ accepted → ⊥
 fires-not f e = true≢false (sym f ∙ ap fires e)
 
@@ -33,7 +34,22 @@ left-none xs i h = go xs i h
     go (x ∷ xs) zero h = absurd (omega arith)
     go (x ∷ xs) (suc i) h = go xs i (omega arith)
 
+-- what is left of a sum
+pub total_left : (xs : List ℕ) (i : ℕ) → i < length xs → total (drop i xs) ≡ get_or xs i 0 + total (drop (i + 1) xs)
+unfolding total
+total_left xs i h = rw (left_step xs i h) refl
+
+pub total_end : (xs : List ℕ) (i : ℕ) → length xs ≤ i → total (drop i xs) ≡ 0
+unfolding total
+total_end xs i h = rw (left-none xs i h) refl
+
 -- ---- a number above the most
+pub above_listed : (most : ℕ) (xs : List ℕ) → list_any (ltb most) xs ≡ any_above most xs
+unfolding any_above
+above_listed most [] = refl
+above_listed most (x ∷ xs) = ap (λ (b : Bool). ltb most x || b) (above_listed most xs)
+
+-- docs/TRACE.md names these
 module _ (most : ℕ) (xs : List ℕ) (i : ℕ) where
   pub above-here : i < length xs → most < get_or xs i 0 → any_above most (drop i xs) ≡ true
   unfolding any_above
@@ -47,7 +63,7 @@ module _ (most : ℕ) (xs : List ℕ) (i : ℕ) where
   unfolding any_above
   above-none h = rw (left-none xs i h) refl
 
--- ---- lengths taken off
+-- ---- lengths taken off: docs/TRACE.md and docs/PORT.md name these
 same_or_not : (a b c d : ℕ) → (a ≡ b → c ≡ d) → (c ≡ d → a ≡ b) → eqb a b ≡ eqb c d
 same_or_not a b c d f g = go (ℕ_discrete a b)
   where
@@ -69,8 +85,9 @@ module _ (xs : List ℕ) (i left : ℕ) where
   unfolding total
   off-end h = rw (left-none xs i h) (same_or_not 0 left left 0 (λ e. sym e) (λ e. sym e))
 
--- ---- check 15, test by test
+-- ---- check 15
 module _ (b lengths limits : List ℕ) where
+  -- test by test: docs/TRACE.md and docs/PORT.md name these
   pub bad-count : 8 < length lengths → true ≡ bad_batch b lengths limits
   unfolding bad_batch
   bad-count h = sym (ap (λ (x : Bool). x || (not (eqb (total lengths) (length b)) || any_above 4096 limits)) (lt-ltb 8 (length lengths) h))
@@ -81,14 +98,7 @@ module _ (b lengths limits : List ℕ) where
       or_else (ltb 8 (length lengths)) _ (le-ltb 8 (length lengths) h)
       (sym (ap (λ (x : Bool). x || any_above 4096 limits) (ap not (sym e) ∙ n)))
 
-  pub bad-limit : length lengths ≤ 8 → {r : Bool} → r ≡ eqb (total lengths) (length b) → not r ≡ false → {a : Bool} → a ≡ any_above 4096 limits
-      → a ≡ bad_batch b lengths limits
-  unfolding bad_batch
-  bad-limit h e n l =
-      or_else (ltb 8 (length lengths)) _ (le-ltb 8 (length lengths) h)
-      (or_else (not (eqb (total lengths) (length b))) _ (ap not (sym e) ∙ n) l)
-
-  -- and what is known where it does not fire
+  -- what is known where it does not fire
   pub record BatchGood : Type 0 where
     pub few : length lengths ≤ 8
     pub sum : total lengths ≡ length b

@@ -1,29 +1,27 @@
 -- The loop over the files: what is known of those that were read, and what is left of the rest.
 -- Assumes nothing.
-use Prim.Native.Nat.{ℕ, zero, suc, ◌+◌, ◌-◌, ◌*◌, ◌/◌, ◌≤◌, ◌<◌}
+use Prim.Native.Nat.{ℕ, suc, ◌+◌, ◌-◌, ◌/◌, ◌≤◌, ◌<◌}
 use mathlib.Core.Path.{◌≡◌, refl, sym, ap, ap₂, ◌∙◌, subst}
-use mathlib.Core.Bool.{true, false}
 use mathlib.Core.List.{List, [], ◌∷◌, ◌++◌, map, append_assoc, append-nil}
 use native.Mathlib.Nat.{mul-le-mul}
 use native.Mathlib.Numerals.{add-one}
 use native.Mathlib.Omega.{arith}
-use lib.ListN.{length, get_or, take, drop, set, replicate, length-set, length-replicate, take-append-drop}
+use lib.ListN.{length, get_or, take, drop, set, replicate, length-set, take-append-drop}
 use lib.Seq.{drop-drop, take-suc-set, drop-set-lt}
 use Rattle.spec.specs.declared.Settings.{Settings}
 use Rattle.spec.specs.declared.Plan.{Plan}
-use Rattle.spec.specs.declared.Verdict.{Verdict}
-use Rattle.spec.specs.declared.Verdict.TheVariants.{Accepted}
 use Rattle.spec.specs.declared.Way.TheVariants.{Joint}
-use Rattle.spec.specs.Refusal.{Outcome, accepted, ◌▷◌, fires, numbered}
-use Rattle.spec.specs.Frame.{settings_of, frame_of, plan_of, settings_in, pixels}
+use Rattle.std.specs.Prelude.{Err}
+use Rattle.spec.specs.declared.Refusal.{Refusal}
+use Rattle.spec.specs.Refusal.{Outcome, accepted, refused, number, values_of, ◌▷◌}
+use Rattle.spec.specs.Frame.{settings_of, frame_of, plan_of, settings_in}
 use Rattle.spec.specs.Checks.{verdict, Planned, SettingsLimits}
 use Rattle.spec.specs.Calls.{room_of}
 use Rattle.spec.specs.Cameras.{files_in, total, counts_room, words_room, pixels_in, sizes_of, verdicts}
-use Rattle.spec.proofs.Outcomes.{stopped}
 use Rattle.spec.proofs.Plans.{facts}
 use Rattle.cameras_checks.specs.declared.Totals.{Totals}
 use Rattle.cameras_checks.specs.Totals.{TotalsLow, Added, TotalsOf, FilesRead}
-use Rattle.cameras_checks.proofs.Batch.{left_step, left-none, fires-not}
+use Rattle.cameras_checks.proofs.Batch.{left_step, left-none, total_left}
 
 -- ---- one file
 pub settings-planned : {f : List ℕ} {z : Plan} → Planned f z → settings_in z ≡ settings_of f
@@ -79,20 +77,12 @@ module _ (b lengths : List ℕ) where
       let s : total (map g (rest i at)) ≡ 0 = ap (λ (q : List (List ℕ)). total (map g q)) (rest-none i at h) in
       omega (arith, s, e)
 
-  -- where the next file ends
-  pub ends : (i at : ℕ) → i < length lengths → at + total (drop i lengths) ≡ length b
-      → at + get_or lengths i 0 + total (drop (i + 1) lengths) ≡ length b
-  unfolding total
-  ends i at h e = let s : total (drop i lengths) ≡ get_or lengths i 0 + total (drop (i + 1) lengths) = ap total (left_step lengths i h) in omega
-      (arith, s, e)
-
   pub verdict-step : (i at : ℕ) → i < length lengths → verdicts (rest i at) ≡ (verdict (file i at) ▷ verdicts (rest (i + 1) (at + get_or lengths i 0)))
   unfolding verdicts
   verdict-step i at h = ap verdicts (rest-step i at h)
 
   -- ---- the loop: i files are read, which end at a byte
   pub record Reading (t : Totals) (at i : ℕ) : Type 0 where
-    pub most : i ≤ length lengths
     pub place : at + total (drop i lengths) ≡ length b
     pub verdict : verdicts (files_in lengths b) ≡ verdicts (rest i at)
     pub counts : t.counts + total (map counts_room (rest i at)) ≡ total (map counts_room (files_in lengths b))
@@ -102,22 +92,6 @@ module _ (b lengths : List ℕ) where
     pub long : length t.sizes ≡ 8
     pub sizes : take i t.sizes ++ map pixels_in (rest i at) ≡ map pixels_in (files_in lengths b)
     pub zeros : drop i t.sizes ≡ replicate (8 - i) 0
-
-  pub reading-start : (t : Totals) → total lengths ≡ length b → t ≡ record { counts = 0; words = 0; answers = 0; sizes = replicate 8 0 } → Reading t
-      0 0
-  reading-start t e h = rw h
-      (record {
-        most = omega arith;
-        place = omega (arith, e);
-        verdict = refl;
-        counts = omega arith;
-        words = omega arith;
-        answers = omega arith;
-        low = record { counts = omega arith; words = omega arith; answers = omega arith };
-        long = length-replicate {A = ℕ} 8 0;
-        sizes = refl;
-        zeros = refl;
-      })
 
   tail-zeros : (n i : ℕ) (l : List ℕ) → i < n → drop i l ≡ replicate (n - i) 0 → drop (i + 1) l ≡ replicate (n - (i + 1)) 0
   tail-zeros n i l h e =
@@ -133,8 +107,7 @@ module _ (b lengths : List ℕ) where
       let s : length (set t.sizes i (pixels_in f)) ≡ 8 = length-set t.sizes i (pixels_in f) ∙ w.long in
       let cells = cells_low (settings_of f) sound in
       record {
-        most = omega arith;
-        place = ends i at h w.place;
+        place = omega (arith, total_left lengths i h, w.place);
         verdict = w.verdict ∙ verdict-step i at h ∙ ap (λ (o : Outcome). o ▷ verdicts (rest (i + 1) (at + n))) ok;
         counts = ap (λ (m : ℕ). m + total (map counts_room (rest (i + 1) (at + n)))) a.counts ∙ share-step counts_room t.counts _ i at h
             w.counts;
@@ -157,11 +130,11 @@ module _ (b lengths : List ℕ) where
             w.zeros;
       }
 
-  pub reading-end : (t : Totals) (at i : ℕ) → Reading t at i → length lengths ≤ i → (verdicts (files_in lengths b) ≡ accepted) ×
+  pub reading-end : (t : Totals) (at i : ℕ) → Reading t at i → i ≤ length lengths → length lengths ≤ i → (verdicts (files_in lengths b) ≡ accepted) ×
       (TotalsOf (files_in lengths b) t)
   unfolding sizes_of verdicts
-  reading-end t at i w h =
-      let e : i ≡ length (files_in lengths b) = omega (arith, w.most, length-files lengths b) in
+  reading-end t at i w most h =
+      let e : i ≡ length (files_in lengths b) = omega (arith, length-files lengths b) in
       let none : map pixels_in (rest i at) ≡ [] = ap (map pixels_in) (rest-none i at h) in (
         w.verdict ∙ ap verdicts (rest-none i at h),
         record {
@@ -180,15 +153,13 @@ module _ (b lengths : List ℕ) where
   pub part-is : (i at end : ℕ) → end ≡ at + get_or lengths i 0 → take (end - at) (drop at b) ≡ file i at
   part-is i at end e = let s : end - at ≡ get_or lengths i 0 = omega arith in ap (λ (m : ℕ). take m (drop at b)) s
 
-  pub read-refused : (t : Totals) (at i : ℕ) (v : Verdict) → Reading t at i → i < length lengths → numbered v ≡ verdict (file i at)
-      → fires (numbered v) ≡ true → FilesRead (files_in lengths b) (record { verdict = v; totals = t })
-  read-refused t at i v w h e f =
-      let s : numbered v ≡ verdicts (files_in lengths b) = stopped _ _ e refl f ∙ sym (w.verdict ∙ verdict-step i at h) in
-      record { verdict = s; totals = λ q. absurd (fires-not f (s ∙ q)) }
-
-  pub read_all : (t : Totals) (at i : ℕ) → Reading t at i → length lengths ≤ i → FilesRead (files_in lengths b)
-      (record { verdict = Accepted; totals = t })
-  read_all t at i w h = let e = reading-end t at i w h in record { verdict = sym e.0; totals = λ _. e.1 }
+  pub read-refused : {t : Totals} {at i : ℕ} → Reading t at i → i < length lengths → (e : Refusal)
+      → refused (number e) (values_of e) ≡ verdict (file i at) → FilesRead (files_in lengths b) (Err e)
+  read-refused {t} {at} {i} w h e is =
+      record {
+        verdict = sym (w.verdict ∙ verdict-step i at h ∙ ap (λ (o : Outcome). o ▷ verdicts (rest (i + 1) (at + get_or lengths i 0))) (sym is));
+        totals = tt;
+      }
 
   -- the file that the code opened
   pub reading-next : (t r : Totals) (at i : ℕ) → Reading t at i → i < length lengths → length lengths ≤ 8 → {f : List ℕ} {z : Plan} → Planned f z

@@ -1,14 +1,14 @@
--- What the checks of a batch of files find: the verdict, what their parts take together, and their pixels.
+-- What the checks of a batch of files find: a refusal; or what their parts take together, and their pixels.
 -- Assumes nothing.
-use Rattle.std.specs.Prelude.{ℕ, ◌+◌, ◌*◌, ◌≤◌, ◌≡◌, List, map, set}
+use Rattle.std.specs.Prelude.{ℕ, ◌+◌, ◌*◌, ◌≤◌, ◌≡◌, List, map, set, Result, IfOk}
+use Rattle.spec.specs.declared.Refusal.{Refusal}
 use Rattle.spec.specs.declared.Settings.{Settings}
 use Rattle.spec.specs.declared.Way.TheVariants.{Joint}
-use Rattle.spec.specs.Refusal.{accepted, numbered}
+use Rattle.spec.specs.Refusal.{numbered}
 use Rattle.spec.specs.Frame.{pixels}
 use Rattle.spec.specs.Calls.{room_of}
 use Rattle.spec.specs.Cameras.{files_in, total, counts_room, words_room, pixels_in, sizes_of, verdicts, cameras_outcome}
 use Rattle.cameras_checks.specs.declared.Totals.{Totals}
-use Rattle.cameras_checks.specs.declared.Checked.{Checked}
 
 -- the totals of i files are no sums that a number could not hold
 pub record TotalsLow (i : ℕ) (t : Totals) : Type 0 where
@@ -31,11 +31,11 @@ pub record TotalsOf (fs : List (List ℕ)) (t : Totals) : Type 0 where
   pub sizes : t.sizes ≡ sizes_of fs
 
 -- checks 1 to 7 of some files
-pub record FilesRead (fs : List (List ℕ)) (r : Checked) : Type 0 where
-  pub verdict : numbered r.verdict ≡ verdicts fs
-  pub totals : verdicts fs ≡ accepted → TotalsOf fs r.totals
+pub record FilesRead (fs : List (List ℕ)) (r : Result Totals Refusal) : Type 0 where
+  pub verdict : numbered r ≡ verdicts fs
+  pub totals : IfOk r (TotalsOf fs)
 
 -- all checks
-pub record BatchRead (b lengths limits : List ℕ) (counts words answers : ℕ) (r : Checked) : Type 0 where
-  pub verdict : numbered r.verdict ≡ cameras_outcome b lengths limits counts words answers
-  pub sizes : cameras_outcome b lengths limits counts words answers ≡ accepted → r.totals.sizes ≡ sizes_of (files_in lengths b)
+pub record BatchRead (b lengths limits : List ℕ) (counts words answers : ℕ) (r : Result Totals Refusal) : Type 0 where
+  pub verdict : numbered r ≡ cameras_outcome b lengths limits counts words answers
+  pub sizes : IfOk r (λ t. t.sizes ≡ sizes_of (files_in lengths b))

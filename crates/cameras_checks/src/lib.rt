@@ -9,10 +9,10 @@ ghost use Rattle.cameras_checks.specs.Totals.{TotalsLow, Added, FilesRead, Batch
 
 use checks_room::needed;
 use frame::plan::open_plan;
-use spec::{Plan, Refusal, Verdict, Way, stops};
+use spec::{Plan, Refusal, Way};
 
 // What the parts of the files read so far take together, and the pixels of each of eight files, none where there is no file.
-#[derive(Clone, Copy)]
+#[derive(Clone, Copy, Default)]
 pub struct Totals {
     pub counts: usize,
     pub words: usize,
@@ -20,26 +20,17 @@ pub struct Totals {
     pub sizes: [usize; 8],
 }
 
-// What the checks say, and the totals of all files where they accept them.
-#[derive(Clone, Copy)]
-pub struct Checked {
-    pub verdict: Verdict,
-    pub totals: Totals,
-}
-
 // Whether the lengths add up to a number of bytes. It takes them off, because a sum might be too large for a number.
+#[tactic(auto, using(crate::proofs::Batch::total_left, crate::proofs::Batch::total_end))]
 pub fn add_up(lengths: &[usize], bytes: usize) -> bool
     ensures { result ≡ eqb (total lengths.now) bytes }
 {
     let mut left = bytes;
-    let mut i = 0;
-    while i < lengths.len() {
-        let n = lengths[i];
-        if left < n {
+    for n in lengths {
+        let Some(rest) = left.checked_sub(*n) else {
             return false;
-        }
-        left -= n;
-        i += 1;
+        };
+        left = rest;
     }
     left == 0
 }
@@ -48,27 +39,15 @@ pub fn add_up(lengths: &[usize], bytes: usize) -> bool
 pub fn any_above(most: u32, numbers: &[u32]) -> bool
     ensures { result ≡ any_above most numbers.now }
 {
-    let mut i = 0;
-    while i < numbers.len() {
-        if most < numbers[i] {
-            return true;
-        }
-        i += 1;
-    }
-    false
+    numbers.iter().any(|n| most < *n)
 }
 
 // Check 15.
+#[tactic(auto, unfolding(spec::specs::Cameras::bad_batch))]
 pub fn bad_batch(files: &[u8], lengths: &[usize], limits: &[u32]) -> bool
     ensures { result ≡ bad_batch files.now lengths.now limits.now }
 {
-    if 8 < lengths.len() {
-        return true;
-    }
-    if !add_up(lengths, files.len()) {
-        return true;
-    }
-    any_above(4096, limits)
+    8 < lengths.len() || !add_up(lengths, files.len()) || any_above(4096, limits)
 }
 
 // The totals with file i more.
@@ -89,37 +68,24 @@ pub fn with_file(t: Totals, plan: Plan, i: usize) -> Totals
 }
 
 // Checks 1 to 7 of each file in turn, and the totals.
-pub fn read_files(files: &[u8], lengths: &[usize]) -> Checked
+#[tactic(auto, using(crate::proofs::Batch::total_left))]
+pub fn read_files(files: &[u8], lengths: &[usize]) -> Result<Totals, Refusal>
     requires { (length lengths.now ≤ 8) × (total lengths.now ≡ length files.now) }
     ensures { FilesRead (files_in lengths.now files.now) result }
 {
-    let mut totals = Totals {
-        counts: 0,
-        words: 0,
-        answers: 0,
-        sizes: [0; 8],
-    };
+    let mut totals = Totals::default();
     let mut at = 0;
-    let mut i = 0;
-    while i < lengths.len() {
-        let end = at + lengths[i];
-        let opened = open_plan(&files[at..end]);
-        let v = opened.verdict;
-        if stops(v) {
-            return Checked { verdict: v, totals };
-        }
-        let plan = opened.plan;
+    for (i, n) in lengths.iter().enumerate() {
+        let end = at + *n;
+        let plan = open_plan(&files[at..end])?;
         totals = with_file(totals, plan, i);
         at = end;
-        i += 1;
     }
-    Checked {
-        verdict: Verdict::Accepted,
-        totals,
-    }
+    Ok(totals)
 }
 
-// All checks, where counts, words and answers have so many numbers.
+// All checks, where counts, words and answers have so many numbers; and the totals of all files.
+#[tactic(auto, unfolding(spec::specs::Cameras::cameras_outcome, spec::specs::Cameras::short_of))]
 pub fn check_batch(
     files: &[u8],
     lengths: &[usize],
@@ -127,44 +93,15 @@ pub fn check_batch(
     counts: usize,
     words: usize,
     answers: usize,
-) -> Checked
+) -> Result<Totals, Refusal>
     ensures { BatchRead files.now lengths.now limits.now counts words answers result }
 {
-    let none = Totals {
-        counts: 0,
-        words: 0,
-        answers: 0,
-        sizes: [0; 8],
-    };
     if bad_batch(files, lengths, limits) {
-        return Checked {
-            verdict: Verdict::Refused(Refusal::Batch),
-            totals: none,
-        };
+        return Err(Refusal::Batch);
     }
-    let read = read_files(files, lengths);
-    let v = read.verdict;
-    if stops(v) {
-        return read;
+    let totals = read_files(files, lengths)?;
+    if counts < totals.counts || words < totals.words || answers < totals.answers {
+        return Err(Refusal::Room);
     }
-    let totals = read.totals;
-    if counts < totals.counts {
-        return Checked {
-            verdict: Verdict::Refused(Refusal::Room),
-            totals,
-        };
-    }
-    if words < totals.words {
-        return Checked {
-            verdict: Verdict::Refused(Refusal::Room),
-            totals,
-        };
-    }
-    if answers < totals.answers {
-        return Checked {
-            verdict: Verdict::Refused(Refusal::Room),
-            totals,
-        };
-    }
-    read
+    Ok(totals)
 }

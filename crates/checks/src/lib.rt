@@ -9,8 +9,9 @@ ghost use Rattle.spec.specs.Frame.{settings_in};
 
 use checks_numbers::{bad_pixel, bad_way};
 use checks_room::short;
-use spec::{Plan, Refusal, Room, Verdict};
+use spec::{Plan, Refusal, Room};
 
+#[tactic(auto, unfolding(spec::specs::Calls::walk_checks))]
 pub fn walk_verdict(
     plan: Plan,
     way: u32,
@@ -19,55 +20,55 @@ pub fn walk_verdict(
     n: usize,
     have: Room,
     out: usize,
-) -> Verdict
+) -> Result<(), Refusal>
     requires { SettingsLimits (settings_in plan) }
     ensures { numbered result ≡ walk_checks (settings_in plan) way column row n have out }
 {
     if bad_way(plan, way) {
-        return Verdict::Refused(Refusal::Way);
+        return Err(Refusal::Way);
     }
     if bad_pixel(plan, column, row) {
-        return Verdict::Refused(Refusal::Start);
+        return Err(Refusal::Start);
     }
     if 1048576 < n {
-        return Verdict::Refused(Refusal::Moves);
+        return Err(Refusal::Moves);
     }
     if short(plan, way, have, out, n + 1) {
-        return Verdict::Refused(Refusal::Room);
+        return Err(Refusal::Room);
     }
-    Verdict::Accepted
+    Ok(())
 }
 
-pub fn filter_verdict(plan: Plan, way: u32, have: Room, out: usize) -> Verdict
+#[tactic(auto, unfolding(spec::specs::Calls::filter_checks))]
+pub fn filter_verdict(plan: Plan, way: u32, have: Room, out: usize) -> Result<(), Refusal>
     requires { SettingsLimits (settings_in plan) }
     ensures { numbered result ≡ filter_checks (settings_in plan) way have out }
 {
     if bad_way(plan, way) {
-        return Verdict::Refused(Refusal::Way);
+        return Err(Refusal::Way);
     }
     if short(plan, way, have, out, plan.width * plan.height) {
-        return Verdict::Refused(Refusal::Room);
+        return Err(Refusal::Room);
     }
-    Verdict::Accepted
+    Ok(())
 }
 
-pub fn balance_verdict(plan: Plan, column: usize, row: usize, level: usize) -> Verdict
+#[tactic(auto, unfolding(spec::specs::Calls::balance_checks))]
+pub fn balance_verdict(plan: Plan, column: usize, row: usize, level: usize) -> Result<(), Refusal>
     ensures { numbered result ≡ balance_checks (settings_in plan) column row level }
 {
-    if bad_pixel(plan, column, row) {
-        return Verdict::Refused(Refusal::Start);
+    if bad_pixel(plan, column, row) || plan.levels <= level {
+        return Err(Refusal::Start);
     }
-    if plan.levels <= level {
-        return Verdict::Refused(Refusal::Start);
-    }
-    Verdict::Accepted
+    Ok(())
 }
 
-pub fn explain_verdict(plan: Plan, column: usize, row: usize) -> Verdict
+#[tactic(auto, unfolding(spec::specs::Calls::explain_checks))]
+pub fn explain_verdict(plan: Plan, column: usize, row: usize) -> Result<(), Refusal>
     ensures { numbered result ≡ explain_checks (settings_in plan) column row }
 {
     if bad_pixel(plan, column, row) {
-        return Verdict::Refused(Refusal::Start);
+        return Err(Refusal::Start);
     }
-    Verdict::Accepted
+    Ok(())
 }

@@ -7,32 +7,20 @@ ghost use Rattle.spec.specs.Frame.{settings_in};
 
 use spec::Plan;
 
+#[tactic(auto, unfolding(spec::specs::Calls::bad_way))]
 pub fn bad_way(plan: Plan, way: u32) -> bool
     ensures { result ≡ bad_way (settings_in plan) way }
 {
-    if way < 1 {
-        return true;
+    match way {
+        1 | 4 => false,
+        2 | 3 => plan.kind != 2,
+        _ => true,
     }
-    if 4 < way {
-        return true;
-    }
-    if way == 1 {
-        return false;
-    }
-    if way == 4 {
-        return false;
-    }
-    plan.kind != 2
 }
 
+#[tactic(auto, unfolding(spec::specs::Calls::bad_pixel))]
 pub fn bad_pixel(plan: Plan, column: usize, row: usize) -> bool
     ensures { result ≡ bad_pixel (settings_in plan) column row }
 {
-    if plan.width <= column {
-        return true;
-    }
-    if plan.height <= row {
-        return true;
-    }
-    false
+    plan.width <= column || plan.height <= row
 }

@@ -11,19 +11,16 @@ use spec::{Plan, Room, Way};
 const BLOCK: usize = spec::BLOCK as usize;
 
 // The way that a number names, where check 8 lets it pass.
+#[tactic(auto, unfolding(spec::specs::Calls::way_of))]
 pub fn way_of(way: u32) -> Way
     ensures { result ≡ way_of way }
 {
-    if way == 1 {
-        return Way::Joint;
+    match way {
+        1 => Way::Joint,
+        2 => Way::Columns,
+        3 => Way::Chain,
+        _ => Way::Coarse,
     }
-    if way == 2 {
-        return Way::Columns;
-    }
-    if way == 3 {
-        return Way::Chain;
-    }
-    Way::Coarse
 }
 
 // Ways 1 and 4: a joint store, and so many numbers of a summary.
@@ -31,13 +28,9 @@ fn joint_room(plan: Plan, blocks: usize) -> Room
     requires { SettingsLimits (settings_in plan) }
     ensures { result ≡ joint_room (settings_in plan) blocks }
 {
-    let l = plan.levels;
-    let m = plan.guides;
-    let counts = l * m;
-    let words = l * ((m + 63) / 64);
     Room {
-        counts,
-        words,
+        counts: plan.levels * plan.guides,
+        words: plan.levels * plan.guides.div_ceil(64),
         numbers: 0,
         summary: blocks,
     }
@@ -56,6 +49,7 @@ fn numbers_room(n: usize) -> Room
 }
 
 // How much of each store a way uses.
+#[tactic(auto, unfolding(spec::specs::Calls::room_of))]
 pub fn needed(way: Way, plan: Plan) -> Room
     requires { SettingsLimits (settings_in plan) }
     ensures { result ≡ room_of way (settings_in plan) }
@@ -64,7 +58,7 @@ pub fn needed(way: Way, plan: Plan) -> Room
     let columns = 2 * (plan.width * l) + 2 * l;
     let side = 2 * plan.radius + 1;
     let nodes = 1 + 4 * (side * side);
-    let blocks = (l + (BLOCK - 1)) / BLOCK;
+    let blocks = l.div_ceil(BLOCK);
     match way {
         Way::Joint => joint_room(plan, 0),
         Way::Columns => numbers_room(columns),
@@ -73,30 +67,21 @@ pub fn needed(way: Way, plan: Plan) -> Room
     }
 }
 
+#[tactic(auto, unfolding(spec::specs::Calls::lacks))]
 fn lacking(need: Room, have: Room) -> bool
     ensures { result ≡ lacks need have }
 {
-    if have.counts < need.counts {
-        return true;
-    }
-    if have.words < need.words {
-        return true;
-    }
-    if have.numbers < need.numbers {
-        return true;
-    }
-    have.summary < need.summary
+    have.counts < need.counts
+        || have.words < need.words
+        || have.numbers < need.numbers
+        || have.summary < need.summary
 }
 
 // Check 11: a store of the way, or an output that is to take n numbers, is too short.
+#[tactic(auto, unfolding(spec::specs::Calls::short))]
 pub fn short(plan: Plan, way: u32, have: Room, out: usize, n: usize) -> bool
     requires { SettingsLimits (settings_in plan) }
     ensures { result ≡ short (settings_in plan) way have out n }
 {
-    let y = way_of(way);
-    let need = needed(y, plan);
-    if lacking(need, have) {
-        return true;
-    }
-    out < n
+    lacking(needed(way_of(way), plan), have) || out < n
 }

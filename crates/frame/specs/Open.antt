@@ -1,12 +1,12 @@
 -- What an opened frame shows: parts of the caller's bytes; nothing where the file is refused.
 -- Assumes nothing.
-use Rattle.std.specs.Prelude.{◌≡◌, ℕ, ◌+◌, ◌-◌, ◌*◌, Bool, ◌||◌, List, [], ltb, length, if◌then◌else◌}
+use Rattle.std.specs.Prelude.{◌≡◌, ℕ, ◌+◌, ◌-◌, ◌*◌, Bool, ◌||◌, List, [], ltb, length, if◌then◌else◌, Result, Ok, Err, IfOk}
 use Rattle.std.specs.Borrow.{Bor}
 use Rattle.spec.specs.declared.Trailer.{Trailer}
+use Rattle.spec.specs.declared.Refusal.{Refusal}
 use Rattle.spec.specs.Refusal.{fires, numbered}
 use Rattle.spec.specs.Frame.{trailer_at, settings_of, trailer_of, plan_of, part, pixels, own_weights, value_part, guide_part, table_part}
 use Rattle.spec.specs.Checks.{verdict}
-use Rattle.frame.specs.declared.open.Head.{Head}
 use Rattle.frame.specs.declared.open.Plane.{Plane}
 use Rattle.frame.specs.declared.open.Plane.TheVariants.{Values, Guides, Table}
 
@@ -40,9 +40,15 @@ blank_trailer =
 unfoldable pub opened : List ℕ → Trailer
 opened b = if fires (verdict b) then blank_trailer else trailer_of b
 
--- what a head says of a file
-abbrev pub Opens : List ℕ → Head → Type 0
-Opens b h = (numbered h.verdict ≡ verdict b) × (h.trailer ≡ opened b)
+-- the trailer in an opened frame: blank where there is a refusal in its place
+abbrev pub trailer_in : Result Trailer Refusal → Trailer
+trailer_in (Ok t) = t
+trailer_in (Err e) = blank_trailer
+
+-- what an opened frame says of a file: the outcome of checks 1 to 7, and the trailer of one that they accept
+pub record Opens (b : List ℕ) (head : Result Trailer Refusal) : Type 0 where
+  pub outcome : numbered head ≡ verdict b
+  pub trailer : IfOk head (λ t. t ≡ trailer_of b)
 
 -- how far back a trailer has a plane or the table, and of how many bytes
 abbrev pub distance_of : Plane → Trailer → ℕ

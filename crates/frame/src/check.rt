@@ -6,15 +6,13 @@ ghost use Rattle.spec.specs.Checks.{verdict};
 use frame_contents::contents;
 pub use frame_trailer::check_trailer;
 use frame_trailer::plan_of;
-use spec::{Verdict, stops};
+use spec::Refusal;
 
 // Checks 1 to 7.
-pub fn check(file: &[u8]) -> Verdict
+#[tactic(auto, unfolding(spec::specs::Checks::verdict))]
+pub fn check(file: &[u8]) -> Result<(), Refusal>
     ensures { numbered result ≡ verdict file.now }
 {
-    let v = check_trailer(file);
-    if stops(v) {
-        return v;
-    }
+    check_trailer(file)?;
     contents(file, plan_of(file))
 }

@@ -22,22 +22,13 @@ fn table_bytes(settings: Settings) -> usize
 }
 
 // Check 6, of a trailer that begins at byte at.
+#[tactic(auto, unfolding(spec::specs::Checks::bad_distance))]
 pub fn bad_distance(at: usize, t: Trailer) -> bool
     ensures { result ≡ bad_distance at t }
 {
-    let k = t.settings;
-    let plane = plane_bytes(k);
-    if outside(plane, at, t.value) {
-        return true;
-    }
-    if outside(plane, at, t.guide) {
-        return true;
-    }
-    if t.table == 0 {
-        return false;
-    }
-    if outside(table_bytes(k), at, t.table) {
-        return true;
-    }
-    k.kind == 2
+    let plane = plane_bytes(t.settings);
+    let table = table_bytes(t.settings);
+    outside(plane, at, t.value)
+        || outside(plane, at, t.guide)
+        || t.table != 0 && (outside(table, at, t.table) || t.settings.kind == 2)
 }

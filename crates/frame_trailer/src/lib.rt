@@ -1,7 +1,7 @@
 // The trailer of a file: its 28 bytes read, checks 1 to 6 of them, and the plan of the file that they give.
 #![tactic(auto)]
 
-ghost use Rattle.std.specs.Prelude.{◌≡◌, ◌-◌, ◌<◌, ◌≤◌, length};
+ghost use Rattle.std.specs.Prelude.{◌≡◌, ◌-◌, ◌<◌, ◌≤◌, false, length};
 ghost use Rattle.spec.specs.Refusal.{numbered};
 ghost use Rattle.spec.specs.Frame.{settings_of, trailer_of, own_weights, plan_of};
 ghost use Rattle.spec.specs.Checks.{bad_mark, trailer_outcome};
@@ -9,8 +9,9 @@ ghost use Rattle.spec.specs.Checks.{bad_mark, trailer_outcome};
 use big_endian::{be16, be32};
 use frame_distances::bad_distance;
 use frame_limits::{check_settings, product};
-use spec::{MARK, Plan, Refusal, Settings, TRAILER, Trailer, Verdict, stops};
+use spec::{MARK, Plan, Refusal, Settings, TRAILER, Trailer};
 
+#[tactic(auto, unfolding(spec::specs::Frame::settings_of, spec::specs::Frame::trailer_at))]
 fn settings_of(b: &[u8]) -> Settings
     requires { 28 ≤ length b.now }
     ensures { result ≡ settings_of b.now }
@@ -27,67 +28,60 @@ fn settings_of(b: &[u8]) -> Settings
     }
 }
 
+#[tactic(auto, unfolding(spec::specs::Frame::trailer_of, spec::specs::Frame::trailer_at))]
 pub fn trailer_of(b: &[u8]) -> Trailer
     requires { 28 ≤ length b.now }
     ensures { result ≡ trailer_of b.now }
 {
     let t = b.len() - TRAILER;
-    let settings = settings_of(b);
     Trailer {
-        settings,
+        settings: settings_of(b),
         value: be32(b, t + 12),
         guide: be32(b, t + 16),
         table: be32(b, t + 20),
     }
 }
 
+#[tactic(auto, unfolding(spec::specs::Checks::bad_mark, spec::specs::Frame::trailer_at))]
 fn bad_mark(file: &[u8]) -> bool
-    ensures { result ≡ bad_mark file.now }
+    ensures test { result ≡ bad_mark file.now }
+    ensures long { result ≡ false → 28 ≤ length file.now }
 {
-    if file.len() < TRAILER {
-        return true;
-    }
-    let mark = be32(file, file.len() - TRAILER + 24);
-    mark != MARK
+    file.len() < TRAILER || be32(file, file.len() - TRAILER + 24) != MARK
 }
 
 // Checks 1 to 6: of the trailer and its distances, without the planes' contents.
-pub fn check_trailer(file: &[u8]) -> Verdict
+#[tactic(auto, unfolding(spec::specs::Checks::trailer_outcome, spec::specs::Frame::trailer_of, spec::specs::Frame::trailer_at))]
+pub fn check_trailer(file: &[u8]) -> Result<(), Refusal>
     ensures { numbered result ≡ trailer_outcome file.now }
 {
     if bad_mark(file) {
-        return Verdict::Refused(Refusal::Mark);
+        return Err(Refusal::Mark);
     }
     let t = trailer_of(file);
-    let v = check_settings(t.settings);
-    if stops(v) {
-        return v;
-    }
+    check_settings(t.settings)?;
     if bad_distance(file.len() - TRAILER, t) {
-        return Verdict::Refused(Refusal::Distance);
+        return Err(Refusal::Distance);
     }
-    Verdict::Accepted
+    Ok(())
 }
 
 // How many weights the file itself has.
+#[tactic(auto, unfolding(spec::specs::Frame::own_weights, spec::specs::Frame::table_size))]
 pub fn own_weights(t: Trailer) -> usize
     ensures { (result ≡ own_weights t) × (result < 4294967296) }
 {
     if t.table == 0 {
         return 0;
     }
-    let k = t.settings;
-    product(k.guides, k.guides)
+    product(t.settings.guides, t.settings.guides)
 }
 
 // The byte that is so far before another; 0 where the file doesn't reach so far.
 pub fn back_from(at: usize, back: usize) -> usize
     ensures { result ≡ at - back }
 {
-    if at < back {
-        return 0;
-    }
-    at - back
+    at.saturating_sub(back)
 }
 
 // The plan of a file that is long enough for a trailer.

@@ -1,6 +1,6 @@
 -- The outcome of the checks by the documents' numbers; and which number and values each case of the code's enums stands for.
 -- Assumes nothing.
-use Rattle.std.specs.Prelude.{ℕ, Bool, true, false, List, [], ◌∷◌, eqb, if◌then◌else◌}
+use Rattle.std.specs.Prelude.{ℕ, Bool, true, false, List, [], ◌∷◌, eqb, if◌then◌else◌, Result, Ok, Err}
 use Rattle.spec.specs.declared.Refusal.{Refusal}
 use Rattle.spec.specs.declared.Refusal.TheVariants.{
   Mark,
@@ -19,8 +19,6 @@ use Rattle.spec.specs.declared.Refusal.TheVariants.{
   Overlap,
   Batch,
 }
-use Rattle.spec.specs.declared.Verdict.{Verdict}
-use Rattle.spec.specs.declared.Verdict.TheVariants.{Accepted, Refused}
 
 -- accepted; or refused with a number and the values beside it (for 7 the byte offset, for the others none)
 pub data Outcome : Type 0 where
@@ -83,6 +81,7 @@ offset_of Batch = 0
 abbrev pub values_of : Refusal → List ℕ
 values_of r = if eqb (number r) 7 then offset_of r ∷ [] else []
 
-abbrev pub numbered : Verdict → Outcome
-numbered Accepted = accepted
-numbered (Refused r) = refused (number r) (values_of r)
+-- a call that gives a value is accepted, whatever the value
+abbrev pub numbered : {A : Type 0} → Result A Refusal → Outcome
+numbered (Ok x) = accepted
+numbered (Err r) = refused (number r) (values_of r)

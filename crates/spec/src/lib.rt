@@ -4,15 +4,15 @@
 ghost use Rattle.std.specs.Prelude.{◌≡◌};
 ghost use Rattle.spec.specs.Checks.{judged};
 ghost use Rattle.spec.specs.Frame.{new_settings};
-ghost use Rattle.spec.specs.Refusal.{number, offset_of, numbered, fires};
+ghost use Rattle.spec.specs.Refusal.{number, offset_of};
 ghost use Rattle.spec.specs.Walk.{answer_number, by_blocks, shifts_to};
 
 // A level index counts temperature steps. The value of a pixel that has no reading (document 02) is none.
-#[derive(Clone, Copy)]
+#[derive(Clone, Copy, Debug, PartialEq, Eq, PartialOrd, Ord)]
 pub struct Level(pub u16);
 
 // A guide index counts brightness steps.
-#[derive(Clone, Copy)]
+#[derive(Clone, Copy, Debug, PartialEq, Eq, PartialOrd, Ord)]
 pub struct Guide(pub u16);
 
 // A frame's settings, as its trailer has them: kind 1 weighs by a table, kind 2 by the guided formula.
@@ -79,7 +79,7 @@ pub struct Plan {
 }
 
 // Why a call refuses, in the order of the checks; specs/Refusal.antt has the documents' number of each.
-#[derive(Clone, Copy)]
+#[derive(Clone, Copy, Debug, PartialEq, Eq)]
 pub enum Refusal {
     Mark,
     Size,
@@ -102,15 +102,8 @@ pub enum Refusal {
     Batch,
 }
 
-// What the checks say.
-#[derive(Clone, Copy)]
-pub enum Verdict {
-    Accepted,
-    Refused(Refusal),
-}
-
 // The ways of counting: document 01's 1, 2 and 3, and document 02's 4.
-#[derive(Clone, Copy)]
+#[derive(Clone, Copy, Debug, PartialEq, Eq)]
 pub enum Way {
     Joint,
     Columns,
@@ -128,7 +121,7 @@ const BLOCK_OF_SHIFTS: u64 = BLOCK as u64;
 
 // Why a window has its answer (document 02): the formula of a window that is not steady is negative at one end of the guides, 0 or M - 1; a window
 // with no reading is empty.
-#[derive(Clone, Copy)]
+#[derive(Clone, Copy, Debug, PartialEq, Eq)]
 pub enum Cause {
     Ordinary,
     Hollow,
@@ -159,7 +152,7 @@ pub struct Room {
 }
 
 // Where a byte of a walk's list leads: to a column and a row, or nowhere, with the mark that answers it.
-#[derive(Clone, Copy)]
+#[derive(Clone, Copy, Debug, PartialEq, Eq)]
 pub enum Move {
     To(usize, usize),
     Nowhere(u16),
@@ -181,16 +174,14 @@ pub const NO_READING: u16 = 65535;
 pub fn judged(values: bool, number: u16) -> u16
     ensures { result ≡ judged values number }
 {
-    if values {
-        if number == NO_READING {
-            return 0;
-        }
+    if values && number == NO_READING {
+        return 0;
     }
     number
 }
 
 // What a walk answers: a window's level, that the window has no reading, or the mark of a byte that moves nothing.
-#[derive(Clone, Copy)]
+#[derive(Clone, Copy, Debug, PartialEq, Eq)]
 pub enum Answer {
     Level(Level),
     NoReading,
@@ -201,12 +192,7 @@ pub enum Answer {
 pub fn by_blocks(way: Way) -> bool
     ensures { result ≡ by_blocks way }
 {
-    match way {
-        Way::Joint => false,
-        Way::Columns => false,
-        Way::Chain => false,
-        Way::Coarse => true,
-    }
+    way == Way::Coarse
 }
 
 // The shifts to a level, with the cut point before it.
@@ -218,74 +204,53 @@ pub fn shifts_to(blocks: bool, level: Level, cut: Level) -> u64
     if blocks {
         return m / BLOCK_OF_SHIFTS + m % BLOCK_OF_SHIFTS;
     }
-    if m < c {
-        return c - m;
-    }
-    m - c
+    m.abs_diff(c)
 }
 
 // The number that an answer is lent as.
-pub fn answer_number(answer: Answer) -> u16
-    ensures { result ≡ answer_number answer }
-{
-    match answer {
-        Answer::Level(level) => level.0,
-        Answer::NoReading => NO_READING,
-        Answer::Mark(mark) => mark,
+impl From<Answer> for u16 {
+    ghost from_gives = { λ answer number. number ≡ answer_number answer };
+
+    fn from(answer: Answer) -> u16 {
+        match answer {
+            Answer::Level(level) => level.0,
+            Answer::NoReading => NO_READING,
+            Answer::Mark(mark) => mark,
+        }
     }
 }
 
-// The documents' number of a refusal, and the byte offset beside number 7 (0 for the others).
-pub fn number_of(refusal: Refusal) -> u8
-    ensures { result ≡ number refusal }
-{
-    match refusal {
-        Refusal::Mark => 1,
-        Refusal::Size => 2,
-        Refusal::Counts => 3,
-        Refusal::Kind => 4,
-        Refusal::Radius => 5,
-        Refusal::Distance => 6,
-        Refusal::Contents(_) => 7,
-        Refusal::Way => 8,
-        Refusal::Start => 9,
-        Refusal::Moves => 10,
-        Refusal::Room => 11,
-        Refusal::Program => 12,
-        Refusal::Upper => 13,
-        Refusal::Overlap => 14,
-        Refusal::Batch => 15,
+// The documents' number of a refusal.
+impl From<Refusal> for u8 {
+    ghost from_gives = { λ refusal n. n ≡ number refusal };
+
+    fn from(refusal: Refusal) -> u8 {
+        match refusal {
+            Refusal::Mark => 1,
+            Refusal::Size => 2,
+            Refusal::Counts => 3,
+            Refusal::Kind => 4,
+            Refusal::Radius => 5,
+            Refusal::Distance => 6,
+            Refusal::Contents(_) => 7,
+            Refusal::Way => 8,
+            Refusal::Start => 9,
+            Refusal::Moves => 10,
+            Refusal::Room => 11,
+            Refusal::Program => 12,
+            Refusal::Upper => 13,
+            Refusal::Overlap => 14,
+            Refusal::Batch => 15,
+        }
     }
 }
 
+// The byte offset beside number 7 (0 for the others).
 pub fn offset_of(refusal: Refusal) -> usize
     ensures { result ≡ offset_of refusal }
 {
     match refusal {
         Refusal::Contents(offset) => offset,
-        Refusal::Mark => 0,
-        Refusal::Size => 0,
-        Refusal::Counts => 0,
-        Refusal::Kind => 0,
-        Refusal::Radius => 0,
-        Refusal::Distance => 0,
-        Refusal::Way => 0,
-        Refusal::Start => 0,
-        Refusal::Moves => 0,
-        Refusal::Room => 0,
-        Refusal::Program => 0,
-        Refusal::Upper => 0,
-        Refusal::Overlap => 0,
-        Refusal::Batch => 0,
-    }
-}
-
-// Whether a verdict is a refusal.
-pub fn stops(v: Verdict) -> bool
-    ensures { result ≡ fires (numbered v) }
-{
-    match v {
-        Verdict::Accepted => false,
-        Verdict::Refused(_) => true,
+        _ => 0,
     }
 }

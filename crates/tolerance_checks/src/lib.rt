@@ -7,20 +7,18 @@ ghost use Rattle.spec.specs.Checks.{Planned};
 ghost use Rattle.spec.specs.Tolerance.{bad_span, bad_upper, tolerance_checks};
 
 use checks_room::short;
-use spec::{NO_READING, Plan, Refusal, Room, Verdict};
+use spec::{NO_READING, Plan, Refusal, Room};
 use window::pixel;
 
 // A reading and its upper level that do not go together.
+#[tactic(auto, unfolding(spec::specs::Tolerance::bad_span))]
 fn bad_span(levels: usize, reading: u16, upper: u16) -> bool
     ensures { result ≡ bad_span levels reading upper }
 {
     if reading == NO_READING {
         return upper != NO_READING;
     }
-    if upper < reading {
-        return true;
-    }
-    levels <= upper as usize
+    upper < reading || levels <= upper as usize
 }
 
 // Check 13: the plane of upper levels, against the file's readings.
@@ -28,22 +26,19 @@ pub fn bad_upper(file: &[u8], plan: Plan, upper: &[u16]) -> bool
     requires { Planned file.now plan }
     ensures { result ≡ bad_upper file.now upper.now }
 {
-    let n = plan.width * plan.height;
-    if upper.len() != n {
+    if upper.len() != plan.width * plan.height {
         return true;
     }
-    let mut q = 0;
-    while q < n {
-        let reading = pixel::value_at(file, plan, q);
-        if bad_span(plan.levels, reading, upper[q]) {
+    for (q, most) in upper.iter().enumerate() {
+        if bad_span(plan.levels, pixel::value_at(file, plan, q), *most) {
             return true;
         }
-        q += 1;
     }
     false
 }
 
 // Whether the call is refused, where it is lent so much of way 1's stores and two outputs of so many numbers.
+#[tactic(auto, unfolding(spec::specs::Tolerance::tolerance_checks, spec::specs::Frame::plan_of))]
 pub fn tolerance_verdict(
     file: &[u8],
     plan: Plan,
@@ -51,22 +46,19 @@ pub fn tolerance_verdict(
     have: Room,
     least: usize,
     greatest: usize,
-) -> Verdict
+) -> Result<(), Refusal>
     requires { Planned file.now plan }
     ensures { numbered result ≡ tolerance_checks file.now upper.now have least greatest }
 {
     if plan.kind == 2 {
-        return Verdict::Refused(Refusal::Way);
+        return Err(Refusal::Way);
     }
     if bad_upper(file, plan, upper) {
-        return Verdict::Refused(Refusal::Upper);
+        return Err(Refusal::Upper);
     }
     let n = plan.width * plan.height;
-    if short(plan, 1, have, least, n) {
-        return Verdict::Refused(Refusal::Room);
+    if short(plan, 1, have, least, n) || greatest < n {
+        return Err(Refusal::Room);
     }
-    if greatest < n {
-        return Verdict::Refused(Refusal::Room);
-    }
-    Verdict::Accepted
+    Ok(())
 }

@@ -7,8 +7,5 @@ use Rattle.spec.proofs.shifts_to.Goals as goal
 pub returns-then-blocks : goal.returns-then-blocks
 returns-then-blocks c = rw c.if-blocks.true refl
 
-pub returns-then-m-c : goal.returns-then-m-c
-returns-then-m-c c = rw c.if-blocks.false (omega (arith, c.if-m-c.true))
-
 pub returns : goal.returns
-returns c = rw c.if-blocks.false (omega (arith, c.if-m-c.false))
+returns c = rw c.if-blocks.false (omega (arith, c.abs_diff.ensures))
