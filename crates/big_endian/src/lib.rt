@@ -6,20 +6,20 @@ ghost use Rattle.spec.specs.Bytes.{be16, be32};
 
 use spec::Guide;
 
+#[tactic(auto, unfolding(spec::specs::Bytes::be16))]
 pub fn be16(b: &[u8], at: usize) -> u16
     requires { at + 1 < length b.now }
     ensures { result ≡ be16 b.now at }
 {
-    let high = b[at];
-    let low = b[at + 1];
-    (high as u16) * 256 + (low as u16)
+    u16::from_be_bytes([b[at], b[at + 1]])
 }
 
+#[tactic(auto, unfolding(spec::specs::Bytes::be32, spec::specs::Bytes::be16))]
 pub fn be32(b: &[u8], at: usize) -> usize
     requires { at + 3 < length b.now }
     ensures { (result ≡ be32 b.now at) × (result < 4294967296) }
 {
-    (be16(b, at) as usize) * 65536 + (be16(b, at + 2) as usize)
+    u32::from_be_bytes([b[at], b[at + 1], b[at + 2], b[at + 3]]) as usize
 }
 
 // The guide that begins at a byte.

@@ -1,23 +1,23 @@
 -- Where the parts of a file lie whose trailer passes; the checks of the two calls as the code meets them; and from these to the contracts.
 -- Assumes nothing.
 use mathlib.Core.Path.{◌≡◌, refl, sym, ap, ◌∙◌, subst}
-use mathlib.Core.Bool.{Bool, true, false, true≢false}
-use mathlib.Core.List.{List, [], ◌++◌}
+use mathlib.Core.Bool.{Bool, true, true≢false}
+use mathlib.Core.List.{List, ◌++◌}
 use Prim.Native.Nat.{ℕ, ◌+◌, ◌*◌, ◌≤◌, ◌<◌}
 use native.Mathlib.Nat.{zero-add}
 use native.Mathlib.Omega.{arith}
 use lib.Dec.{ltb}
 use lib.ListN.{length, take, drop}
 use lib.Seq.{sets, sets-eq}
-use borrow.Author.Tests.{lt-ltb, le-ltb}
+use borrow.Author.Tests.{le-ltb}
 use Rattle.spec.specs.declared.Plan.{Plan}
-use Rattle.spec.specs.declared.Verdict.{Verdict}
-use Rattle.spec.specs.declared.Verdict.TheVariants.{Accepted}
+use Rattle.spec.specs.declared.Refusal.{Refusal}
+use Rattle.std.specs.Prelude.{Result, Ok, Err}
 use Rattle.spec.specs.Refusal.{Outcome, accepted, refused, ◌▷◌, refuse, fires, numbered}
 use Rattle.spec.specs.Frame.{trailer_at, trailer_of, plan_of, value_part}
 use Rattle.spec.specs.Checks.{contents, trailer_outcome}
 use Rattle.spec.specs.Writer.{stored}
-use Rattle.spec.specs.BytePlanes.{split_plane, joined_plane, with_plane, split_file, joined_file, overlap, bad_overlap, split_outcome, join_outcome}
+use Rattle.spec.specs.BytePlanes.{split_plane, joined_plane, with_plane, split_file, joined_file, bad_overlap, split_outcome, join_outcome}
 use Rattle.spec.proofs.Checks.{trailer-passed, both-accepted}
 use Rattle.spec.proofs.Outcomes.{stopped, past}
 use Rattle.spec.proofs.BytePlanes.{file-split-long, file-joined-long}
@@ -43,28 +43,6 @@ fit-plan b e =
 pub parts-fit : {b : List ℕ} {plan : Plan} → trailer_outcome b ≡ accepted → plan ≡ plan_of b → PartsFit b plan
 parts-fit {b} e p = subst (PartsFit b) (sym p) (fit-plan b e)
 
--- ---- check 14, after 1 to 6
-module _ (b : List ℕ) {plan : Plan} (p : plan ≡ plan_of b) (ok : trailer_outcome b ≡ accepted) where
-  pub guide-meets : {f : Bool}
-      → f ≡ overlap plan.value (2 * (plan.width * plan.height)) plan.guide (2 * (plan.width * plan.height)) → f ≡ true
-      → refused 14 [] ≡ (trailer_outcome b ▷ refuse 14 (bad_overlap (plan_of b)))
-  unfolding bad_overlap
-  guide-meets e t = past _ _ ok (rw (sym p) (rw (sym e ∙ t) refl))
-
-  pub table_meets : {f g : Bool}
-      → f ≡ overlap plan.value (2 * (plan.width * plan.height)) plan.guide (2 * (plan.width * plan.height)) → f ≡ false
-      → g ≡ overlap plan.value (2 * (plan.width * plan.height)) plan.table (2 * plan.weights) → g ≡ true
-      → refused 14 [] ≡ (trailer_outcome b ▷ refuse 14 (bad_overlap (plan_of b)))
-  unfolding bad_overlap
-  table_meets e t h u = past _ _ ok (rw (sym p) (rw (sym e ∙ t, sym h ∙ u) refl))
-
-  pub none-meets : {f g : Bool}
-      → f ≡ overlap plan.value (2 * (plan.width * plan.height)) plan.guide (2 * (plan.width * plan.height)) → f ≡ false
-      → g ≡ overlap plan.value (2 * (plan.width * plan.height)) plan.table (2 * plan.weights) → g ≡ false
-      → accepted ≡ (trailer_outcome b ▷ refuse 14 (bad_overlap (plan_of b)))
-  unfolding bad_overlap
-  none-meets e t h u = past _ _ ok (rw (sym p) (rw (sym e ∙ t, sym h ∙ u) refl))
-
 -- ---- the rest of the checks
 assoc : (u v w : Outcome) → ((u ▷ v) ▷ w) ≡ (u ▷ v ▷ w)
 assoc accepted v w = refl
@@ -75,6 +53,10 @@ parts b = trailer_outcome b ▷ refuse 14 (bad_overlap (plan_of b))
 
 pub trailer-of-parts : (b : List ℕ) → (trailer_outcome b ▷ refuse 14 (bad_overlap (plan_of b))) ≡ accepted → trailer_outcome b ≡ accepted
 trailer-of-parts b e = (both-accepted (trailer_outcome b) _ e).0
+
+-- checks 1 to 6 and 14 are passed
+pub fit-by-parts : {b : List ℕ} {plan : Plan} → accepted ≡ parts b → plan ≡ plan_of b → PartsFit b plan
+fit-by-parts {b} e p = parts-fit (trailer-of-parts b (sym e)) p
 
 module _ (b : List ℕ) (room : ℕ) where
   split-by-parts : split_outcome b room ≡ (parts b ▷ contents b (plan_of b) ▷ refuse 11 (ltb room (length b)))
@@ -92,8 +74,9 @@ module _ (b : List ℕ) (room : ℕ) where
       → u ≡ split_outcome b room
   split-contents-stop p e g t = past _ _ p (stopped _ _ e g t) ∙ sym split-by-parts
 
-  pub split-room-stops : parts b ≡ accepted → contents b (plan_of b) ≡ accepted → room < length b → refused 11 [] ≡ split_outcome b room
-  split-room-stops p c l = past _ _ p (past _ _ c (sym (ap (refuse 11) (lt-ltb _ _ l)))) ∙ sym split-by-parts
+  pub split-room-stops : {u : Outcome} → parts b ≡ accepted → contents b (plan_of b) ≡ accepted → u ≡ refuse 11 (ltb room (length b))
+      → u ≡ split_outcome b room
+  split-room-stops p c e = past _ _ p (past _ _ c e) ∙ sym split-by-parts
 
   pub split-passes : parts b ≡ accepted → contents b (plan_of b) ≡ accepted → length b ≤ room → accepted ≡ split_outcome b room
   split-passes p c l = past _ _ p (past _ _ c (sym (ap (refuse 11) (le-ltb _ _ l)))) ∙ sym split-by-parts
@@ -101,8 +84,8 @@ module _ (b : List ℕ) (room : ℕ) where
   pub join-parts-stop : {u : Outcome} {f : Bool} → u ≡ parts b → f ≡ fires u → f ≡ true → u ≡ join_outcome b room
   join-parts-stop e g t = stopped _ _ e g t ∙ sym join-by-parts
 
-  pub join-room-stops : parts b ≡ accepted → room < length b → refused 11 [] ≡ join_outcome b room
-  join-room-stops p l = past _ _ p (sym (ap (refuse 11) (lt-ltb _ _ l))) ∙ sym join-by-parts
+  pub join-room-stops : {u : Outcome} → parts b ≡ accepted → u ≡ refuse 11 (ltb room (length b)) → u ≡ join_outcome b room
+  join-room-stops p e = past _ _ p e ∙ sym join-by-parts
 
   pub join-passes : parts b ≡ accepted → length b ≤ room → accepted ≡ join_outcome b room
   join-passes p l = past _ _ p (sym (ap (refuse 11) (le-ltb _ _ l))) ∙ sym join-by-parts
@@ -117,16 +100,26 @@ saved new old e h f =
     f ∙ sets-eq new old 0 (omega arith) ∙ ap (λ (k : ℕ). new ++ drop k old) (zero-add (length new)) ∙ ap (λ (x : Outcome). stored x new old) e
 
 module _ (b old : List ℕ) where
-  pub splits-refused : (r : Verdict) → numbered r ≡ split_outcome b (length old) → fires (numbered r) ≡ true → Splits b old r old
+  pub splits-refused : (r : Result (Unit {0}) Refusal) → numbered r ≡ split_outcome b (length old) → fires (numbered r) ≡ true → Splits b old r old
   splits-refused r e f = record { verdict = e; output = kept (split_outcome b (length old)) _ _ (sym (ap fires e) ∙ f) }
 
-  pub joins-refused : (r : Verdict) → numbered r ≡ join_outcome b (length old) → fires (numbered r) ≡ true → Joins b old r old
+  pub joins-refused : (r : Result (Unit {0}) Refusal) → numbered r ≡ join_outcome b (length old) → fires (numbered r) ≡ true → Joins b old r old
   joins-refused r e f = record { verdict = e; output = kept (join_outcome b (length old)) _ _ (sym (ap fires e) ∙ f) }
+
+  -- refused by the parts, by the contents
+  pub splits-parts-refused : {r : Refusal} → numbered {A = Plan} (Err r) ≡ parts b → Splits b old (Err r) old
+  splits-parts-refused {r} e = splits-refused (Err r) (split-parts-stop b (length old) e refl refl) refl
+
+  pub joins-parts-refused : {r : Refusal} → numbered {A = Plan} (Err r) ≡ parts b → Joins b old (Err r) old
+  joins-parts-refused {r} e = joins-refused (Err r) (join-parts-stop b (length old) e refl refl) refl
+
+  pub splits-contents-refused : {r : Refusal} → accepted ≡ parts b → numbered {A = Plan} (Err r) ≡ contents b (plan_of b) → Splits b old (Err r) old
+  splits-contents-refused {r} p e = splits-refused (Err r) (split-contents-stop b (length old) (sym p) e refl refl) refl
 
 module _ {b old : List ℕ} {plan : Plan} (p : plan ≡ plan_of b) (ok : trailer_outcome b ≡ accepted) (room : length b ≤ length old) where
   pub splits-done : {new : List ℕ} → accepted ≡ split_outcome b (length old)
       → new ≡ sets old 0 (take plan.value b ++ split_plane (take (2 * (plan.width * plan.height)) (drop plan.value b))
-      ++ drop (plan.value + 2 * (plan.width * plan.height)) b) → Splits b old Accepted new
+      ++ drop (plan.value + 2 * (plan.width * plan.height)) b) → Splits b old (Ok tt) new
   unfolding split_file with_plane value_part plan_of
   splits-done e f =
       record {
@@ -137,7 +130,7 @@ module _ {b old : List ℕ} {plan : Plan} (p : plan ≡ plan_of b) (ok : trailer
   pub joins-done : {new : List ℕ} → accepted ≡ join_outcome b (length old)
       → new ≡ sets old 0 (take plan.value b
       ++ joined_plane (plan.width * plan.height) (take (2 * (plan.width * plan.height)) (drop plan.value b))
-      ++ drop (plan.value + 2 * (plan.width * plan.height)) b) → Joins b old Accepted new
+      ++ drop (plan.value + 2 * (plan.width * plan.height)) b) → Joins b old (Ok tt) new
   unfolding joined_file with_plane value_part plan_of
   joins-done e f =
       record {

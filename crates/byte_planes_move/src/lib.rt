@@ -14,11 +14,7 @@ fn copy(file: &[u8], from: usize, to: usize, output: &mut [u8])
     requires { (from ≤ to) × (to ≤ length file.now) × (to ≤ length output.old) }
     ensures { output.new ≡ sets output.old from (take (to - from) (drop from file.now)) }
 {
-    let mut i = from;
-    while i < to {
-        output[i] = file[i];
-        i += 1;
-    }
+    output[from..to].copy_from_slice(&file[from..to]);
 }
 
 // The bytes that are taken together, out of a short array: the compiler takes bytes that are two apart one by one, but two-byte numbers many at a
@@ -30,37 +26,26 @@ fn put_run(file: &[u8], from: usize, at: usize, output: &mut [u8])
     requires { (from + 2 * 64 ≤ length file.now) × (at + 64 ≤ length output.old) }
     ensures { output.new ≡ sets output.old at (every_other file.now from 64) }
 {
-    let mut part = [0u16; 64];
+    let mut part = [0; RUN];
     copy_low_first(file, from, RUN, &mut part);
-    let mut j = 0;
-    while j < RUN {
+    // By place, which the edit run_to_one_place changes.
+    for j in 0..RUN {
         output[at + j] = (part[j] % 256) as u8;
-        j += 1;
     }
 }
 
-// As many whole runs as n bytes have; the number of these bytes.
-fn put_runs(file: &[u8], from: usize, n: usize, at: usize, output: &mut [u8]) -> usize
-    requires { (from + 2 * n ≤ length file.now) × (at + n ≤ length output.old) }
-    ensures { (result ≤ n) × (output.new ≡ sets output.old at (every_other file.now from result)) }
-{
-    let mut k = 0;
-    while RUN <= n - k {
-        put_run(file, from + 2 * k, at + k, output);
-        k += RUN;
-    }
-    k
-}
-
-// n bytes of the file, two apart, stored side by side.
+// n bytes of the file, two apart, stored side by side: whole runs, and the rest one by one.
 fn put_every_other(file: &[u8], from: usize, n: usize, at: usize, output: &mut [u8])
     requires { (from + 2 * n ≤ length file.now) × (at + n ≤ length output.old) }
     ensures { output.new ≡ sets output.old at (every_other file.now from n) }
 {
-    let mut q = put_runs(file, from, n, at, output);
-    while q < n {
+    let runs = n / RUN;
+    for run in 0..runs {
+        let k = RUN * run;
+        put_run(file, from + 2 * k, at + k, output);
+    }
+    for q in RUN * runs..n {
         output[at + q] = file[from + 2 * q];
-        q += 1;
     }
 }
 
@@ -79,12 +64,10 @@ fn join_plane(file: &[u8], at: usize, n: usize, output: &mut [u8])
     ensures { output.new ≡ sets output.old at (joined_plane n (take (2 * n) (drop at file.now))) }
 {
     let low = at + n;
-    let mut q = 0;
-    while q < n {
+    for q in 0..n {
         let number = at + 2 * q;
         output[number] = file[at + q];
         output[number + 1] = file[low + q];
-        q += 1;
     }
 }
 

@@ -1,31 +1,33 @@
 -- Laws of numbers below a limit, of any numbers: one more of which the largest is known, and so many more; and numbers with bits of others.
 -- Assumes nothing.
-use mathlib.Core.Path.{◌≡◌, refl, sym, ap, ◌∙◌, subst}
-use mathlib.Core.Logic.{⊎_elim}
+use mathlib.Core.Path.{◌≡◌, refl, subst}
 use mathlib.Core.List.{List}
-use Prim.Native.Nat.{ℕ, ◌+◌, ◌-◌, ◌*◌, ◌/◌, ◌%◌, ◌≤◌, ◌<◌}
+use Prim.Native.Nat.{ℕ, ◌+◌, ◌*◌, ◌/◌, ◌%◌, ◌≤◌, ◌<◌}
 use native.Mathlib.Omega.{arith}
 use lib.Bits.{bit_or, or_add_and, and_le_l, and_le_r, or_mod, or_shr}
 use borrow.Author.Count.{below_more}
 use mathlib.Core.Bool.{Bool, true, false}
+use Rattle.std.proofs.lemmas.Bool.Decides.{nat_tests}
 use Rattle.spec.specs.Bytes.{AllBytes}
 use Rattle.spec.specs.Checks.{judged}
-use Rattle.spec.specs.Frame.{no_reading}
-use Rattle.spec.proofs.Checks.{judged-same}
 use Rattle.big_endian_part.specs.Part.{low_first, exchanged}
-use Rattle.ints.specs.Order.{eq-or-ne, lt-or-le}
+use Rattle.ints.specs.Order.{lt-or-le}
+use mathlib.Core.Logic.{⊎_elim}
+use Prim.Native.Nat.{◌-◌}
 use Rattle.frame_below.specs.Below.{Below}
 
 pub most-next : (number : ℕ → ℕ) {j most next : ℕ} → Below number j (most + 1) → most ≤ next → number j ≤ next → Below number (j + 1) (next + 1)
 most-next number {j} {most} {next} b h l = below_more (λ (i : ℕ). number i < next + 1) j (λ i less. omega (arith, b i less)) (omega arith)
 
-pub run-below : (number : ℕ → ℕ) (k m : ℕ) {limit : ℕ} → Below number k limit → Below (λ j. number (k + j)) m limit → Below number (k + m) limit
-run-below number k m {limit} before run j l =
+-- a run of 64 behind so many runs
+pub run-below : (number : ℕ → ℕ) (run : ℕ) {limit : ℕ} → Below number (64 * run) limit → Below (λ j. number (64 * run + j)) 64 limit →
+    Below number (64 * (run + 1)) limit
+run-below number run {limit} before here j l =
     ⊎_elim (λ less. before j less)
     (λ past.
-    let place : k + (j - k) ≡ j = omega arith in
-    subst (λ (i : ℕ). number i < limit) place (run (j - k) (omega arith)))
-    (lt-or-le j k)
+    let place : 64 * run + (j - 64 * run) ≡ j = omega arith in
+    subst (λ (i : ℕ). number i < limit) place (here (j - 64 * run) (omega arith)))
+    (lt-or-le j (64 * run))
 
 -- ---- the bits of two numbers together: no byte of either is larger than theirs, so neither is with its bytes exchanged
 or_left : (a b : ℕ) → a ≤ bit_or a b
@@ -49,17 +51,7 @@ unfolding low_first
 low-first-small b bytes start q = omega (arith, bytes (start + 2 * q), bytes (start + 2 * q + 1))
 
 -- no reading has the same two bytes, so a number may be judged before its bytes are exchanged
-exchanged-none : (n : ℕ) → n < 65536 → exchanged n ≡ no_reading → n ≡ no_reading
-unfolding exchanged
-exchanged-none n h e = omega arith
-
 pub judged-exchanged : (values : Bool) (n : ℕ) → n < 65536 → judged values (exchanged n) ≡ exchanged (judged values n)
 unfolding exchanged
 judged-exchanged false n h = refl
-judged-exchanged true n h = ⊎_elim dead live (eq-or-ne n no_reading)
-  where
-    dead : n ≡ no_reading → judged true (exchanged n) ≡ exchanged (judged true n)
-    dead e = rw e refl
-
-    live : (n ≡ no_reading → ⊥) → judged true (exchanged n) ≡ exchanged (judged true n)
-    live other = judged-same true (exchanged n) (λ e. other (exchanged-none n h e)) ∙ ap exchanged (sym (judged-same true n other))
+judged-exchanged true n h = grind (arith, nat_tests)

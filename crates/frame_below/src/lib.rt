@@ -14,35 +14,31 @@ use spec::judged;
 // The numbers that are looked at together.
 const RUN: usize = 64;
 
-// No number of the 64 from a place on is judged larger.
-fn most_of_list(list: &[u16], values: bool, from: usize) -> u16
-    requires { from + 64 ≤ length list.now }
-    ensures { Below (λ j. judged values (get_or list.now (from + j) 0)) 64 (result + 1) }
+// No number is judged larger. This is a loop because the compiler takes the numbers of a fold one by one, and its number is said to be a u16 so that
+// `max` is the u16's own: host/local_arrays cannot follow that of `Ord`.
+fn most(numbers: &[u16], values: bool) -> u16
+    ensures { Below (λ j. judged values (get_or numbers.now j 0)) (length numbers.now) (result + 1) }
 {
-    let mut most = 0;
-    let mut j = 0;
-    while j < RUN {
-        let number = judged(values, list[from + j]);
-        if most < number {
-            most = number;
-        }
-        j += 1;
+    let mut most = 0u16;
+    for number in numbers {
+        most = most.max(judged(values, *number));
     }
     most
 }
 
-// So many numbers of a list, from its first on, are judged below the limit.
+// So many numbers of a list, from its first on, are judged below the limit. No closure here: host/local_arrays follows every call that the writer
+// leads to, and cannot follow one of a closure, as `find` or a search shared with file_below would make.
 pub fn list_below(list: &[u16], values: bool, limit: u16) -> usize
     ensures { (result ≤ length list.now) × Below (λ j. judged values (get_or list.now j 0)) result limit }
 {
-    let mut k = 0;
-    while RUN <= list.len() - k {
-        if limit <= most_of_list(list, values, k) {
+    let runs = list.len() / RUN;
+    for run in 0..runs {
+        let k = RUN * run;
+        if limit <= most(&list[k..k + RUN], values) {
             return k;
         }
-        k += RUN;
     }
-    k
+    RUN * runs
 }
 
 // The same of 64 numbers of a file, the first of which begins at an offset.
@@ -50,18 +46,12 @@ fn most_of_file(file: &[u8], values: bool, offset: usize) -> u16
     requires { offset + 2 * 64 ≤ length file.now }
     ensures { Below (λ j. judged values (plane file.now offset j)) 64 (result + 1) }
 {
-    let mut part = [0u16; 64];
+    let mut part = [0; RUN];
     copy_low_first(file, offset, RUN, &mut part);
-    let mut most = 0;
-    let mut j = 0;
-    while j < RUN {
-        let number = judged(values, exchanged(part[j]));
-        if most < number {
-            most = number;
-        }
-        j += 1;
+    for number in part.iter_mut() {
+        *number = exchanged(*number);
     }
-    most
+    most(&part, values)
 }
 
 // No number of the 64 is judged larger: neither of its bytes has a bit that the answer's byte lacks. Only the answer's bytes are exchanged, so this
@@ -70,13 +60,11 @@ fn bits_of_file(file: &[u8], values: bool, offset: usize) -> u16
     requires { offset + 2 * 64 ≤ length file.now }
     ensures { Below (λ j. judged values (plane file.now offset j)) 64 (result + 1) }
 {
-    let mut numbers = [0u16; 64];
+    let mut numbers = [0; RUN];
     copy_low_first(file, offset, RUN, &mut numbers);
-    let mut bits = 0u16;
-    let mut j = 0;
-    while j < RUN {
-        bits = bits | judged(values, numbers[j]);
-        j += 1;
+    let mut bits = 0;
+    for number in numbers {
+        bits |= judged(values, number);
     }
     exchanged(bits)
 }
@@ -86,13 +74,8 @@ fn may_reach(file: &[u8], values: bool, offset: usize, limit: usize) -> bool
     requires { offset + 2 * 64 ≤ length file.now }
     ensures { result ≡ false → Below (λ j. judged values (plane file.now offset j)) 64 limit }
 {
-    if (bits_of_file(file, values, offset) as usize) < limit {
-        return false;
-    }
-    if (most_of_file(file, values, offset) as usize) < limit {
-        return false;
-    }
-    true
+    limit <= bits_of_file(file, values, offset) as usize
+        && limit <= most_of_file(file, values, offset) as usize
 }
 
 // So many of the n numbers from an offset on.
@@ -100,12 +83,12 @@ pub fn file_below(file: &[u8], values: bool, offset: usize, n: usize, limit: usi
     requires { offset + 2 * n ≤ length file.now }
     ensures { (result ≤ n) × Below (λ j. judged values (plane file.now offset j)) result limit }
 {
-    let mut k = 0;
-    while RUN <= n - k {
+    let runs = n / RUN;
+    for run in 0..runs {
+        let k = RUN * run;
         if may_reach(file, values, offset + 2 * k, limit) {
             return k;
         }
-        k += RUN;
     }
-    k
+    RUN * runs
 }

@@ -2,30 +2,20 @@
 -- of its own, so that a store at another place makes that equation false. Assumes nothing.
 use mathlib.Core.Path.{◌≡◌, refl, sym, ap, ◌∙◌}
 use mathlib.Core.List.{List, [], ◌∷◌, ◌++◌, append_assoc, append-nil}
-use Prim.Native.Nat.{ℕ, ◌+◌, ◌-◌, ◌*◌, ◌/◌, ◌%◌, ◌≤◌, ◌<◌}
+use Prim.Native.Nat.{ℕ, ◌+◌, ◌-◌, ◌*◌, ◌≤◌, ◌<◌}
 use native.Mathlib.Nat.{zero-add}
 use native.Mathlib.Numerals.{add-one}
 use native.Mathlib.Omega.{arith}
 use lib.ListN.{length, get_or, take, drop, length-drop, drop_of_length-le}
 use lib.Seq.{sets, sets-eq, take-suc, take_all, drop-drop, length-take-le}
 use Rattle.spec.proofs.Lists.{sets-append}
-use Rattle.spec.specs.Bytes.{to16, to32, all16}
+use Rattle.spec.specs.Bytes.{to16, all16}
 
 -- a run of stores, and then another where it ended
 pub placed : (l : List ℕ) (from : ℕ) (vs ws : List ℕ) {at : ℕ} {prev out : List ℕ} → prev ≡ sets l from vs → out ≡ sets prev at ws
     → at ≡ from + length vs → out ≡ sets l from (vs ++ ws)
 placed l from vs ws {at} e f h =
     f ∙ ap (λ (x : List ℕ). sets x at ws) e ∙ ap (λ (j : ℕ). sets (sets l from vs) j ws) h ∙ sets-append vs ws l from
-
-pub pair-stored : (l : List ℕ) (at n : ℕ) {next : ℕ} {a b : List ℕ} → a ≡ sets l at (n / 256 ∷ []) → b ≡ sets a next (n % 256 ∷ [])
-    → next ≡ at + 1 → b ≡ sets l at (to16 n)
-unfolding to16
-pair-stored l at n e f h = placed l at (n / 256 ∷ []) (n % 256 ∷ []) e f h
-
-pub quad-stored : (l : List ℕ) (at n : ℕ) {next : ℕ} {a b : List ℕ} → a ≡ sets l at (to16 (n / 65536)) → b ≡ sets a next (to16 (n % 65536))
-    → next ≡ at + 2 → b ≡ sets l at (to32 n)
-unfolding to32 to16
-quad-stored l at n e f h = placed l at (to16 (n / 65536)) (to16 (n % 65536)) e f h
 
 -- a run into what lies from a place on, put back
 pub part-stored : (l : List ℕ) (at : ℕ) (vs : List ℕ) {part : List ℕ} → at + length vs ≤ length l
@@ -59,9 +49,6 @@ pub all-again : (l : List ℕ) (from k : ℕ) (list : List ℕ) {at : ℕ} {prev
     → prev ≡ sets l from (all16 (take k list)) → out ≡ sets prev at (to16 (get_or list k 0)) → at ≡ from + 2 * k
     → out ≡ sets l from (all16 (take (k + 1) list))
 all-again l from k list h e f place =
-    placed l from (all16 (take k list)) (to16 (get_or list k 0)) e f
-    (omega (arith, length-all16 (take k list), length-take-le k list (omega arith)))
-    ∙ ap (sets l from)
-    (sym
-    (ap (λ (j : ℕ). all16 (take j list)) (add-one k) ∙ ap all16 (take-suc list k 0 h) ∙ all16-append (take k list) (get_or list k 0 ∷ []) ∙ ap
-    (λ (z : List ℕ). all16 (take k list) ++ z) (all16-one (get_or list k 0))))
+    rw (add-one, take-suc list k 0 h, all16-append, all16-one)
+    (placed l from (all16 (take k list)) (to16 (get_or list k 0)) e f
+    (omega (arith, length-all16 (take k list), length-take-le k list (omega arith))))

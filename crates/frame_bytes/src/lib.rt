@@ -13,6 +13,8 @@ pub fn put8(out: &mut [u8], at: usize, b: u8)
     out[at] = b;
 }
 
+// Without `to_be_bytes`, whose array host/local_arrays would find in the writer.
+#[tactic(auto, unfolding(spec::specs::Bytes::to16))]
 pub fn put16(out: &mut [u8], at: usize, n: u16)
     requires { at + 2 ≤ length out.old }
     ensures { out.new ≡ sets out.old at (to16 n) }
@@ -21,6 +23,7 @@ pub fn put16(out: &mut [u8], at: usize, n: u16)
     put8(out, at + 1, (n % 256) as u8);
 }
 
+#[tactic(auto, unfolding(spec::specs::Bytes::to16, spec::specs::Bytes::to32))]
 pub fn put32(out: &mut [u8], at: usize, n: usize)
     requires { (at + 4 ≤ length out.old) × (n < 4294967296) }
     ensures { out.new ≡ sets out.old at (to32 n) }
@@ -34,9 +37,7 @@ pub fn put_all(out: &mut [u8], at: usize, list: &[u16])
     requires { at + 2 * length list.now ≤ length out.old }
     ensures { out.new ≡ sets out.old at (all16 list.now) }
 {
-    let mut k = 0;
-    while k < list.len() {
-        put16(out, at + 2 * k, list[k]);
-        k += 1;
+    for (k, n) in list.iter().enumerate() {
+        put16(out, at + 2 * k, *n);
     }
 }

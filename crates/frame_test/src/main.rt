@@ -6,8 +6,7 @@ use big_endian::be16;
 use frame::open;
 use frame::open::Plane;
 use frame_weights::built_in;
-use frame_write::Written;
-use spec::{Guide, NO_READING, Settings, number_of, offset_of};
+use spec::{Guide, NO_READING, Refusal, Settings, offset_of};
 use std::io;
 
 fn text(rt: &HostRuntime, s: &str) -> io::Result<()> {
@@ -21,27 +20,27 @@ fn number(rt: &HostRuntime, n: usize) -> io::Result<()> {
 // The 16-bit numbers of a list of bytes.
 fn numbers(rt: &HostRuntime, name: &str, part: &[u8]) -> io::Result<()> {
     text(rt, name)?;
-    let mut k = 0;
-    while 1 < part.len() - k {
-        number(rt, be16(part, k) as usize)?;
-        k += 2;
+    for k in 0..part.len() / 2 {
+        number(rt, be16(part, 2 * k) as usize)?;
     }
     text(rt, "\n")
 }
 
 // Document 01's frame: 3 by 1, kind 2. There the first value is 5.
-fn sample(first: u16, out: &mut [u8]) -> Written {
-    let mut k = Settings::new();
-    k.width = 3;
-    k.height = 1;
-    k.levels = 8;
-    k.guides = 4;
-    k.radius = 1;
-    k.smoothing = 1;
+fn sample(first: u16, out: &mut [u8]) -> Result<usize, Refusal> {
+    let settings = Settings {
+        width: 3,
+        height: 1,
+        levels: 8,
+        guides: 4,
+        radius: 1,
+        smoothing: 1,
+        ..Settings::new()
+    };
     let values: [u16; 3] = [first, 1, 3];
     let guides: [u16; 3] = [0, 0, 2];
     let table: [u16; 0] = [];
-    frame_write::write(k, &values, &guides, &table, out)
+    frame_write::write(settings, &values, &guides, &table, out)
 }
 
 // The value of the first pixel; 0 where the file is refused, and so shows nothing.
@@ -74,15 +73,15 @@ fn weights(rt: &HostRuntime) -> io::Result<()> {
 }
 
 // What the writer answers.
-fn told(rt: &HostRuntime, answer: Written) -> io::Result<()> {
-    match answer {
-        Written::Length(n) => {
+fn told(rt: &HostRuntime, written: Result<usize, Refusal>) -> io::Result<()> {
+    match written {
+        Ok(n) => {
             text(rt, "length")?;
             number(rt, n)?;
         }
-        Written::Refused(e) => {
+        Err(e) => {
             text(rt, "refused")?;
-            number(rt, number_of(e) as usize)?;
+            number(rt, u8::from(e) as usize)?;
             number(rt, offset_of(e))?;
         }
     }

@@ -1,12 +1,7 @@
 -- Laws of the built-in constants: their rule at all entries by one computed test, and the weight of two guides by it. Assumes nothing.
-use mathlib.Core.Path.{◌≡◌, sym, ap, ◌∙◌}
-use mathlib.Core.Bool.{Bool}
-use mathlib.Core.List.{List}
-use Prim.Native.Nat.{ℕ, ◌+◌, ◌*◌, ◌/◌, ◌<◌}
+use Rattle.std.proofs.Common.{◌≡◌, sym, ap, ◌∙◌, Bool, List, ℕ, ◌+◌, ◌*◌, ◌/◌, ◌<◌, length, get_or, arith}
 use native.Mathlib.Nat.{div-eq_of_lt-le}
-use native.Mathlib.Omega.{arith}
 use lib.Dec.{T, leb, ltb, leb→le, ltb→lt}
-use lib.ListN.{length, get_or}
 use lib.Seq.{ext_get_or}
 use Rattle.spec.specs.Base.{distance}
 use Rattle.spec.specs.Frame.{built_in}
@@ -24,16 +19,14 @@ quotient d w t =
     let q = ltb 4096 ((w + 1) * (16 + d)) in
     sym (div-eq_of_lt-le (16 + d) (leb→le _ _ (both_left p q t)) (ltb→lt _ _ (both_right p q t)))
 
+-- docs/TRACE.md names this
 pub tested : {l : List ℕ} → length l ≡ 256 → T (every right 0 l) → l ≡ built_in_list
 unfolding built_in_list
 tested {l} n t =
     ext_get_or 0 l built_in_list (n ∙ sym (length-tabulate 256 _))
     (λ d h. quotient d _ (at right l t d h) ∙ sym (get_d_tabulate 256 _ d 0 (omega (arith, n, h))))
 
-pub by-rule : (f g d : ℕ) → d ≡ distance f g → 4096 / (16 + d) ≡ built_in f g
-unfolding built_in
-by-rule f g d e = ap (λ (n : ℕ). 4096 / (16 + n)) e
-
 pub built-entry : {l : List ℕ} (f g d : ℕ) → l ≡ built_in_list → d < 256 → d ≡ distance f g → get_or l d 0 ≡ built_in f g
-unfolding built_in_list
-built-entry f g d e h p = ap (λ (m : List ℕ). get_or m d 0) e ∙ get_d_tabulate 256 _ d 0 h ∙ by-rule f g d p
+unfolding built_in_list built_in
+built-entry f g d e h p =
+    ap (λ (m : List ℕ). get_or m d 0) e ∙ get_d_tabulate 256 _ d 0 h ∙ ap (λ (n : ℕ). 4096 / (16 + n)) p

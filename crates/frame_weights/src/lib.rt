@@ -34,20 +34,18 @@ pub fn constants() -> [u16; 256]
 pub fn apart(f: Guide, g: Guide) -> u16
     ensures { result ≡ distance f.0 g.0 }
 {
-    if f.0 < g.0 {
-        return g.0 - f.0;
-    }
-    f.0 - g.0
+    f.0.abs_diff(g.0)
 }
 
 // The built-in weight of two guides. Guides of a frame are less than 256 apart; the constants' rule goes on beyond.
+#[tactic(auto, unfolding(spec::specs::Frame::built_in))]
 pub fn built_in(f: Guide, g: Guide) -> u16
     ensures { result ≡ built_in f.0 g.0 }
 {
     let d = apart(f, g) as usize;
-    if d < 256 {
-        let built = constants();
-        return built[d];
+    if d < BUILT_IN.len() {
+        constants()[d]
+    } else {
+        (4096 / (16 + d)) as u16
     }
-    (4096 / (16 + d)) as u16
 }

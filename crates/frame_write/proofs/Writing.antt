@@ -17,41 +17,9 @@ use Rattle.spec.specs.Checks.{settings_outcome}
 use Rattle.spec.specs.Writer.{field_bytes, distance_bytes, written, written_size, bad_length, scan_list, writer_outcome, stored}
 use Rattle.spec.proofs.Checks.{not-refused, both-accepted, not-fired, neither, both}
 use Rattle.spec.proofs.Limits.{settings-limits}
-use Rattle.spec.proofs.Outcomes.{past}
-use Rattle.frame_write.specs.Write.{report_of, WritingFits}
+use Rattle.frame_write.specs.Write.{WritingFits}
 use Rattle.frame_bytes.proofs.Stores.{placed, length-all16}
 use Rattle.frame_write_trailer.proofs.TrailerLaws.{fields-long, distances-long}
-
--- ---- the checks, one after the other
-module _ (k : Settings) (v g a : List ℕ) (room : ℕ) where
-  abbrev pub of_length : Outcome
-  of_length = refuse 6 (bad_length k (length v) (length g) (length a))
-
-  abbrev pub of_values : Outcome
-  of_values = scan_list v true k.levels 0
-
-  abbrev pub of-guides : Outcome
-  of-guides = scan_list g false k.guides (2 * pixels k)
-
-  abbrev pub of_room : Outcome
-  of_room = refuse 11 (ltb room (written_size k (length a)))
-
-  pub past1 : {u : Outcome} → settings_outcome k ≡ accepted → u ≡ (of_length ▷ of_values ▷ of-guides ▷ of_room) →
-      u ≡ writer_outcome k v g a room
-  unfolding writer_outcome
-  past1 = past (settings_outcome k) (of_length ▷ of_values ▷ of-guides ▷ of_room)
-
-  pub past2 : {u : Outcome} → settings_outcome k ≡ accepted → of_length ≡ accepted → u ≡ (of_values ▷ of-guides ▷ of_room) →
-      u ≡ writer_outcome k v g a room
-  past2 s l e = past1 s (past of_length (of_values ▷ of-guides ▷ of_room) l e)
-
-  pub past3 : {u : Outcome} → settings_outcome k ≡ accepted → of_length ≡ accepted → of_values ≡ accepted → u ≡ (of-guides ▷ of_room) →
-      u ≡ writer_outcome k v g a room
-  past3 s l x e = past2 s l (past of_values (of-guides ▷ of_room) x e)
-
-  pub past4 : {u : Outcome} → settings_outcome k ≡ accepted → of_length ≡ accepted → of_values ≡ accepted → of-guides ≡ accepted → u ≡ of_room →
-      u ≡ writer_outcome k v g a room
-  past4 s l x y e = past3 s l x (past of-guides of_room y e)
 
 -- ---- what an accepted writing has passed, check by check
 pub record WritingPassed (k : Settings) (v g a : List ℕ) (room : ℕ) : Type 0 where
@@ -64,10 +32,10 @@ pub record WritingPassed (k : Settings) (v g a : List ℕ) (room : ℕ) : Type 0
 pub passes : (k : Settings) (v g a : List ℕ) (room : ℕ) → writer_outcome k v g a room ≡ accepted → WritingPassed k v g a room
 unfolding writer_outcome
 passes k v g a room e =
-    let l = of_length k v g a room in
-    let x = of_values k v g a room in
-    let y = of-guides k v g a room in
-    let r = of_room k v g a room in
+    let l = refuse 6 (bad_length k (length v) (length g) (length a)) in
+    let x = scan_list v true k.levels 0 in
+    let y = scan_list g false k.guides (2 * pixels k) in
+    let r = refuse 11 (ltb room (written_size k (length a))) in
     let e1 = both-accepted (settings_outcome k) (l ▷ x ▷ y ▷ r) e in
     let e2 = both-accepted l (x ▷ y ▷ r) e1.1 in
     let e3 = both-accepted x (y ▷ r) e2.1 in
@@ -151,11 +119,7 @@ file-placed k v g a old h e =
     let n : 0 + length (written k v g a) ≤ length old = omega (arith, written-long k v g a h.values h.guides, h.space) in
     e ∙ sets-eq (written k v g a) old 0 n ∙ ap (λ (j : ℕ). written k v g a ++ drop j old) (zero-add (length (written k v g a)))
 
--- ---- what the answer and the output say of an outcome
-pub declines : (o : Outcome) (m n : ℕ) → fires o ≡ true → report_of o m ≡ report_of o n
-declines accepted m n e = absurd (true≢false (sym e))
-declines (refused j l) m n e = refl
-
+-- ---- what the output holds by an outcome
 pub keeps : (o : Outcome) (new old : List ℕ) → fires o ≡ true → old ≡ stored o new old
 keeps accepted new old e = absurd (true≢false (sym e))
 keeps (refused j l) new old e = refl

@@ -1,35 +1,21 @@
--- What the writer's answer says, what an accepted writing has, the writer's contract, and what reading the file gives back.
+-- The writer's contract, what an accepted writing has, and what reading the file gives back.
 -- Assumes nothing.
-use Rattle.std.specs.Prelude.{◌≡◌, ℕ, ◌+◌, ◌*◌, ◌≤◌, ◌<◌, List, eqb, length, get_or, if◌then◌else◌}
+use Rattle.std.specs.Prelude.{◌≡◌, ℕ, ◌+◌, ◌*◌, ◌≤◌, ◌<◌, List, eqb, length, get_or, if◌then◌else◌, Result, IfOk}
 use Rattle.spec.specs.declared.Settings.{Settings}
-use Rattle.spec.specs.declared.Verdict.TheVariants.{Accepted}
+use Rattle.spec.specs.declared.Refusal.{Refusal}
+use Rattle.spec.specs.declared.Trailer.{Trailer}
 use Rattle.spec.specs.Bytes.{all16}
-use Rattle.spec.specs.Refusal.{Outcome, accepted, refused, number, values_of}
+use Rattle.spec.specs.Refusal.{accepted, numbered}
 use Rattle.spec.specs.Frame.{pixels, table, built_in, settings_of, frame_of, value_part, guide_part, table_part, pixel_level, pixel_guide}
 use Rattle.spec.specs.Checks.{verdict}
 use Rattle.spec.specs.Writer.{written, written_size, writer_outcome, stored}
-use Rattle.frame.specs.declared.open.Head.{Head}
 use Rattle.frame.specs.declared.open.Plane.TheVariants.{Values, Guides, Table}
-use Rattle.frame.specs.Open.{plane_of}
-use Rattle.frame_write.specs.declared.Written.{Written}
-use Rattle.frame_write.specs.declared.Written.TheVariants.{Length, Refused}
-
--- the file's length, or a refusal's number and values
-pub data Report : Type 0 where
-  wrote : ℕ → Report
-  declined : ℕ → List ℕ → Report
-
-abbrev pub reported : Written → Report
-reported (Length n) = wrote n
-reported (Refused e) = declined (number e) (values_of e)
-
-abbrev pub report_of : Outcome → ℕ → Report
-report_of accepted n = wrote n
-report_of (refused m l) n = declined m l
+use Rattle.frame.specs.Open.{trailer_in, plane_of}
 
 -- the writer's answer and the output, before and after, for every input
-pub record Writes (settings : Settings) (v g a old : List ℕ) (r : Written) (new : List ℕ) : Type 0 where
-  pub answer : reported r ≡ report_of (writer_outcome settings v g a (length old)) (written_size settings (length a))
+pub record Writes (settings : Settings) (v g a old : List ℕ) (r : Result ℕ Refusal) (new : List ℕ) : Type 0 where
+  pub verdict : numbered r ≡ writer_outcome settings v g a (length old)
+  pub size : writer_outcome settings v g a (length old) ≡ accepted → IfOk r (λ n. n ≡ written_size settings (length a))
   pub output : new ≡ stored (writer_outcome settings v g a (length old)) (written settings v g a) old
 
 -- what an accepted writing has: planes and a table of the right length, and room
@@ -54,9 +40,9 @@ pub record Returned (wanted : Settings) (v g a b : List ℕ) : Type 0 where
   pub table : table_part b ≡ all16 a
 
 -- what opening that file says, by the contract of opening
-pub record Reopened (wanted : Settings) (v g a b : List ℕ) (h : Head) : Type 0 where
-  pub accepts : h.verdict ≡ Accepted
-  pub settings : h.trailer.settings ≡ wanted
-  pub values : plane_of Values b h.trailer ≡ all16 v
-  pub guides : plane_of Guides b h.trailer ≡ all16 g
-  pub table : plane_of Table b h.trailer ≡ all16 a
+pub record Reopened (wanted : Settings) (v g a b : List ℕ) (head : Result Trailer Refusal) : Type 0 where
+  pub accepts : numbered head ≡ accepted
+  pub settings : (trailer_in head).settings ≡ wanted
+  pub values : plane_of Values b (trailer_in head) ≡ all16 v
+  pub guides : plane_of Guides b (trailer_in head) ≡ all16 g
+  pub table : plane_of Table b (trailer_in head) ≡ all16 a

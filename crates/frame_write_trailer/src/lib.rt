@@ -1,5 +1,5 @@
 // The trailer of a file that is written: each of its numbers goes straight to its own place, at the byte that document 01 names.
-#![tactic(auto)]
+#![tactic(auto, unfolding(spec::specs::Bytes::to16, spec::specs::Bytes::to32, spec::specs::Writer::field_bytes, spec::specs::Writer::distance_bytes))]
 
 ghost use Rattle.std.specs.Prelude.{◌≡◌, ◌++◌, ◌≤◌, length};
 ghost use Rattle.std.proofs.lemmas.List.Edits.{sets};

@@ -1,48 +1,30 @@
--- Where each byte leads, branch by branch.
--- Assumes nothing.
-use Prim.Native.Nat.{ℕ, ◌+◌, ◌-◌, ◌≤◌, ◌<◌}
-use mathlib.Core.Path.{◌≡◌}
-use borrow.Author.Tests.{eq-eqb, ne_eqb, lt-ltb, le-ltb}
+-- Where each byte leads. Assumes nothing.
+use Rattle.std.proofs.Common.{◌≡◌, ℕ, ◌+◌, ◌-◌, ◌<◌, refl, arith}
+use Rattle.std.proofs.lemmas.Grind.{common_steps}
+use Rattle.std.specs.Prelude.{ltb}
 use Rattle.spec.specs.declared.Settings.{Settings}
-use Rattle.spec.specs.declared.Move.TheVariants.{To, Nowhere}
-use Rattle.spec.specs.Walk.{move}
+use Rattle.spec.specs.declared.Move.TheVariants.{Nowhere}
+use Rattle.spec.specs.Walk.{move, to_if}
 
-module _ (k : Settings) (s t b : ℕ) where
-  pub right : b ≡ 0 → s + 1 < k.width → To (s + 1) t ≡ move k s t b
+module _ (k : Settings) (s t : ℕ) where
+  pub right : move k s t 0 ≡ to_if (ltb (s + 1) k.width) (s + 1) t
   unfolding move
-  right e h = simp (eq-eqb b 0 e, lt-ltb _ _ h)
+  right = refl
 
-  pub right-off : b ≡ 0 → k.width ≤ s + 1 → Nowhere 65534 ≡ move k s t b
+  pub left : move k s t 1 ≡ to_if (ltb 0 s) (s - 1) t
   unfolding move
-  right-off e h = simp (eq-eqb b 0 e, le-ltb _ _ h)
+  left = refl
 
-  module _ (n₀ : b ≡ 0 → ⊥) where
-    pub left : b ≡ 1 → 0 < s → To (s - 1) t ≡ move k s t b
-    unfolding move
-    left e h = simp (ne_eqb b 0 n₀, eq-eqb b 1 e, lt-ltb _ _ h)
+  pub down : move k s t 2 ≡ to_if (ltb (t + 1) k.height) s (t + 1)
+  unfolding move
+  down = refl
 
-    pub left-off : b ≡ 1 → s ≤ 0 → Nowhere 65534 ≡ move k s t b
-    unfolding move
-    left-off e h = simp (ne_eqb b 0 n₀, eq-eqb b 1 e, le-ltb _ _ h)
+  pub up : move k s t 3 ≡ to_if (ltb 0 t) s (t - 1)
+  unfolding move
+  up = refl
 
-    module _ (n₁ : b ≡ 1 → ⊥) where
-      pub down : b ≡ 2 → t + 1 < k.height → To s (t + 1) ≡ move k s t b
-      unfolding move
-      down e h = simp (ne_eqb b 0 n₀, ne_eqb b 1 n₁, eq-eqb b 2 e, lt-ltb _ _ h)
+  pub unknown : (b : ℕ) → 3 < b → move k s t b ≡ Nowhere 65533
+  unfolding move
+  unknown b h = grind (arith, common_steps)
 
-      pub down-off : b ≡ 2 → k.height ≤ t + 1 → Nowhere 65534 ≡ move k s t b
-      unfolding move
-      down-off e h = simp (ne_eqb b 0 n₀, ne_eqb b 1 n₁, eq-eqb b 2 e, le-ltb _ _ h)
-
-      module _ (n₂ : b ≡ 2 → ⊥) where
-        pub up : b ≡ 3 → 0 < t → To s (t - 1) ≡ move k s t b
-        unfolding move
-        up e h = simp (ne_eqb b 0 n₀, ne_eqb b 1 n₁, ne_eqb b 2 n₂, eq-eqb b 3 e, lt-ltb _ _ h)
-
-        pub up-off : b ≡ 3 → t ≤ 0 → Nowhere 65534 ≡ move k s t b
-        unfolding move
-        up-off e h = simp (ne_eqb b 0 n₀, ne_eqb b 1 n₁, ne_eqb b 2 n₂, eq-eqb b 3 e, le-ltb _ _ h)
-
-        pub unknown : (b ≡ 3 → ⊥) → Nowhere 65533 ≡ move k s t b
-        unfolding move
-        unknown n₃ = simp (ne_eqb b 0 n₀, ne_eqb b 1 n₁, ne_eqb b 2 n₂, ne_eqb b 3 n₃)
+pub ruleset moves = (right, left, down, up, unknown)

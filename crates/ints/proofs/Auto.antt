@@ -1,13 +1,12 @@
 -- The needs of signed and float code with no expression written: `need!`, `computes!` and `rep!`. Assumes nothing.
-use Rattle.std.specs.Prelude.{◌≡◌, refl, List, [], ◌∷◌, ℕ, suc, ◌^◌, T, leb, ℤ, pos, negsuc, neg_ℤ, ◌+ℤ◌, ◌-ℤ◌, ◌*ℤ◌, Float}
-use Rattle.std.proofs.Common.{sym, ◌∙◌, ap, ap₂, subst}
-use Rattle.std.specs.Float.Ieee
+use Rattle.std.specs.Prelude.{◌≡◌, List, suc, ◌^◌, T, ℤ, Float}
+use Rattle.std.proofs.Common.{sym, ◌∙◌, subst}
 use Rattle.std.specs.Float.{Format}
-use Rattle.std.specs.Float.Ieee.{prec, add, sub, mul}
+use Rattle.std.specs.Float.Ieee.{prec}
 use Rattle.std.specs.Int.{Width}
 use mir.Val.{SFits, hbits}
-use Rattle.ints.specs.Polynomial.{Expr, var, lit, ◌⊕◌, ◌⊖◌, ◌⊗◌, opposite, eval, normalize, ring}
-use Rattle.ints.specs.Computation.{Variable, Operations, values, bounds, computed, all_below}
+use Rattle.ints.specs.Polynomial.{eval, normalize, ring}
+use Rattle.ints.specs.Computation.{values, bounds, all_below}
 use Rattle.ints.specs.Machine.{Cell, signed_ops}
 use Rattle.ints.specs.Auto.{Quoted, Computed, BeforeStore}
 use Rattle.ints.proofs.Machine.{need, computes}

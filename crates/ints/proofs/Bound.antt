@@ -1,12 +1,6 @@
 -- The bound of an expression holds: `eval-within ρ B e h`. Assumes nothing.
-use Rattle.std.specs.Prelude.{◌≡◌, refl, Bool, true, false, cond, List, [], ◌∷◌, ℕ, zero, suc, ◌+◌, ◌-◌, ◌*◌, ◌^◌, ◌≤◌, ◌<◌, T, leb, ltb, ℤ, pos, negsuc, neg_ℤ, nat_abs, ◌+ℤ◌, ◌-ℤ◌, ◌*ℤ◌, ◌≤ℤ◌}
-use Rattle.std.proofs.Common.{le_trans, le_of_eq, lt_of_le_of_lt, lt_of_lt_of_le, mul-le-mul, le_refl, arith, leb→le, ltb→lt}
-use Rattle.std.proofs.Math.IntN.{sub_ℕ}
-use Rattle.std.specs.Int.Signed.{mag}
-use Rattle.std.specs.Int.{Width}
-use mir.Val.{Fits, SFits, hbits, bits}
-use Rattle.ints.specs.Order.{pos_part, neg_part, pos_part-neg, neg_part-neg}
-use Rattle.ints.specs.Linear.{ints}
+use Rattle.std.specs.Prelude.{List, [], ◌∷◌, ℕ, zero, suc, ◌≤◌, ℤ, nat_abs}
+use Rattle.std.proofs.Common.{le_refl, arith}
 use Rattle.ints.specs.Polynomial.{Expr, var, lit, ◌⊕◌, ◌⊖◌, ◌⊗◌, opposite, at, eval}
 use Rattle.ints.specs.Bound.{abs-add-le, abs-sub-le, abs-mul-le, abs-neg-le, bound_at, bound_of, WithinBounds}
 

@@ -1,7 +1,6 @@
 -- What the code has of an expression stands for its value: `computed-means`, by one test of literals. Assumes nothing.
-use Rattle.std.specs.Prelude.{Bool, ◌&&◌, List, [], ◌∷◌, ℕ, zero, suc, ◌+◌, ◌*◌, ◌≤◌, ◌<◌, T, ltb, ℤ, pos, neg_ℤ, nat_abs, ◌+ℤ◌, ◌-ℤ◌, ◌*ℤ◌}
+use Rattle.std.specs.Prelude.{List, [], ◌∷◌, ℕ, zero, suc, ◌+◌, ◌*◌, ◌≤◌, ◌<◌, T, ℤ, pos, nat_abs}
 use Rattle.std.proofs.Common.{lt_of_le_of_lt, ltb→lt}
-use Rattle.std.proofs.Math.Facts.{and_yes}
 use Rattle.ints.specs.Polynomial.{Expr, var, lit, ◌⊕◌, ◌⊖◌, ◌⊗◌, opposite, at, eval}
 use Rattle.ints.specs.Bound.{bound_at, bound_of, WithinBounds}
 use Rattle.ints.specs.Computation.{Variable, Operations, Exact, values, bounds, held_at, computed, all_below, operands}

@@ -1,29 +1,17 @@
 -- What float code has stands for what was computed: `rep-computed`. Assumes nothing.
-use Rattle.std.specs.Prelude.{◌≡◌, refl, Bool, true, false, not, cond, ◌&&◌, List, T, ltb, leb, Float}
-use Rattle.std.proofs.Common.{sym, ◌∙◌, ap, ap₂, subst, subst₂, true≢false, le_trans, zero-lt-suc, le_of_suc-le-suc, arith, ltb→lt, nltb→le, lt→ltb, le→leb, leb→le}
-use Prim.Native.Nat.{ℕ, zero, suc, ◌+◌, ◌-◌, ◌*◌, ◌/◌, ◌%◌, ◌^◌, ◌≤◌, ◌<◌, compare}
-use Rattle.std.proofs.Math.Nat as NatL
-use Rattle.std.proofs.Math.Dec.{leb-suc-suc}
-use lib.IntN.{ℤ, pos, negsuc, neg_ℤ, nat_abs, ◌+ℤ◌, ◌-ℤ◌, ◌*ℤ◌, neg_ℤ-neg_ℤ}
-use Rattle.std.specs.Int.Signed.{lt_z, mag}
+use Rattle.std.specs.Prelude.{◌≡◌, ◌&&◌, List, T, Float}
+use Rattle.std.proofs.Common.{le_of_suc-le-suc}
+use Prim.Native.Nat.{suc, ◌^◌, ◌≤◌}
+use lib.IntN.{ℤ, nat_abs}
+use Rattle.std.specs.Int.Signed.{lt_z}
 use Rattle.std.specs.Float.Ieee
-use Rattle.std.specs.Float.{nan, inf, fin, Format, binary64}
-use Rattle.std.specs.Float.Ieee.{prec, emax, low, nearest, odd, units, up, down, round, sum, add, sub, mul, neg, unlike, below, of_int, in_float, in_signed, to_signed}
-use Rattle.std.specs.Float.Ieee.Exact.{HasValue}
-use Rattle.std.specs.Float.Ieee.Back.{round_whole, positive_back, negative_back}
-use Rattle.std.specs.Float.Ieee.Fits.{down_pos}
-use Rattle.std.specs.Float.Ieee.Scale.{round_same}
-use Rattle.std.specs.Int.{Width}
-use mir.Val.{hbits}
+use Rattle.std.specs.Float.{Format}
+use Rattle.std.specs.Float.Ieee.{prec}
 use Rattle.std.proofs.Math.Facts.{and_yes}
-use Rattle.ints.specs.Ring.{neg-mul, mul-neg}
-use Rattle.ints.specs.Order.{nat_eq, add_parts, pos_part-neg, neg_part-neg}
 use Rattle.ints.specs.Polynomial.{Expr, eval}
-use Rattle.ints.specs.Bound.{abs_neg}
 use Rattle.ints.specs.Computation.{Exact, values, bounds, computed, all_below}
 use Rattle.ints.specs.Float.{FloatOf, FloatCell, float_ops, rep-of_int, rep_add, rep-sub, rep_mul, rep_neg, rep-lt}
 use Rattle.ints.proofs.Computation.{eval-below, computed-means}
-use Rattle.ints.specs.Machine.{read_back, read-bounded}
 
 float-exact : (f : Format) → Exact (λ (x : Float) (z : ℤ). FloatOf f x z) (float_ops f) (suc (2 ^ prec f))
 float-exact f =

@@ -1,14 +1,12 @@
 -- What signed code has is what was computed, and each of its operations fits: `computes` and `need`. Assumes nothing.
-use Rattle.std.specs.Prelude.{◌≡◌, refl, Bool, true, false, not, List, ℕ, ◌+◌, ◌*◌, ◌^◌, ◌≤◌, ◌<◌, T, ltb, ◌≤ℤ◌, ◌<ℤ◌, ℤ, pos, neg_ℤ, nat_abs, ◌+ℤ◌, ◌-ℤ◌, ◌*ℤ◌}
-use Rattle.std.proofs.Common.{sym, ◌∙◌, ap, ap₂, subst, subst₂, T_not, to_z-of_z}
-use Rattle.std.specs.Int.Signed.{le_z, lt_z, non_neg, le_z_yes, lt_z_yes, lt_z_no, yes_non_neg, pos-nat_abs}
+use Rattle.std.specs.Prelude.{◌≡◌, refl, List, ◌+◌, ◌*◌, ◌^◌, T, ℤ, neg_ℤ, ◌+ℤ◌, ◌-ℤ◌, ◌*ℤ◌}
+use Rattle.std.proofs.Common.{sym, ◌∙◌, ap, ap₂, subst}
 use Rattle.std.proofs.Math.IntN.{+ℤ_idl}
 use Rattle.std.specs.Int.{Width}
-use mir.Val.{Fits, SFits, hbits, bits, to_z, of_z}
-use Rattle.ints.specs.Order.{not-≤}
+use mir.Val.{SFits, hbits}
 use Rattle.ints.specs.Polynomial.{Expr, var, lit, ◌⊕◌, ◌⊖◌, ◌⊗◌, opposite, eval}
-use Rattle.ints.specs.Bound.{bound_of, sfits-below, sfits-abs, sfits_pos}
-use Rattle.ints.specs.Computation.{Variable, Operations, Exact, values, bounds, held_at, computed, all_below, operands}
+use Rattle.ints.specs.Bound.{bound_of, sfits-below}
+use Rattle.ints.specs.Computation.{Exact, values, bounds, computed, all_below, operands}
 use Rattle.ints.specs.Machine.{Cell, read_back, read, signed_ops, before_store}
 use Rattle.ints.proofs.Computation.{bounded, eval-below, computed-means}
 

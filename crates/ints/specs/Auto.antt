@@ -9,17 +9,16 @@
 -- Float code:            `rep! xs (search float_code depth 12) (search quote depth 12) tt refl`
 -- `depth` is the depth of the expression's tree, one more for a leaf; ten variables at the most. `need!`, `computes!` and
 -- `rep!` are in proofs/Auto.antt. Assumes nothing.
-use Rattle.std.specs.Prelude.{◌≡◌, refl, List, [], ◌∷◌, ℕ, suc, ◌^◌, T, leb, ℤ, pos, negsuc, neg_ℤ, ◌+ℤ◌, ◌-ℤ◌, ◌*ℤ◌, Float}
-use Rattle.std.proofs.Common.{sym, ◌∙◌, ap, ap₂, subst}
+use Rattle.std.specs.Prelude.{◌≡◌, refl, List, [], ◌∷◌, ℕ, T, leb, ℤ, pos, negsuc, neg_ℤ, ◌+ℤ◌, ◌-ℤ◌, ◌*ℤ◌, Float}
+use Rattle.std.proofs.Common.{sym, ◌∙◌, ap, ap₂}
 use Rattle.std.specs.Float.Ieee
 use Rattle.std.specs.Float.{Format}
-use Rattle.std.specs.Float.Ieee.{prec, add, sub, mul}
+use Rattle.std.specs.Float.Ieee.{add, sub, mul}
 use Rattle.std.specs.Int.{Width}
-use mir.Val.{SFits, hbits}
 use Rattle.ints.specs.Polynomial.{Expr, var, lit, ◌⊕◌, ◌⊖◌, ◌⊗◌, opposite, eval, normalize, ring}
-use Rattle.ints.specs.Computation.{Variable, Operations, values, bounds, computed, all_below}
+use Rattle.ints.specs.Computation.{Variable, Operations, computed}
 use Rattle.ints.specs.Machine.{Cell, read_back, signed_ops, before_store}
-use Rattle.ints.specs.Float.{FloatOf, FloatCell, float_ops, rep_at}
+use Rattle.ints.specs.Float.{FloatCell, float_ops}
 
 -- ---- a value: one rule for each operation, for a literal, and for each place in the list of variables
 pub record Quoted (ρ : List ℤ) (z : ℤ) : Type 0 where

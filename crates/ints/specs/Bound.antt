@@ -9,7 +9,7 @@ use Rattle.std.specs.Int.{Width}
 use mir.Val.{Fits, SFits, hbits, bits}
 use Rattle.ints.specs.Order.{pos_part, neg_part, pos_part-neg, neg_part-neg}
 use Rattle.ints.specs.Linear.{ints}
-use Rattle.ints.specs.Polynomial.{Expr, var, lit, ◌⊕◌, ◌⊖◌, ◌⊗◌, opposite, at, eval}
+use Rattle.ints.specs.Polynomial.{Expr, var, lit, ◌⊕◌, ◌⊖◌, ◌⊗◌, opposite}
 
 -- ---- the size of a negation, a product, a sum
 pub abs-parts : (z : ℤ) → nat_abs z ≡ pos_part z + neg_part z

@@ -3,9 +3,8 @@
 -- that it stands for, and a bound on that integer. `computed` is what the code has of an expression over such variables. That it stands
 -- for the expression's value, by one test of literals (`all_below`), is `computed-means` of proofs/Computation.antt. Assumes nothing.
 use Rattle.std.specs.Prelude.{Bool, ◌&&◌, List, [], ◌∷◌, ℕ, zero, suc, ◌+◌, ◌*◌, ◌≤◌, ◌<◌, T, ltb, ℤ, pos, neg_ℤ, nat_abs, ◌+ℤ◌, ◌-ℤ◌, ◌*ℤ◌}
-use Rattle.std.proofs.Common.{lt_of_le_of_lt, ltb→lt}
 use Rattle.std.proofs.Math.Facts.{and_yes}
-use Rattle.ints.specs.Polynomial.{Expr, var, lit, ◌⊕◌, ◌⊖◌, ◌⊗◌, opposite, at, eval}
+use Rattle.ints.specs.Polynomial.{Expr, var, lit, ◌⊕◌, ◌⊖◌, ◌⊗◌, opposite}
 use Rattle.ints.specs.Bound.{bound_at, bound_of}
 
 -- ---- variables: `Means x z` says that the code's x stands for the integer z

@@ -3,8 +3,8 @@
 -- A sum, a difference and a product of two such floats of at most 2 ^ prec in size (2 ^ 53 in an `f64`) stands for the integers' sum,
 -- difference and product, and a comparison is the integers'. `rep-computed`, of proofs/Float.antt, says the same of a whole expression.
 -- Assumes nothing.
-use Rattle.std.specs.Prelude.{◌≡◌, refl, Bool, true, false, not, cond, ◌&&◌, List, T, ltb, leb, Float}
-use Rattle.std.proofs.Common.{sym, ◌∙◌, ap, ap₂, subst, subst₂, true≢false, le_trans, zero-lt-suc, le_of_suc-le-suc, arith, ltb→lt, nltb→le, lt→ltb, le→leb, leb→le}
+use Rattle.std.specs.Prelude.{◌≡◌, refl, Bool, true, false, not, cond, ◌&&◌, T, ltb, leb, Float}
+use Rattle.std.proofs.Common.{sym, ◌∙◌, ap, ap₂, subst, subst₂, true≢false, le_trans, zero-lt-suc, arith, ltb→lt, nltb→le, lt→ltb, le→leb, leb→le}
 use Prim.Native.Nat.{ℕ, zero, suc, ◌+◌, ◌-◌, ◌*◌, ◌/◌, ◌%◌, ◌^◌, ◌≤◌, ◌<◌, compare}
 use Rattle.std.proofs.Math.Nat as NatL
 use Rattle.std.proofs.Math.Dec.{leb-suc-suc}
@@ -22,9 +22,8 @@ use mir.Val.{hbits}
 use Rattle.std.proofs.Math.Facts.{and_yes}
 use Rattle.ints.specs.Ring.{neg-mul, mul-neg}
 use Rattle.ints.specs.Order.{nat_eq, add_parts, pos_part-neg, neg_part-neg}
-use Rattle.ints.specs.Polynomial.{Expr, eval}
 use Rattle.ints.specs.Bound.{abs_neg}
-use Rattle.ints.specs.Computation.{Variable, Operations, Exact, values, bounds, computed, all_below}
+use Rattle.ints.specs.Computation.{Variable, Operations}
 use Rattle.ints.specs.Machine.{read_back, read-bounded}
 
 -- ±n, which is -n where the sign is set

@@ -7,16 +7,15 @@
 --   let_cell        a `let` of the code, so that what follows does not go through its expression again
 -- Then, in proofs/Machine.antt, `need w xs e tt` answers each goal `overflow_add-..`, `overflow_sub-..`, `overflow_mul-..` of the code, and
 -- `computes w xs e tt` says that the code has e's value in the end; `let_cell` is there too. `Auto` finds e by itself. Assumes nothing.
-use Rattle.std.specs.Prelude.{◌≡◌, refl, Bool, true, false, not, List, ℕ, ◌+◌, ◌*◌, ◌^◌, ◌≤◌, ◌<◌, T, ltb, ◌≤ℤ◌, ◌<ℤ◌, ℤ, pos, neg_ℤ, nat_abs, ◌+ℤ◌, ◌-ℤ◌, ◌*ℤ◌}
-use Rattle.std.proofs.Common.{sym, ◌∙◌, ap, ap₂, subst, subst₂, T_not, to_z-of_z}
+use Rattle.std.specs.Prelude.{◌≡◌, Bool, true, false, not, List, ℕ, ◌^◌, ◌≤◌, ◌<◌, T, ltb, ◌≤ℤ◌, ◌<ℤ◌, ℤ, pos, nat_abs, ◌+ℤ◌, ◌-ℤ◌, ◌*ℤ◌}
+use Rattle.std.proofs.Common.{sym, ◌∙◌, ap, subst, subst₂, T_not, to_z-of_z}
 use Rattle.std.specs.Int.Signed.{le_z, lt_z, non_neg, le_z_yes, lt_z_yes, lt_z_no, yes_non_neg, pos-nat_abs}
-use Rattle.std.proofs.Math.IntN.{+ℤ_idl}
 use Rattle.std.specs.Int.{Width}
 use mir.Val.{Fits, SFits, hbits, bits, to_z, of_z}
 use Rattle.ints.specs.Order.{not-≤}
-use Rattle.ints.specs.Polynomial.{Expr, var, lit, ◌⊕◌, ◌⊖◌, ◌⊗◌, opposite, eval}
-use Rattle.ints.specs.Bound.{bound_of, sfits-below, sfits-abs, sfits_pos}
-use Rattle.ints.specs.Computation.{Variable, Operations, Exact, values, bounds, held_at, computed, all_below, operands}
+use Rattle.ints.specs.Polynomial.{Expr, var, lit, ◌⊕◌, ◌⊖◌, ◌⊗◌, opposite}
+use Rattle.ints.specs.Bound.{sfits-abs, sfits_pos}
+use Rattle.ints.specs.Computation.{Variable, Operations, held_at, computed}
 
 -- written, and read back
 abbrev pub read_back : Width → ℤ → ℤ

@@ -71,10 +71,8 @@ pub fn signed_loop(a: &[u8], n: i64, s: i64) -> i64
     ensures { result ≡ Σ (length a.now) (λ k. n *ℤ pos (get_or a.now k 0) -ℤ s) }
 {
     let mut acc: i64 = 0;
-    let mut i: usize = 0;
-    while i < a.len() {
-        acc += n * (a[i] as i64) - s;
-        i += 1;
+    for x in a {
+        acc += n * (*x as i64) - s;
     }
     acc
 }
@@ -131,10 +129,8 @@ pub fn float_loop(a: &[u8]) -> f64
     ensures { FloatOf binary64 result (Σ (length a.now) (λ k. pos (get_or a.now k 0))) }
 {
     let mut acc: f64 = 0.0;
-    let mut i: usize = 0;
-    while i < a.len() {
-        acc = acc + a[i] as f64;
-        i += 1;
+    for x in a {
+        acc += *x as f64;
     }
     acc
 }

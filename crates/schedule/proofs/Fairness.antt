@@ -1,32 +1,22 @@
 -- Document 02, ask 9: an unfinished file is served within every eight grants, the periods are one list of grants, and all grants are made while a
 -- file is unfinished.
 -- Assumes nothing.
-use Prim.Native.Nat.{ℕ, zero, suc, ◌+◌, ◌-◌, ◌*◌, ◌%◌, ◌≤◌, ◌<◌, min}
-use mathlib.Core.Path.{◌≡◌, refl, sym, ap, ap₂, ◌∙◌, subst}
+use Prim.Native.Nat.{ℕ, zero, suc, ◌+◌, ◌-◌, ◌%◌, ◌≤◌, ◌<◌, min}
+use mathlib.Core.Path.{◌≡◌, refl, sym, ap, ◌∙◌, subst}
 use mathlib.Core.Logic.{◌⊎◌, inl, inr, ⊎_elim}
-use mathlib.Core.Bool.{Bool, true, false, true≢false}
-use mathlib.Core.List.{List, [], ◌∷◌, ◌++◌}
+use mathlib.Core.Bool.{true, false, true≢false}
+use mathlib.Core.List.{List, [], ◌∷◌}
 use native.Mathlib.Decide.{ℕ_discrete, dec_le, dec_lt}
 use native.Mathlib.Omega.{arith}
 use lib.Dec.{ltb}
 use lib.ListN.{length, get_or, set}
 use lib.Seq.{get_or-set_other}
-use borrow.Author.Tests.{lt-ltb, le-ltb, ltb-false}
+use borrow.Author.Tests.{ltb-false}
 use Rattle.spec.specs.declared.Round.{Round}
 use Rattle.spec.specs.Schedule.{opening, unfinished, looked, passed_over, serve, grant, grants, periods}
 use Rattle.spec.specs.Cameras.{total}
 use Rattle.schedule.specs.Tallies.{SizesFit, TalliesCounted}
-use Rattle.schedule.proofs.Grants.{
-  over-is,
-  grant-serves,
-  grant-none,
-  by-grant,
-  looked-low,
-  tallies-grant,
-  tallies-opening,
-  grants-more,
-  grants-add,
-}
+use Rattle.schedule.proofs.Grants.{over-is, grant-serves, grant-none, by-grant, tallies-grant, tallies-opening, grants-add}
 
 -- ---- two lists of which one is no more than the other
 pub total_mono : (a b : List ℕ) → length a ≡ length b → ((k : ℕ) → get_or a k 0 ≤ get_or b k 0) → total a ≤ total b

@@ -1,21 +1,17 @@
 -- What a grant does, and what holds after any number of them.
 -- Assumes nothing.
-use Prim.Native.Nat.{ℕ, zero, suc, ◌+◌, ◌-◌, ◌*◌, ◌%◌, ◌≤◌, ◌<◌}
-use mathlib.Core.Path.{◌≡◌, refl, sym, ap, ap₂, ◌∙◌, subst}
+use Prim.Native.Nat.{ℕ, zero, suc, ◌+◌, ◌-◌, ◌*◌, ◌≤◌, ◌<◌}
+use mathlib.Core.Path.{◌≡◌, refl, sym, ap, ◌∙◌, subst}
 use mathlib.Core.Logic.{◌⊎◌, inl, inr, ⊎_elim}
-use mathlib.Core.Bool.{Bool, true, false, true≢false}
 use mathlib.Core.List.{List, [], ◌∷◌, ◌++◌}
 use native.Mathlib.Nat.{mod-lt}
 use native.Mathlib.Decide.{ℕ_discrete, dec_lt}
 use native.Mathlib.Numerals.{add-one}
 use native.Mathlib.Omega.{arith}
-use lib.Dec.{ltb}
 use lib.ListN.{length, get_or, take, set, replicate, length-set, length-replicate, get_or-replicate, get_or-eq_default}
-use lib.Seq.{get_or-set_same, get_or-set_other, take-suc, take_all}
+use lib.Seq.{get_or-set_same, get_or-set_other, take-suc}
 use borrow.Author.Tests.{lt-ltb, le-ltb, ltb-true}
 use Rattle.spec.specs.declared.Round.{Round}
-use Rattle.std.specs.Prelude.{if◌then◌else◌}
-use Rattle.spec.specs.Base.{first}
 use Rattle.spec.specs.Schedule.{opening, unfinished, looked, passed_over, serve, grant, grants, periods}
 use Rattle.spec.specs.Cameras.{total}
 use Rattle.spec.proofs.First.{First, first-is, first-unique}
@@ -48,6 +44,16 @@ module _ (sizes : List ℕ) where
   unfolding passed_over
   over-unique x j h = sym (first-unique _ 8 j h)
 
+  -- what a look at one file after the other finds
+  pub over_found : (x : Round) (j : ℕ) → j < 8 → get_or x.tallies (looked x j) 0 < get_or sizes (looked x j) 0
+      → ((i : ℕ) → i < j → get_or sizes (looked x i) 0 ≤ get_or x.tallies (looked x i) 0) → j ≡ passed_over sizes x
+  unfolding unfinished
+  over_found x j h u b = over-unique x j (record { within = omega arith; passes = λ _. lt-ltb _ _ u; before = λ i l. le-ltb _ _ (b i l) })
+
+  pub over_none : (x : Round) → ((i : ℕ) → i < 8 → get_or sizes (looked x i) 0 ≤ get_or x.tallies (looked x i) 0) → passed_over sizes x ≡ 8
+  unfolding unfinished
+  over_none x b = sym (over-unique x 8 (record { within = omega arith; passes = λ l. absurd (omega arith); before = λ i l. le-ltb _ _ (b i l) }))
+
   pub grant-serves : (x : Round) → passed_over sizes x < 8 → grant sizes x ≡ serve (looked x (passed_over sizes x)) x
   unfolding grant
   grant-serves x h = rw (lt-ltb (passed_over sizes x) 8 h) refl
@@ -59,9 +65,6 @@ module _ (sizes : List ℕ) where
   -- the same by what the code found
   pub served-by : (x : Round) (j : ℕ) → j ≡ passed_over sizes x → j < 8 → serve (looked x j) x ≡ grant sizes x
   served-by x j e l = ap (λ (i : ℕ). serve (looked x i) x) e ∙ sym (grant-serves x (rw e at l))
-
-  pub none-by : (x : Round) (j : ℕ) → j ≡ passed_over sizes x → 8 ≤ j → x ≡ grant sizes x
-  none-by x j e l = sym (grant-none x (rw e at l))
 
   -- it serves a file that has a pixel left, or none
   pub by-grant : (x : Round) → ((passed_over sizes x < 8) ×
@@ -144,6 +147,7 @@ module _ (sizes : List ℕ) where
   grants-next i from x y e g =
       g ∙ ap (grant sizes) e ∙ sym (grants-more i from) ∙ ap (λ (n : ℕ). grants sizes n from) (sym (add-one i))
 
+  -- docs/TRACE.md names this
   pub grants-end : (i m : ℕ) (from x : Round) → x ≡ grants sizes i from → i ≤ m → m ≤ i → x ≡ grants sizes m from
   grants-end i m from x e l h = let n : i ≡ m = omega arith in e ∙ ap (λ (k : ℕ). grants sizes k from) n
 
@@ -156,11 +160,6 @@ module _ (sizes : List ℕ) where
   unfolding grants
   grants-add zero k x = ap (λ (n : ℕ). grants sizes n x) (native.Mathlib.Nat.zero-add k)
   grants-add (suc m) k x = ap (λ (n : ℕ). grants sizes n x) (native.Mathlib.Nat.suc-add m k) ∙ grants-add m k (grant sizes x)
-
-  -- a grant that is not counted is none
-  pub grant-uncounted : (x : Round) → (grant sizes x).granted ≡ x.granted → grant sizes x ≡ x
-  grant-uncounted x e =
-      ⊎_elim (λ h. let g = ap (λ (y : Round). y.granted) (grant-serves x h.0) in absurd (omega arith)) (λ h. grant-none x h) (by-grant x)
 
   -- once a grant is none, so is each after it
   pub grants-early : (i m : ℕ) (x y : Round) → i ≤ m → y ≡ grants sizes i x → grant sizes y ≡ y → y ≡ grants sizes m x
@@ -181,6 +180,3 @@ module _ (sizes : List ℕ) where
   pub periods-none : (limits : List ℕ) (x : Round) → periods sizes (take 0 limits) x ≡ x
   unfolding periods
   periods-none limits x = refl
-
-  pub periods-all : (limits : List ℕ) (i : ℕ) (x : Round) → length limits ≤ i → periods sizes (take i limits) x ≡ periods sizes limits x
-  periods-all limits i x l = ap (λ (q : List ℕ). periods sizes q x) (take_all i limits l)

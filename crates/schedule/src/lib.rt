@@ -1,81 +1,72 @@
 // Document 02, ask 9: whose turn it is where up to eight files share the grants of control periods. Numbers alone: no file is looked at.
 #![tactic(auto)]
 
-ghost use Rattle.std.specs.Prelude.{◌≡◌, ◌≤◌, ◌<◌};
+ghost use Rattle.std.specs.Prelude.{◌≡◌, ◌≤◌, ◌<◌, MatchOption};
 ghost use Rattle.spec.specs.Schedule as definitions;
 ghost use Rattle.schedule.specs.Tallies.{SizesFit, TalliesCounted};
 
 use spec::Round;
 
-// How many files are passed over because they are finished: 8 where all are.
-pub fn passed_over(sizes: [usize; 8], x: Round) -> usize
-    requires { x.next ≤ 8 }
-    ensures { result ≡ definitions.passed_over sizes x }
+// So many files take part; those that a call lacks have no pixels.
+const FILES: usize = 8;
+
+// How many files are passed over because they are finished, or none where all are.
+pub fn passed_over(sizes: [usize; FILES], round: Round) -> Option<usize>
+    requires { round.next ≤ 8 }
+    ensures { MatchOption result (definitions.passed_over sizes round ≡ 8) (λ j. (j < 8) × (j ≡ definitions.passed_over sizes round)) }
 {
-    let tallies = x.tallies;
-    let next = x.next;
-    let mut j = 0;
-    while j < 8 {
-        let k = (next + j) % 8;
-        if tallies[k] < sizes[k] {
-            return j;
+    for j in 0..FILES {
+        let k = (round.next + j) % FILES;
+        if round.tallies[k] < sizes[k] {
+            return Some(j);
         }
-        j += 1;
     }
-    8
+    None
 }
 
-// One grant: nothing where all files are finished.
-pub fn grant(sizes: [usize; 8], x: Round) -> Round
-    requires { (SizesFit sizes) × (TalliesCounted sizes x) }
-    ensures { result ≡ definitions.grant sizes x }
+// One grant, or none where all files are finished: the definition's grant leaves such a round as it is.
+pub fn grant(sizes: [usize; FILES], round: Round) -> Option<Round>
+    requires { (SizesFit sizes) × (TalliesCounted sizes round) }
+    ensures { MatchOption result (definitions.grant sizes round ≡ round) (λ granted. granted ≡ definitions.grant sizes round) }
 {
-    let j = passed_over(sizes, x);
-    if j < 8 {
-        let k = (x.next + j) % 8;
-        let mut tallies = x.tallies;
-        tallies[k] = tallies[k] + 1;
-        return Round {
-            next: k + 1,
-            granted: x.granted + 1,
-            tallies,
-        };
-    }
-    x
+    let j = passed_over(sizes, round)?;
+    let k = (round.next + j) % FILES;
+    let mut tallies = round.tallies;
+    tallies[k] += 1;
+    Some(Round {
+        next: k + 1,
+        granted: round.granted + 1,
+        tallies,
+    })
 }
 
-// The grants of a period with this limit. Once one grants nothing, all files are finished, and so does each after it.
-pub fn period(sizes: [usize; 8], limit: u32, from: Round) -> Round
+// The grants of a period with this limit. Once there is none, all files are finished, and so it stays.
+pub fn period(sizes: [usize; FILES], limit: u32, from: Round) -> Round
     requires { (SizesFit sizes) × (TalliesCounted sizes from) }
     ensures { result ≡ definitions.grants sizes limit from }
 {
-    let mut x = from;
-    let mut i = 0;
-    while i < limit {
-        let y = grant(sizes, x);
-        if y.granted == x.granted {
-            return x;
-        }
-        x = y;
-        i += 1;
+    let mut round = from;
+    for _ in 0..limit {
+        let Some(granted) = grant(sizes, round) else {
+            return round;
+        };
+        round = granted;
     }
-    x
+    round
 }
 
 // The grants of all periods, from the start.
-pub fn run(sizes: [usize; 8], limits: &[u32]) -> Round
+pub fn run(sizes: [usize; FILES], limits: &[u32]) -> Round
     requires { SizesFit sizes }
     ensures { result ≡ definitions.periods sizes limits.now definitions.opening }
 {
-    let mut x = Round {
+    let mut round = Round {
         next: 0,
         granted: 0,
-        tallies: [0; 8],
+        tallies: [0; FILES],
     };
-    let mut i = 0;
-    while i < limits.len() {
-        x = period(sizes, limits[i], x);
-        i += 1;
+    for limit in limits {
+        round = period(sizes, *limit, round);
     }
-    x
+    round
 }

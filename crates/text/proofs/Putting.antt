@@ -6,8 +6,8 @@ use mathlib.Core.List.{List, [], ◌∷◌, ◌++◌}
 use native.Mathlib.Nat.{add-zero, zero-add}
 use native.Mathlib.Numerals.{add-one}
 use native.Mathlib.Omega.{arith}
-use lib.ListN.{length, get_or, take, drop, set, length-append}
-use lib.Seq.{sets, length-sets, sets-eq, take-suc}
+use lib.ListN.{length, drop, length-append}
+use lib.Seq.{sets, length-sets, sets-eq}
 use Rattle.spec.proofs.Lists.{sets-append}
 use Rattle.text.specs.Text.{TextRoom, Puts, pieces}
 
@@ -65,18 +65,6 @@ room-piece {l} {m} {at} {q} f k n h room a =
 pub joined-piece : {l m o : List ℕ} {at q r : ℕ} (f : ℕ → List ℕ) (k : ℕ) → Puts l m at q (pieces f k) → Puts m o q r (f k) →
     Puts l o at r (pieces f (k + 1))
 joined-piece f k a b = called (sym (ap (pieces f) (add-one k) ∙ pieces-next f k)) (joined a b)
-
--- ---- a byte, and one more byte of a word
-pub byte : (l : List ℕ) (at b : ℕ) → Puts l (set l at b) at (at + 1) (b ∷ [])
-byte l at b = record { stored = refl; behind = refl }
-
-pub joined-byte : {l m : List ℕ} {at k : ℕ} (w : List ℕ) → k < length w → Puts l m at (at + k) (take k w) →
-    Puts l (set m (at + k) (get_or w k 0)) at (at + (k + 1)) (take (k + 1) w)
-joined-byte {l} {m} {at} {k} w h a =
-    let e : take k w ++ (get_or w k 0 ∷ []) ≡ take (k + 1) w = sym (ap (λ (j : ℕ). take j w) (add-one k) ∙ take-suc w k 0 h) in
-    let p = called e (joined a (byte m (at + k) (get_or w k 0))) in
-    let n : at + k + 1 ≡ at + (k + 1) = omega arith in
-    record { stored = p.stored; behind = sym n ∙ p.behind }
 
 -- ---- a line of two texts: the room for each, and for the end of the line
 pub room-line : (l : List ℕ) (at : ℕ) (s t : List ℕ) → TextRoom l at (s ++ t ++ (10 ∷ [])) → TextRoom l at s

@@ -3,13 +3,12 @@
 use Prim.Native.Nat.{ℕ, zero, suc, ◌+◌, ◌-◌, ◌*◌, ◌/◌, ◌%◌, ◌≤◌, ◌<◌}
 use mathlib.Core.Path.{◌≡◌, refl, sym, ap, ap₂, ◌∙◌}
 use mathlib.Core.List.{List, [], ◌∷◌, ◌++◌, append_assoc, append-nil}
-use native.Mathlib.Nat.{add-zero, mul-le-mul, suc-mul}
+use native.Mathlib.Nat.{add-zero}
 use native.Mathlib.Numerals.{add-one}
 use native.Mathlib.Omega.{arith}
 use lib.Arith.{digits_div, digits_mod}
 use lib.ListN.{length, get_or, get_or-append}
 use borrow.Author.Tests.{eq-eqb, ne_eqb}
-use Rattle.spec.specs.declared.Settings.{Settings}
 use Rattle.spec.specs.Frame.{Frame, pixels}
 use Rattle.spec.specs.Median.{answer}
 use Rattle.spec.specs.Filter.{filtered}
@@ -32,12 +31,6 @@ unfolding row_text
 row-pieces m first w = ap line (spaced-pieces m first (w - 1))
 
 -- ---- the rows of a plane
-pub row_fits : (t h w : ℕ) → t < h → t * w + w ≤ h * w
-row_fits t h w l =
-    let g : suc t * w ≤ h * w = mul-le-mul {n₁ = suc t} {m₁ = w} {n₂ = h} {m₂ = w} l (omega arith) in
-    let e : suc t * w ≡ t * w + w = suc-mul t w in
-    omega arith
-
 spaced-same : (k : ℕ) (f g : ℕ → ℕ) → ((s : ℕ) → s ≤ k → f s ≡ g s) → spaced k f ≡ spaced k g
 unfolding spaced
 spaced-same zero f g e = ap decimal (e 0 (omega arith))

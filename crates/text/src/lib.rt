@@ -21,12 +21,9 @@ pub fn put_word(out: &mut [u8], at: usize, word: &[u8]) -> usize
     requires { TextRoom out.old at word.now }
     ensures { Puts out.old out.new at result word.now }
 {
-    let mut k = 0;
-    while k < word.len() {
-        out[at + k] = word[k];
-        k += 1;
-    }
-    at + k
+    let end = at + word.len();
+    out[at..end].copy_from_slice(word);
+    end
 }
 
 // A number in decimal: the digits before the last one by the same function, which needs no array of its own.
@@ -34,7 +31,7 @@ pub fn put_decimal(out: &mut [u8], at: usize, n: u64) -> usize
     requires { TextRoom out.old at (decimal n) }
     ensures { Puts out.old out.new at result (decimal n) }
 {
-    let last = (48 + n % 10) as u8;
+    let last = b'0' + (n % 10) as u8;
     if n < 10 {
         return put_byte(out, at, last);
     }
@@ -47,6 +44,6 @@ pub fn put_spaced(out: &mut [u8], at: usize, n: u64) -> usize
     requires { TextRoom out.old at (spaced_one n) }
     ensures { Puts out.old out.new at result (spaced_one n) }
 {
-    let next = put_byte(out, at, 32);
+    let next = put_byte(out, at, b' ');
     put_decimal(out, next, n)
 }

@@ -7,20 +7,8 @@ ghost use Rattle.text.specs.Text.{TextRoom, Puts, pieces, follower, row_text, pl
 
 use text::{put_byte, put_decimal, put_spaced, put_word};
 
-// The n levels that follow the one at a place of a plane.
-fn put_followers(out: &mut [u8], at: usize, plane: &[u16], first: usize, n: usize) -> usize
-    requires n_in_bounds { first + (n + 1) ≤ length plane.now }
-    requires text_room { TextRoom out.old at (pieces (follower plane.now first) n) }
-    ensures { Puts out.old out.new at result (pieces (follower plane.now first) n) }
-{
-    let mut next = at;
-    let mut k = 0;
-    while k < n {
-        next = put_spaced(out, next, plane[first + (k + 1)] as u64);
-        k += 1;
-    }
-    next
-}
+// The number of the refusal that has an offset.
+const CONTENTS: u8 = 7;
 
 // A row of a plane: its levels, and the end of the line.
 pub fn put_row(out: &mut [u8], at: usize, plane: &[u16], first: usize, width: usize) -> usize
@@ -28,9 +16,11 @@ pub fn put_row(out: &mut [u8], at: usize, plane: &[u16], first: usize, width: us
     requires text_room { TextRoom out.old at (row_text plane.now first width) }
     ensures { Puts out.old out.new at result (row_text plane.now first width) }
 {
-    let second = put_decimal(out, at, plane[first] as u64);
-    let end = put_followers(out, second, plane, first, width - 1);
-    put_byte(out, end, 10)
+    let mut next = put_decimal(out, at, u64::from(plane[first]));
+    for value in &plane[first + 1..first + width] {
+        next = put_spaced(out, next, u64::from(*value));
+    }
+    put_byte(out, next, b'\n')
 }
 
 // The rows of a plane.
@@ -40,44 +30,45 @@ pub fn put_rows(out: &mut [u8], at: usize, plane: &[u16], width: usize, height: 
     ensures { Puts out.old out.new at result (plane_text plane.now width height) }
 {
     let mut next = at;
-    let mut t = 0;
-    while t < height {
+    for t in 0..height {
         next = put_row(out, next, plane, t * width, width);
-        t += 1;
     }
     next
 }
 
 // The first line: width and height.
+#[tactic(auto, unfolding(text::specs::Text::size_text))]
 pub fn put_size(out: &mut [u8], at: usize, width: u64, height: u64) -> usize
     requires { TextRoom out.old at (size_text width height) }
     ensures { Puts out.old out.new at result (size_text width height) }
 {
     let second = put_decimal(out, at, width);
     let end = put_spaced(out, second, height);
-    put_byte(out, end, 10)
+    put_byte(out, end, b'\n')
 }
 
 // A way's word, which ends with a space, and its shift count.
+#[tactic(auto, unfolding(text::specs::Text::way_text))]
 pub fn put_way(out: &mut [u8], at: usize, word: &[u8], shifts: u64) -> usize
     requires { TextRoom out.old at (way_text word.now shifts) }
     ensures { Puts out.old out.new at result (way_text word.now shifts) }
 {
     let second = put_word(out, at, word);
     let end = put_decimal(out, second, shifts);
-    put_byte(out, end, 10)
+    put_byte(out, end, b'\n')
 }
 
-// A refusal by its number; 7 with its offset.
+// A refusal by its number; that of contents with its offset.
+#[tactic(auto, unfolding(text::specs::Text::refusal_text, spec::specs::Program::beside))]
 pub fn put_refusal(out: &mut [u8], at: usize, number: u8, offset: usize) -> usize
     requires { TextRoom out.old at (refusal_text number offset) }
     ensures { Puts out.old out.new at result (refusal_text number offset) }
 {
     let second = put_word(out, at, b"refused ");
-    let third = put_decimal(out, second, number as u64);
-    if number != 7 {
-        return put_byte(out, third, 10);
+    let third = put_decimal(out, second, u64::from(number));
+    if number != CONTENTS {
+        return put_byte(out, third, b'\n');
     }
     let end = put_spaced(out, third, offset as u64);
-    put_byte(out, end, 10)
+    put_byte(out, end, b'\n')
 }

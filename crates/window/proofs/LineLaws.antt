@@ -16,7 +16,7 @@ use Rattle.spec.specs.Base.{fold, fold_rect}
 use Rattle.spec.specs.Frame.{level, guide, pixel_guide, frame_with, value_of}
 use Rattle.spec.specs.Checks.{Pictured}
 use Rattle.spec.specs.Window.{span, live, over, in_column, in_row}
-use Rattle.spec.proofs.Ranges.{AdditionLaws, nat_sums, lost, gained, over-right, over-down}
+use Rattle.spec.proofs.Ranges.{AdditionLaws, lost, gained, over-right, over-down}
 use Rattle.spec.proofs.Plans.{facts, place-low}
 use Rattle.window.specs.declared.line.Line.{Line}
 use Rattle.window.specs.declared.line.Step.{Step}

@@ -3,13 +3,13 @@
 use mathlib.Core.Path.{◌≡◌, refl}
 use mathlib.Core.Bool.{false}
 use mathlib.Core.List.{List, [], ◌∷◌}
-use Prim.Native.Nat.{ℕ, ◌+◌, ◌-◌, ◌*◌, ◌≤◌, ◌<◌}
+use Prim.Native.Nat.{ℕ, ◌+◌, ◌*◌, ◌≤◌, ◌<◌}
 use native.Mathlib.Omega.{arith}
 use lib.Dec.{eqb}
 use lib.ListN.{length, get_or}
 use Rattle.spec.specs.declared.Plan.{Plan}
-use Rattle.spec.specs.Frame.{no_reading, settings_of, pixels, pixel_level, pixel_guide, frame_of, value_of}
-use Rattle.spec.specs.Checks.{ValuesFit, PlaneFits, Pictured}
+use Rattle.spec.specs.Frame.{no_reading, settings_of, pixel_level, pixel_guide, frame_of, value_of}
+use Rattle.spec.specs.Checks.{PlaneFits, Pictured}
 use Rattle.spec.proofs.Limits.{value-live, guide-below}
 use Rattle.spec.proofs.Plans.{facts, plane-small}
 use Rattle.window.specs.Line.{PlanLimits}
@@ -52,7 +52,7 @@ module _ {b vs : List ℕ} {z : Plan} (pl : Pictured b vs z) where
         go [] fit n = absurd (n refl)
         go (v ∷ vs) fit n = (rw fit.long in-pixels, refl)
 
-    -- of none
+    -- of none: docs/TRACE.md names this
     pub plane-none : length vs ≡ 0 → pixel_level b q ≡ value_of b vs q
     plane-none = go vs
       where

@@ -21,10 +21,11 @@ pub fn value_in(file: &[u8], plane: &[u16], plan: Plan, q: usize) -> u16
     requires q_bound { q < plan.width * plan.height }
     ensures { result ≡ value_of file.now plane.now q }
 {
-    if plane.len() == 0 {
-        return value_at(file, plan, q);
+    if plane.is_empty() {
+        value_at(file, plan, q)
+    } else {
+        plane[q]
     }
-    plane[q]
 }
 
 pub fn guide_at(file: &[u8], plan: Plan, q: usize) -> Guide

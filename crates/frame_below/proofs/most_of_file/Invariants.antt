@@ -1,17 +1,11 @@
--- `frame_below::most_of_file` meets its contract. The invariant: none looked at is judged larger, and the array has the bytes of all.
--- Assumes nothing.
-use Rattle.frame_below.specs.Below.{Below}
-use Rattle.big_endian_part.specs.Part.{Made, low_first}
-use Rattle.spec.specs.Checks.{judged}
+-- `most_of_file`: the bytes of the numbers passed are exchanged. Assumes nothing.
+use Rattle.std.proofs.Common.{◌≡◌, ℕ, ◌<◌, ◌≤◌, get_or}
 use Rattle.spec.specs.Frame.{plane}
-use Prim.Native.Nat.{◌+◌, ◌-◌, ◌≤◌}
-use lib.ListN.{replicate}
+use Rattle.big_endian_part.specs.Part.{low_first}
 use Rattle.frame_below.proofs.most_of_file.Given as goal
 
-abbrev pub invariant-loop-j : goal.invariant-loop-j
-invariant-loop-j l =
-    (l.j ≤ 64) × Below (λ i. judged l.values (plane l.file l.offset i)) l.j (l.most + 1)
-    × Made (low_first l.file l.offset) 0 64 (replicate 64 0) l.part
-
-abbrev pub decreases-loop-j : goal.decreases-loop-j
-decreases-loop-j l = 64 - l.j
+abbrev pub invariant-loop-number : goal.invariant-loop-number
+invariant-loop-number l = record {
+  passed : (i : ℕ) → i < l.number-index → get_or l.number-items i 0 ≡ plane l.file l.offset i;
+  coming : (i : ℕ) → l.number-index ≤ i → i < 64 → get_or l.number-items i 0 ≡ low_first l.file l.offset i;
+}
