@@ -21,6 +21,7 @@ use Rattle.window.specs.declared.line.Step.{Step}
 use Rattle.window.specs.Line.{column_line, step_of, Adjacent, line_fold}
 use Rattle.window.proofs.FormLaws.{both-in}
 use Rattle.window.proofs.LineLaws.{fold-none, fold_more, columns-law}
+use Rattle.pixels.specs.declared.Pixel.{Pixel}
 use Rattle.pixels.specs.Pixels.{count_of, pixel_fold, columns_fold, PixelsBelow, LinePixels}
 use Rattle.pixels.proofs.AdditiveLaws.{stepped}
 use Rattle.pixels.proofs.SumLaws.{below-most}
@@ -40,7 +41,7 @@ list_ext : (z : Size) (cnt sm cnt' sm' : ℕ → ℕ) (free : FreeList) (m : Lis
 list_ext z cnt sm cnt' sm' free m c p q = chain-ext z.cap z.levels free.head free.count cnt sm cnt' sm' m c p q
 
 -- ---- one list of pixels out, another in
-module _ {e l : List ℕ} {free : FreeList} {m : List ℕ} where
+module _ {e l : List Pixel} {free : FreeList} {m : List ℕ} where
   pub slide-removable : Slides e l free m → MergeableLine false l free m
   slide-removable a =
       record { size = a.size; small = a.small; below = a.leaving; cnt = a.cnt; sm = a.sm; chain = a.chain; ready = a.none_left }
@@ -120,7 +121,7 @@ module _ {b : List ℕ} {z : Plan} (pl : Planned b z) where
   guides_high hs ht i = guides_of-high (pixel-of pl hs ht) i
 
   -- a plan's pixels are pixels of its list
-  line-below : {p : List ℕ} → PixelsBelow z.levels z.guides p → PixelsBelow (list_size z).levels 256 p
+  line-below : {p : List Pixel} → PixelsBelow z.levels z.guides p → PixelsBelow (list_size z).levels 256 p
   line-below v = rw (levels-is pl) (record { few = v.few; level = v.level; guide = (below-most pl v).guide })
 
   small : (list_size z).cap < 4294967296
@@ -157,7 +158,7 @@ module _ {b : List ℕ} {z : Plan} (pl : Planned b z) where
         (λ i. columns-all (guided i) ∙ sym (guides-is s t i))
 
     -- the next column, read into the list p
-    module _ {k : ℕ} (l : k < span z.radius s z.width) {d : Line} (ed : d ≡ column_line z (s - z.radius + k) t) {p : List ℕ}
+    module _ {k : ℕ} (l : k < span z.radius s z.width) {d : Line} (ed : d ≡ column_line z (s - z.radius + k) t) {p : List Pixel}
         (r : LinePixels b [] z d p)
         {free : FreeList} {m : List ℕ} (c : ColumnsListed b z s t k free m) where
       column-more : (h : ℕ → ℕ → ℕ) → columns_to b z s t h k + pixel_fold ◌+◌ 0 p h ≡ columns_to b z s t h (k + 1)
@@ -203,7 +204,7 @@ module _ {b : List ℕ} {z : Plan} (pl : Planned b z) where
           list_ext (list_size z) _ _ _ _ free' m' (i.chain columns-insertable) (λ j. column-more (counted j)) (λ j. column-more (guided j))
 
   -- ---- to a neighbour: e and l are the lists of the entering and the leaving line
-  module _ {s t s' t' : ℕ} (adj : Adjacent z s t s' t') {d : Step} (ed : d ≡ step_of z s t s' t') {e l : List ℕ}
+  module _ {s t s' t' : ℕ} (adj : Adjacent z s t s' t') {d : Step} (ed : d ≡ step_of z s t s' t') {e l : List Pixel}
       (re : LinePixels b [] z d.entering e)
       (rl : LinePixels b [] z d.leaving l)
       {free : FreeList} {m : List ℕ} (c : Listed b z s t free m) where

@@ -7,6 +7,7 @@ use Rattle.spec.specs.Frame.{guide, frame_of}
 use Rattle.spec.specs.Window.{level_sum}
 use Rattle.spec.specs.Chain.{ChainStore}
 use Rattle.spec.specs.Calls.{room_of}
+use Rattle.pixels.specs.declared.Pixel.{Pixel}
 use Rattle.pixels.specs.Pixels.{PixelsBelow}
 use Rattle.chain_nodes.specs.declared.FreeList.{FreeList}
 use Rattle.chain_list.specs.Chain.{Beyond, Size, ListOf}
@@ -36,7 +37,7 @@ pub record Stored (b : List ℕ) (plan : Plan) (s t : ℕ) (m : List ℕ) (free 
   pub rest : drop (store_size b) m' ≡ drop (store_size b) m
 
 -- the pixels l can leave, and then the pixels e can enter; cnt and sm are the counts and guide sums of what stays
-pub record Slides (e l : List ℕ) (free : FreeList) (m : List ℕ) : Type 0 where
+pub record Slides (e l : List Pixel) (free : FreeList) (m : List ℕ) : Type 0 where
   pub size : Size
   pub small : size.cap < 4294967296
   pub entering : PixelsBelow size.levels 256 e
@@ -48,6 +49,6 @@ pub record Slides (e l : List ℕ) (free : FreeList) (m : List ℕ) : Type 0 whe
   pub ready : InsertLineReady size e cnt sm
 
 -- they have
-pub record Slid (e l : List ℕ) (free : FreeList) (m : List ℕ) (free' : FreeList) (m' : List ℕ) : Type 0 where
+pub record Slid (e l : List Pixel) (free : FreeList) (m : List ℕ) (free' : FreeList) (m' : List ℕ) : Type 0 where
   pub beyond : (a : Slides e l free m) → Beyond a.size.cap m m'
   pub chain : (a : Slides e l free m) → ListOf a.size (with_counts true e a.cnt) (with_guides true e a.sm) free' m'

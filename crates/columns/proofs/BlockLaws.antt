@@ -2,23 +2,27 @@
 -- Assumes nothing.
 use mathlib.Core.Path.{◌≡◌, refl, sym, ap, ap₂, ◌∙◌, subst}
 use mathlib.Core.Bool.{Bool, true, false, not, true≢false}
-use mathlib.Core.List.{List}
+use mathlib.Core.List.{List, ◌++◌}
 use Prim.Native.Nat.{ℕ, ◌+◌, ◌-◌, ◌*◌, ◌/◌, ◌%◌, ◌≤◌, ◌<◌}
-use native.Mathlib.Nat.{le_of_eq, le_antisymm, add-mul, mul_assoc, mul-one}
+use native.Mathlib.Nat.{le_of_eq, add-mul, mul_assoc}
 use native.Mathlib.Omega.{arith}
 use native.Mathlib.Decide.{ℕ_discrete}
 use lib.Arith.{digits_lt, digits_div, digits_mod}
 use lib.Dec.{eqb}
-use lib.ListN.{length, get_or, set, length-set}
-use lib.Seq.{get_or-set_same, get_or-set_other}
+use lib.ListN.{length, get_or, set, take, drop, replicate, length-set}
+use Rattle.std.proofs.lemmas.Grind.{common_steps}
+use lib.Seq.{length-take-le, get_or-set_same, get_or-set_other}
 use borrow.Author.Tests.{eq-eqb, ne_eqb}
 use Rattle.std.specs.Prelude.{if◌then◌else◌}
 use Rattle.spec.specs.Base.{sum, when}
-use Rattle.spec.specs.Frame.{Frame, level, dead, guide}
+use Rattle.spec.specs.declared.Plan.{Plan}
+use Rattle.spec.specs.Checks.{Planned}
+use Rattle.spec.proofs.Plans.{facts}
+use Rattle.spec.specs.Frame.{Frame, frame_of, level, dead, guide}
 use Rattle.spec.specs.Window.{span}
 use Rattle.spec.proofs.Ranges.{nat_sums, fold-parts}
 use Rattle.spec.proofs.Sums.{live-read, live-dead}
-use Rattle.columns.specs.Blocks.{Put, Able, block, at_level, pixel_d, strip_d, row_d, Cleared}
+use Rattle.columns.specs.Blocks.{Put, Able, block, at_level, pixel_d, strip_d, row_d}
 use Rattle.window.proofs.LineLaws.{fold-none, fold_more}
 use Rattle.pixels.specs.Additive.{changed, Fits}
 use Rattle.pixels.proofs.AdditiveLaws.{fits-down}
@@ -95,21 +99,29 @@ put_one add l m i v xs hi hm low = record { len = length-set xs _ _; cells = λ 
     go false low m' j h (no d) x =
         omega (arith, other m' j (get_or xs (m * l + i) 0 - v) h (λ a b. d a), nowhere m' j (λ a b. d a) (no d) x)
 
--- ---- one after another: P a, P (a + 1), .. , k of them
-pub record Piled (add : Bool) (l : ℕ) (P : ℕ → ℕ → ℕ → ℕ) (a n : ℕ) (xs ys : List ℕ) (k : ℕ) : Type 0 where
-  pub to : k ≤ n
-  pub put : Put add l (λ m i. sum (λ v. P v m i) a k) xs ys
+-- ---- one after another: P a, P (a + 1), .. , n of them, as far as P c
+pub record Piled (add : Bool) (l : ℕ) (P : ℕ → ℕ → ℕ → ℕ) (a n : ℕ) (xs ys : List ℕ) (c : ℕ) : Type 0 where
+  pub from : a ≤ c
+  pub put : Put add l (λ m i. sum (λ v. P v m i) a (c - a)) xs ys
 
-pub pile-start : (add : Bool) (l : ℕ) (P : ℕ → ℕ → ℕ → ℕ) (a n : ℕ) (xs : List ℕ) → Piled add l P a n xs xs 0
-pile-start add l P a n xs = record { to = omega arith; put = put_same add (λ m i h. sym (fold-none ◌+◌ 0 (λ v. P v m i) a)) (put-none add l xs) }
+pub pile-start : (add : Bool) (l : ℕ) (P : ℕ → ℕ → ℕ → ℕ) (a n : ℕ) (xs : List ℕ) → Piled add l P a n xs xs a
+pile-start add l P a n xs =
+    let z : a - a ≡ 0 = omega arith in
+    record { from = omega arith; put = rw z (put_same add (λ m i h. sym (fold-none ◌+◌ 0 (λ v. P v m i) a)) (put-none add l xs)) }
 
-pub pile-next : {add : Bool} {l : ℕ} {P : ℕ → ℕ → ℕ → ℕ} {a n : ℕ} {xs ys zs : List ℕ} {k : ℕ} → Piled add l P a n xs ys k → k < n
-    → Put add l (P (a + k)) ys zs → Piled add l P a n xs zs (k + 1)
-pile-next {add} {l} {P} {a} {n} {xs} {ys} {zs} {k} v h q =
+pub pile-next : {add : Bool} {l : ℕ} {P : ℕ → ℕ → ℕ → ℕ} {a n : ℕ} {xs ys zs : List ℕ} {c : ℕ} → Piled add l P a n xs ys c
+    → Put add l (P c) ys zs → Piled add l P a n xs zs (c + 1)
+pile-next {add} {l} {P} {a} {n} {xs} {ys} {zs} {c} v q =
     record {
-      to = omega arith;
-      put = put_same add (λ m i _. sym (fold_more ◌+◌ 0 (λ v. P v m i) a k)) (put_both add (λ m i. sum (λ v. P v m i) a k) (P (a + k)) v.put q);
+      from = omega arith;
+      put = put_same add (λ m i _. last m i) (put_both add (λ m i. sum (λ v. P v m i) a (c - a)) (P c) v.put q);
     }
+  where
+    last : (m i : ℕ) → sum (λ v. P v m i) a (c - a) + P c m i ≡ sum (λ v. P v m i) a (c + 1 - a)
+    last m i =
+        let e : a + (c - a) ≡ c = omega arith in
+        let d : c - a + 1 ≡ c + 1 - a = omega arith in
+        rw e at (rw d at (sym (fold_more ◌+◌ 0 (λ v. P v m i) a (c - a))))
 
 -- a part of a sum is at most the whole
 sum-part : (f : ℕ → ℕ) (a k n : ℕ) → k ≤ n → sum f a k ≤ sum f a n
@@ -118,17 +130,21 @@ sum-part f a k n h =
     let q : sum f a n ≡ sum f a k + sum f (a + k) (n - k) = ap (λ (m : ℕ). sum f a m) d ∙ fold-parts ◌+◌ 0 nat_sums f a k (n - k) in
     omega arith
 
-pub pile-able : {add : Bool} {l : ℕ} {P : ℕ → ℕ → ℕ → ℕ} {a n : ℕ} {xs ys : List ℕ} {k : ℕ} → Piled add l P a n xs ys k → k < n
-    → Able add l (λ m i. sum (λ v. P v m i) a n) xs → Able add l (P (a + k)) ys
-pile-able {add} {l} {P} {a} {n} {xs} {ys} {k} v h able =
-    able-then add (λ m i. sum (λ v. P v m i) a k) (P (a + k))
-    (able-less add (λ m i _. let q = fold_more ◌+◌ 0 (λ v. P v m i) a k in let r = sum-part (λ v. P v m i) a (k + 1) n (omega arith) in omega arith)
-    able)
-    v.put
+pub pile-able : {add : Bool} {l : ℕ} {P : ℕ → ℕ → ℕ → ℕ} {a n : ℕ} {xs ys : List ℕ} {c : ℕ} → Piled add l P a n xs ys c → c < a + n
+    → Able add l (λ m i. sum (λ v. P v m i) a n) xs → Able add l (P c) ys
+pile-able {add} {l} {P} {a} {n} {xs} {ys} {c} v h able =
+    able-then add (λ m i. sum (λ v. P v m i) a (c - a)) (P c) (able-less add (λ m i _. some m i) able) v.put
+  where
+    some : (m i : ℕ) → sum (λ v. P v m i) a (c - a) + P c m i ≤ sum (λ v. P v m i) a n
+    some m i =
+        let e : a + (c - a) ≡ c = omega (arith, v.from) in
+        let q = rw e at (fold_more ◌+◌ 0 (λ v. P v m i) a (c - a)) in
+        let r = sum-part (λ v. P v m i) a (c - a + 1) n (omega (arith, v.from)) in
+        omega arith
 
-pub pile-end : {add : Bool} {l : ℕ} {P : ℕ → ℕ → ℕ → ℕ} {a n : ℕ} {xs ys : List ℕ} {k : ℕ} → Piled add l P a n xs ys k → n ≤ k
+pub pile-end : {add : Bool} {l : ℕ} {P : ℕ → ℕ → ℕ → ℕ} {a n : ℕ} {xs ys : List ℕ} {c : ℕ} → Piled add l P a n xs ys c → c ≡ a + n
     → Put add l (λ m i. sum (λ v. P v m i) a n) xs ys
-pile-end {add} {l} {P} {a} {n} v h = put_same add (λ m i _. ap (λ (m' : ℕ). sum (λ v. P v m i) a m') (le_antisymm v.to h)) v.put
+pile-end {add} {l} {P} {a} {n} {xs} {ys} {c} v h = let e : c - a ≡ n = omega arith in rw e at v.put
 
 -- ---- a place of a block is in the store
 pub store-size : (w l : ℕ) → (2 * w + 2) * l ≡ 2 * (w * l) + 2 * l
@@ -203,59 +219,38 @@ module _ (p : Frame) (add : Bool) (y a b apart first n : ℕ) {l : ℕ} {xs : Li
   unfolding strip_d
   strip-put k = k
 
--- both strips' blocks are in the store
-pub strips-in : (w x : ℕ) → x < w
-    → ((0 + x * 1 < 2 * w + 2) × (w + x * 1 < 2 * w + 2)) × ((2 * w + x * 0 < 2 * w + 2) × (2 * w + 1 + x * 0 < 2 * w + 2))
-strips-in w x h = ((omega (arith, mul-one x), omega (arith, mul-one x)), (omega arith, omega arith))
+module _ {b : List ℕ} {z : Plan} (pl : Planned b z) (add : Bool) (s left n y : ℕ) (el : left ≡ s - z.radius) (en : n ≡ span z.radius s z.width) where
+  abbrev columns_d : ℕ → ℕ → ℕ
+  columns_d = strip_d (frame_of b) y 0 z.width 1 0 z.width
 
-module _ (p : Frame) (add : Bool) (w s left n y : ℕ) (ew : w ≡ p.set.width) (el : left ≡ s - p.set.radius)
-    (en : n ≡ span p.set.radius s p.set.width) where
-  row_is : (m i : ℕ) → strip_d p y 0 w 1 0 w m i + strip_d p y (2 * w) (2 * w + 1) 0 left n m i ≡ row_d p s y m i
+  abbrev window_d : ℕ → ℕ → ℕ
+  window_d = strip_d (frame_of b) y (2 * z.width) (2 * z.width + 1) 0 left n
+
+  row_is : (m i : ℕ) → columns_d m i + window_d m i ≡ row_d (frame_of b) s y m i
   unfolding row_d
-  row_is m i = rw (el, en, ew) refl
+  row_is m i = let f = facts pl in rw (el, en, f.radius, f.width) refl
 
-  both-able : {l : ℕ} {xs : List ℕ} → Able add l (row_d p s y) xs →
-      Able add l (λ m i. strip_d p y 0 w 1 0 w m i + strip_d p y (2 * w) (2 * w + 1) 0 left n m i) xs
+  both-able : {l : ℕ} {xs : List ℕ} → Able add l (row_d (frame_of b) s y) xs → Able add l (λ m i. columns_d m i + window_d m i) xs
   both-able k = able-less add (λ m i h. le_of_eq (row_is m i)) k
 
-  pub row_first : {l : ℕ} {xs : List ℕ} → Able add l (row_d p s y) xs → Able add l (strip_d p y 0 w 1 0 w) xs
+  pub row_first : {l : ℕ} {xs : List ℕ} → Able add l (row_d (frame_of b) s y) xs → Able add l columns_d xs
   row_first k = able-less add (λ m i h. omega arith) (both-able k)
 
-  pub row-second : {l : ℕ} {xs ys : List ℕ} → Able add l (row_d p s y) xs → Put add l (strip_d p y 0 w 1 0 w) xs ys →
-      Able add l (strip_d p y (2 * w) (2 * w + 1) 0 left n) ys
-  row-second k q = able-then add (strip_d p y 0 w 1 0 w) (strip_d p y (2 * w) (2 * w + 1) 0 left n) (both-able k) q
+  pub row-second : {l : ℕ} {xs ys : List ℕ} → Able add l (row_d (frame_of b) s y) xs → Put add l columns_d xs ys → Able add l window_d ys
+  row-second k q = able-then add columns_d window_d (both-able k) q
 
-  pub row_put : {l : ℕ} {xs ys zs : List ℕ} → Put add l (strip_d p y 0 w 1 0 w) xs ys → Put add l (strip_d p y (2 * w) (2 * w + 1) 0 left n) ys zs →
-      Put add l (row_d p s y) xs zs
-  row_put q u = put_same add (λ m i h. row_is m i) (put_both add (strip_d p y 0 w 1 0 w) (strip_d p y (2 * w) (2 * w + 1) 0 left n) q u)
+  pub row_put : {l : ℕ} {xs ys zs : List ℕ} → Put add l columns_d xs ys → Put add l window_d ys zs → Put add l (row_d (frame_of b) s y) xs zs
+  row_put q u = put_same add (λ m i h. row_is m i) (put_both add columns_d window_d q u)
 
--- ---- clearing
-pub clear_none : (xs : List ℕ) → Cleared 0 xs xs
-clear_none xs = record { len = refl; zeros = λ j h. absurd (omega arith); rest = λ j h. refl }
+-- ---- clearing: the first n numbers are 0, and the others as they were
+pub record Cleared (n : ℕ) (xs ys : List ℕ) : Type 0 where
+  pub len : length ys ≡ length xs
+  pub zeros : (j : ℕ) → j < n → get_or ys j 0 ≡ 0
+  pub rest : (j : ℕ) → n ≤ j → get_or ys j 0 ≡ get_or xs j 0
 
-pub clear-more : (j : ℕ) {xs ys : List ℕ} → Cleared j xs ys → j < length ys → Cleared (j + 1) xs (set ys j 0)
-clear-more j {xs} {ys} c h =
-    record {
-      len = length-set ys j 0 ∙ c.len;
-      zeros = λ k l. go k l (ℕ_discrete k j);
-      rest =
-          λ k l. get_or-set_other ys j k 0 0 (λ e. omega arith) ∙ c.rest k (omega arith);
-    }
-  where
-    go : (k : ℕ) → k < j + 1 → Dec (k ≡ j) → get_or (set ys j 0) k 0 ≡ 0
-    go k l (yes e) = rw e (get_or-set_same ys j 0 0 h)
-    go k l (no e) = get_or-set_other ys j k 0 0 e ∙ c.zeros k (omega arith)
-
-pub clear-end : {j n : ℕ} {xs ys : List ℕ} → j ≤ n → n ≤ j → Cleared j xs ys → Cleared n xs ys
-clear-end {j} {n} {xs} {ys} h l c = subst (λ (k : ℕ). Cleared k xs ys) (le_antisymm h l) c
-
--- ---- a change that may not be made
-module _ {on add : Bool} {l : ℕ} (D : ℕ → ℕ → ℕ) where
-  pub when-able : {xs : List ℕ} → on ≡ true → Able add l (λ m i. when on (D m i)) xs → Able add l D xs
-  when-able {xs} e = rw e (λ k. k)
-
-  pub when-put : {xs ys : List ℕ} → on ≡ true → Put add l D xs ys → Put add l (λ m i. when on (D m i)) xs ys
-  when-put e k = rw e k
-
-  pub when-none : {xs : List ℕ} → on ≡ false → Put add l (λ m i. when on (D m i)) xs xs
-  when-none {xs} e = rw e (put-none add l xs)
+pub cleared : (n : ℕ) (xs ys : List ℕ) → n ≤ length xs → ys ≡ replicate (length (take n xs)) 0 → Cleared n xs (ys ++ drop n xs)
+cleared n xs ys h e = rw (e, length-take-le n xs h) (record {
+  len = grind (arith, common_steps);
+  zeros = λ j l. grind (arith, common_steps);
+  rest = λ j l. grind (arith, common_steps);
+})

@@ -9,7 +9,7 @@ use native.Mathlib.Omega.{arith}
 use native.Mathlib.Decide.{ℕ_discrete, dec_lt}
 use lib.Arith.{digits_lt, digits_div, digits_mod}
 use lib.Dec.{eqb}
-use lib.ListN.{length, get_or, set, drop, length-append, length-drop, get_or-append}
+use lib.ListN.{length, get_or, drop, length-append, length-drop, get_or-append}
 use lib.Seq.{ext_get_or, get_or-append-add, get_or-drop, drop_at}
 use borrow.Author.Tests.{eq-eqb, ne_eqb}
 use Rattle.std.specs.Prelude.{if◌then◌else◌}
@@ -21,7 +21,7 @@ use Rattle.spec.specs.Window.{level_sum}
 use Rattle.spec.proofs.Ranges.{nat_sums, fold_same, fold-none, fold_rect-turn}
 use Rattle.spec.proofs.Histogram.{fold-pick}
 use Rattle.spec.proofs.First.{length-tabulate, get_d_tabulate}
-use Rattle.columns.specs.Blocks.{block, at_level, pixel_d, strip_d, row_d, content_d, blocks_size}
+use Rattle.columns.specs.Blocks.{at_level, pixel_d, strip_d, row_d, content_d, blocks_size}
 use Rattle.columns.proofs.BlockLaws.{store-size, in-store}
 
 -- ---- which block

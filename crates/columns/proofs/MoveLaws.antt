@@ -4,11 +4,11 @@ use mathlib.Core.Path.{◌≡◌, sym}
 use mathlib.Core.Bool.{true, false}
 use mathlib.Core.List.{List, ◌++◌}
 use mathlib.Core.Logic.{inl, inr}
-use Prim.Native.Nat.{ℕ, ◌+◌, ◌-◌, ◌*◌, ◌≤◌, ◌<◌}
+use Prim.Native.Nat.{ℕ, ◌+◌, ◌*◌, ◌≤◌, ◌<◌}
 use native.Mathlib.Nat.{mul-le-mul}
 use native.Mathlib.Omega.{arith}
 use lib.ListN.{length, get_or, drop}
-use Rattle.spec.specs.Base.{when}
+use Rattle.std.specs.Option.{ForSome}
 use Rattle.spec.specs.declared.Plan.{Plan}
 use Rattle.spec.specs.Frame.{frame_of}
 use Rattle.spec.specs.Checks.{Planned}
@@ -17,9 +17,9 @@ use Rattle.spec.proofs.Plans.{facts}
 use Rattle.window.specs.Line.{Adjacent, right, left, down, up}
 use Rattle.window.proofs.PixelLaws.{plan-limits, levels_high}
 use Rattle.columns.specs.declared.store.Exchange.{Exchange}
-use Rattle.columns.specs.Blocks.{Put, Able, Swap, pair_d, row_d, blocks_size, exchange_of, Neighbours, enter_d, leave_d, InWidth, SideReady}
+use Rattle.columns.specs.Blocks.{Put, Able, Swap, when_some, pair_d, row_d, blocks_size, exchange_of, Neighbours, enter_d, leave_d, InWidth, SideReady}
 use Rattle.columns.proofs.ContentLaws.{holds-long}
-use Rattle.columns.proofs.StoreLaws.{exchange-small, entering-low, leaving-low, enter-able, leave-able, rows-moved}
+use Rattle.columns.proofs.StoreLaws.{entering-low, leaving-low, enter-able, leave-able, rows-moved}
 use Rattle.columns.proofs.SideLaws.{ready-counts, ready-guides, across-holds}
 
 -- ---- which way a move goes
@@ -52,21 +52,21 @@ module _ {b : List ℕ} {z : Plan} (pl : Planned b z) where
       rows = rw (facts pl).height at k
 
       pub row-enters : ((j : ℕ) → get_or xs j 0 < 4294967296)
-          → (d.enters ≡ true → d.entering < z.height) × Able true z.levels (λ m i. when d.enters (row_d (frame_of b) s d.entering m i)) xs
+          → (ForSome d.entering (λ y. y < z.height)) × Able true z.levels (λ m i. when_some d.entering (λ y. row_d (frame_of b) s y m i)) xs
       unfolding enter_d
       row-enters bits =
           let f = facts pl in
           rw (ed, f.radius, f.height, f.levels) (entering-low (frame_of b).set.radius rows, enter-able f.limits s rows xs e bits)
 
-      pub row-leaves : (ys : List ℕ) → Put true z.levels (λ m i. when d.enters (row_d (frame_of b) s d.entering m i)) xs ys
-          → (d.leaves ≡ true → d.leaving < z.height) × Able false z.levels (λ m i. when d.leaves (row_d (frame_of b) s d.leaving m i)) ys
+      pub row-leaves : (ys : List ℕ) → Put true z.levels (λ m i. when_some d.entering (λ y. row_d (frame_of b) s y m i)) xs ys
+          → (ForSome d.leaving (λ y. y < z.height)) × Able false z.levels (λ m i. when_some d.leaving (λ y. row_d (frame_of b) s y m i)) ys
       unfolding enter_d leave_d
       row-leaves ys =
           let f = facts pl in
           rw (ed, f.radius, f.height, f.levels) (λ q. (leaving-low (frame_of b).set.radius rows, leave-able f.limits s rows xs e ys q))
 
-      pub vertical-done : (ys zs : List ℕ) → Put true z.levels (λ m i. when d.enters (row_d (frame_of b) s d.entering m i)) xs ys
-          → Put false z.levels (λ m i. when d.leaves (row_d (frame_of b) s d.leaving m i)) ys zs →
+      pub vertical-done : (ys zs : List ℕ) → Put true z.levels (λ m i. when_some d.entering (λ y. row_d (frame_of b) s y m i)) xs ys
+          → Put false z.levels (λ m i. when_some d.leaving (λ y. row_d (frame_of b) s y m i)) ys zs →
           zs ≡ column_store (frame_of b) s t' ++ drop (blocks_size (frame_of b)) xs
       unfolding enter_d leave_d
       vertical-done ys zs =
@@ -79,16 +79,7 @@ module _ {b : List ℕ} {z : Plan} (pl : Planned b z) where
       sides = rw (facts pl).width at k
 
       pub sides-in : InWidth z.width d
-      sides-in =
-          let small = exchange-small z.radius k (plan-limits pl).radius (plan-limits pl).width in
-          rw ed
-          (record {
-            entering = entering-low z.radius k;
-            leaving = leaving-low z.radius k;
-            entering_small = small.0;
-            leaving_small =
-                small.1;
-          })
+      sides-in = rw ed (record { entering = entering-low z.radius k; leaving = leaving-low z.radius k })
 
       pub sides-ready : SideReady z.width z.levels d xs
       sides-ready =
@@ -98,7 +89,7 @@ module _ {b : List ℕ} {z : Plan} (pl : Planned b z) where
 
       pub sideways-done : (ys : List ℕ)
           →
-          Swap z.levels (pair_d z.width d.enters z.levels d.entering xs) (pair_d z.width d.leaves z.levels d.leaving xs)
+          Swap z.levels (pair_d z.width z.levels d.entering xs) (pair_d z.width z.levels d.leaving xs)
           xs ys
           → ys ≡ column_store (frame_of b) s' t ++ drop (blocks_size (frame_of b)) xs
       sideways-done ys v = let f = facts pl in across-holds f.limits t sides xs e ys (rw (ed, f.radius, f.width, f.levels) at v)

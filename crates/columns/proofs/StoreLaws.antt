@@ -4,15 +4,17 @@ use mathlib.Core.Path.{◌≡◌, refl, sym, ap, ◌∙◌, subst}
 use mathlib.Core.Bool.{Bool, true, false, true≢false}
 use mathlib.Core.List.{List, ◌++◌}
 use mathlib.Core.Logic.{◌⊎◌, inl, inr}
-use Prim.Native.Nat.{ℕ, ◌+◌, ◌-◌, ◌*◌, ◌/◌, ◌%◌, ◌≤◌, ◌<◌}
+use Prim.Native.Nat.{ℕ, ◌+◌, ◌-◌, ◌*◌, ◌/◌, ◌%◌, ◌≤◌, ◌<◌, min}
 use native.Mathlib.Nat.{le_trans, le_of_eq, div-add-mod', div-lt_iff_lt-mul, mod-lt, mul-le-mul_right}
 use native.Mathlib.Omega.{arith}
 use native.Mathlib.Decide.{dec_lt}
 use lib.Dec.{leb, ltb, eqb}
 use lib.ListN.{length, get_or, drop}
-use borrow.Author.Tests.{ltb-true, lt-ltb, le-ltb}
+use borrow.Author.Tests.{ltb-true, lt-ltb, le-ltb, le-leb, lt-leb}
 use Rattle.spec.specs.declared.Plan.{Plan}
-use Rattle.std.specs.Prelude.{if◌then◌else◌}
+use Rattle.std.specs.Prelude.{if◌then◌else◌, Option, Some, None}
+use Rattle.std.specs.Bool.{then_some}
+use Rattle.std.specs.Option.{ForSome, SomeIff}
 use Rattle.spec.specs.Base.{sum, when}
 use Rattle.spec.specs.Frame.{Frame, frame_of, level, guide}
 use Rattle.spec.specs.Checks.{Planned}
@@ -25,9 +27,9 @@ use Rattle.spec.proofs.Bounds.{if-high}
 use Rattle.spec.proofs.Plans.{facts}
 use Rattle.window.proofs.LineLaws.{span-high}
 use Rattle.columns.specs.declared.store.Exchange.{Exchange}
-use Rattle.columns.specs.Blocks.{Put, Able, Cleared, Neighbours}
-use Rattle.columns.specs.Blocks.{at_level, row_d, content_d, blocks_size, ahead, back, exchange_of, enter_d, leave_d}
-use Rattle.columns.proofs.BlockLaws.{store-size, in-store}
+use Rattle.columns.specs.Blocks.{Put, Able, Neighbours}
+use Rattle.columns.specs.Blocks.{at_level, row_d, content_d, blocks_size, ahead, back, exchange_of, when_some, enter_d, leave_d}
+use Rattle.columns.proofs.BlockLaws.{Cleared, store-size, in-store}
 use Rattle.columns.proofs.ContentLaws.{
   Which,
   counts,
@@ -47,21 +49,30 @@ use Rattle.columns.proofs.ContentLaws.{
   make-holds,
 }
 
--- ---- how the code makes an exchange
-module _ {c c' : ℕ} (r size : ℕ) where
-  pub ahead-is : {low : ℕ} → c < c' → low ≡ c - r
-      → ◌≡◌ {A = Exchange} (record { entering = c + r + 1; enters = ltb (c + r + 1) size; leaving = low; leaves = leb r c }) (exchange_of c c' r size)
-  unfolding exchange_of ahead
-  ahead-is h e = rw (lt-ltb c c' h, e) refl
-
-  pub back_is : {low : ℕ} → c' ≤ c → low ≡ c' - r
-      →
-      ◌≡◌ {A = Exchange} (record { entering = low; enters = leb r c'; leaving = c' + r + 1; leaves = ltb (c' + r + 1) size })
-      (exchange_of c c' r size)
-  unfolding exchange_of ahead back
-  back_is h e = rw (le-ltb c c' h, e) refl
-
 -- ---- a move by one, for everything that is summed over a span
+if-some : (b : Bool) (x : ℕ) (F : ℕ → ℕ) → when_some (then_some b x) F ≡ when b (F x)
+if-some true x F = refl
+if-some false x F = refl
+
+some-low : (b : Bool) (x size : ℕ) → (b ≡ true → x < size) → ForSome (then_some b x) (λ y. y < size)
+some-low true x size h y e = let z : x ≡ y = cc in let low = h refl in omega arith
+some-low false x size h y e = absurd (let z : Some y ≡ None = sym e in cc)
+
+some-iff : (x : Option ℕ) (a b : ℕ) → SomeIff x (a ≤ b) (b - a) → x ≡ then_some (leb a b) (b - a)
+some-iff (Some x) a b h = rw (le-leb a b h.0, h.1) refl
+some-iff None a b h = rw (lt-leb a b (omega arith)) refl
+
+-- how the code makes an exchange, from the lines at both ends of the window that comes first
+module _ {c c' : ℕ} (r size : ℕ) {first : ℕ} {before after : Option ℕ} (f : first ≡ min c c') (b : SomeIff before (r ≤ first) (first - r))
+    (a : after ≡ then_some (ltb (first + r + 1) size) (first + r + 1)) where
+  pub ahead-is : c < c' → ◌≡◌ {A = Exchange} (record { entering = after; leaving = before }) (exchange_of c c' r size)
+  unfolding exchange_of ahead
+  ahead-is h = let e : first ≡ c = omega arith in rw (lt-ltb c c' h, a, some-iff before r first b, e) refl
+
+  pub back_is : c' ≤ c → ◌≡◌ {A = Exchange} (record { entering = before; leaving = after }) (exchange_of c c' r size)
+  unfolding exchange_of ahead back
+  back_is h = let e : first ≡ c' = omega arith in rw (le-ltb c c' h, a, some-iff before r first b, e) refl
+
 module _ {c c' size : ℕ} (r : ℕ) (k : Neighbours c c' size) where
   is-ahead : c' ≡ c + 1 → exchange_of c c' r size ≡ ahead c r size
   unfolding exchange_of
@@ -72,40 +83,36 @@ module _ {c c' size : ℕ} (r : ℕ) (k : Neighbours c c' size) where
   is-back e = rw (le-ltb c c' (omega arith)) refl
 
   pub exchange-law : (F : ℕ → ℕ)
-      → sum F (c' - r) (span r c' size) + when (exchange_of c c' r size).leaves (F (exchange_of c c' r size).leaving)
-      ≡ sum F (c - r) (span r c size) + when (exchange_of c c' r size).enters (F (exchange_of c c' r size).entering)
+      → sum F (c' - r) (span r c' size) + when_some (exchange_of c c' r size).leaving F
+      ≡ sum F (c - r) (span r c size) + when_some (exchange_of c c' r size).entering F
   unfolding ahead back lost gained
   exchange-law F = go k.by_one
     where
       go : (c' ≡ c + 1) ⊎ (c ≡ c' + 1)
-          → sum F (c' - r) (span r c' size) + when (exchange_of c c' r size).leaves (F (exchange_of c c' r size).leaving)
-          ≡ sum F (c - r) (span r c size) + when (exchange_of c c' r size).enters (F (exchange_of c c' r size).entering)
-      go (inl e) = rw (is-ahead e, e) (window-right ◌+◌ 0 nat_sums F r c size (omega (arith, k.in_new)))
-      go (inr e) = rw (is-back e, e) (sym (window-right ◌+◌ 0 nat_sums F r c' size (omega (arith, k.in_old))))
+          → sum F (c' - r) (span r c' size) + when_some (exchange_of c c' r size).leaving F
+          ≡ sum F (c - r) (span r c size) + when_some (exchange_of c c' r size).entering F
+      go (inl e) =
+          rw (is-ahead e, e, if-some (leb r c) (c - r) F, if-some (ltb (c + r + 1) size) (c + r + 1) F)
+          (window-right ◌+◌ 0 nat_sums F r c size (omega (arith, k.in_new)))
+      go (inr e) =
+          rw (is-back e, e, if-some (leb r c') (c' - r) F, if-some (ltb (c' + r + 1) size) (c' + r + 1) F)
+          (sym (window-right ◌+◌ 0 nat_sums F r c' size (omega (arith, k.in_old))))
 
-  pub exchange-small : r ≤ 15 → size ≤ 1024 → ((exchange_of c c' r size).entering ≤ 2048) × ((exchange_of c c' r size).leaving ≤ 2048)
-  unfolding ahead back
-  exchange-small h l = go k.by_one
-    where
-      go : (c' ≡ c + 1) ⊎ (c ≡ c' + 1) → ((exchange_of c c' r size).entering ≤ 2048) × ((exchange_of c c' r size).leaving ≤ 2048)
-      go (inl e) = rw (is-ahead e) (omega (arith, k.in_old), omega (arith, k.in_old))
-      go (inr e) = rw (is-back e) (omega (arith, k.in_new), omega (arith, k.in_new))
-
-  pub entering-low : (exchange_of c c' r size).enters ≡ true → (exchange_of c c' r size).entering < size
+  pub entering-low : ForSome (exchange_of c c' r size).entering (λ x. x < size)
   unfolding ahead back
   entering-low = go k.by_one
     where
-      go : (c' ≡ c + 1) ⊎ (c ≡ c' + 1) → (exchange_of c c' r size).enters ≡ true → (exchange_of c c' r size).entering < size
-      go (inl e) = rw (is-ahead e) (λ h. ltb-true _ _ h)
-      go (inr e) = rw (is-back e) (λ h. omega (arith, k.in_new))
+      go : (c' ≡ c + 1) ⊎ (c ≡ c' + 1) → ForSome (exchange_of c c' r size).entering (λ x. x < size)
+      go (inl e) = rw (is-ahead e) (some-low (ltb (c + r + 1) size) (c + r + 1) size (λ h. ltb-true _ _ h))
+      go (inr e) = rw (is-back e) (some-low (leb r c') (c' - r) size (λ h. omega (arith, k.in_new)))
 
-  pub leaving-low : (exchange_of c c' r size).leaves ≡ true → (exchange_of c c' r size).leaving < size
+  pub leaving-low : ForSome (exchange_of c c' r size).leaving (λ x. x < size)
   unfolding ahead back
   leaving-low = go k.by_one
     where
-      go : (c' ≡ c + 1) ⊎ (c ≡ c' + 1) → (exchange_of c c' r size).leaves ≡ true → (exchange_of c c' r size).leaving < size
-      go (inl e) = rw (is-ahead e) (λ h. omega (arith, k.in_old))
-      go (inr e) = rw (is-back e) (λ h. ltb-true _ _ h)
+      go : (c' ≡ c + 1) ⊎ (c ≡ c' + 1) → ForSome (exchange_of c c' r size).leaving (λ x. x < size)
+      go (inl e) = rw (is-ahead e) (some-low (leb r c) (c - r) size (λ h. omega (arith, k.in_old)))
+      go (inr e) = rw (is-back e) (some-low (ltb (c' + r + 1) size) (c' + r + 1) size (λ h. ltb-true _ _ h))
 
 -- ---- bounds
 in_span : (r c n k : ℕ) → k < c - r + span r c n → c - r ≤ k → k < n
@@ -156,13 +163,13 @@ module _ {p : Frame} (g : FrameLimits p) where
       (le_trans (le_of_eq (sum-const 7905 (t - p.set.radius) (span p.set.radius t p.set.height)))
       (omega (arith, span-high p.set.radius t p.set.height g.sound.radius_high)))
 
-  pub when-high : (on : Bool) (s y m i : ℕ) → (on ≡ true → y < p.set.height) → when on (row_d p s y m i) ≤ 7905
-  when-high true s y m i h = row-high s y m i (h refl)
-  when-high false s y m i h = omega arith
+  pub some-high : (y : Option ℕ) (s m i : ℕ) → ForSome y (λ v. v < p.set.height) → when_some y (λ v. row_d p s v m i) ≤ 7905
+  some-high (Some y) s m i h = row-high s y m i (h y refl)
+  some-high None s m i h = omega arith
 
-when-beyond : (p : Frame) (on : Bool) (s y m i : ℕ) → 2 * p.set.width + 2 ≤ m → when on (row_d p s y m i) ≡ 0
-when-beyond p true s y m i h = row-beyond p y i s m h
-when-beyond p false s y m i h = refl
+some-beyond : (p : Frame) (y : Option ℕ) (s m i : ℕ) → 2 * p.set.width + 2 ≤ m → when_some y (λ v. row_d p s v m i) ≡ 0
+some-beyond p (Some y) s m i h = row-beyond p y i s m h
+some-beyond p None s m i h = refl
 
 -- ---- a store of one window, something put in, something taken out, is the store of another
 module _ {p : Frame} (g : FrameLimits p) (s t s' t' : ℕ) (D E : ℕ → ℕ → ℕ)
@@ -236,15 +243,15 @@ module _ {p : Frame} (g : FrameLimits p) (s : ℕ) {t t' : ℕ} (k : Neighbours 
 
   enter-none : (m i : ℕ) → 2 * p.set.width + 2 ≤ m → enter_d p s d m i ≡ 0
   unfolding enter_d
-  enter-none m i h = when-beyond p d.enters s d.entering m i h
+  enter-none m i h = some-beyond p d.entering s m i h
 
   leave_none : (m i : ℕ) → 2 * p.set.width + 2 ≤ m → leave_d p s d m i ≡ 0
   unfolding leave_d
-  leave_none m i h = when-beyond p d.leaves s d.leaving m i h
+  leave_none m i h = some-beyond p d.leaving s m i h
 
   enter-high : (m i : ℕ) → i < p.set.levels → enter_d p s d m i ≤ 4000000
   unfolding enter_d
-  enter-high m i h = le_trans (when-high g d.enters s d.entering m i (entering-low p.set.radius k)) (omega arith)
+  enter-high m i h = le_trans (some-high g d.entering s m i (entering-low p.set.radius k)) (omega arith)
 
   pub enter-able : ((j : ℕ) → get_or xs j 0 < 4294967296) → Able true p.set.levels (enter_d p s d) xs
   enter-able = room_for g s t s t' (enter_d p s d) (leave_d p s d) (λ m i _ _. content-law m i) enter-none leave_none enter-high xs e

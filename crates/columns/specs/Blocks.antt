@@ -2,6 +2,9 @@
 -- its guide sums. A change adds D m i to number i of each block m, or takes it off.
 -- Assumes nothing.
 use Rattle.std.specs.Prelude.{◌≡◌, Bool, true, false, not, List, ◌⊎◌, ℕ, ◌+◌, ◌-◌, ◌*◌, ◌≤◌, ◌<◌, leb, ltb, eqb, length, get_or, if◌then◌else◌}
+use Rattle.std.specs.Prelude.{Option, option_map}
+use Rattle.std.specs.Bool.{then_some}
+use Rattle.std.specs.Option.{ForSome, option_map_or}
 use Rattle.spec.specs.Base.{sum, when}
 use Rattle.spec.specs.Frame.{Frame, level, guide}
 use Rattle.spec.specs.Window.{span, live}
@@ -20,12 +23,6 @@ pub record Put (add : Bool) (l : ℕ) (D : ℕ → ℕ → ℕ) (xs ys : List �
 pub record Able (add : Bool) (l : ℕ) (D : ℕ → ℕ → ℕ) (xs : List ℕ) : Type 0 where
   pub room : add ≡ true → (m i : ℕ) → i < l → get_or xs (m * l + i) 0 + D m i < 4294967296
   pub enough : add ≡ false → (m i : ℕ) → i < l → D m i ≤ get_or xs (m * l + i) 0
-
--- the first n numbers are 0, and the others as they were
-pub record Cleared (n : ℕ) (xs ys : List ℕ) : Type 0 where
-  pub len : length ys ≡ length xs
-  pub zeros : (j : ℕ) → j < n → get_or ys j 0 ≡ 0
-  pub rest : (j : ℕ) → n ≤ j → get_or ys j 0 ≡ get_or xs j 0
 
 -- ---- pixels and rows
 -- f at the pixel, where its level is i; nothing at a dead pixel
@@ -55,12 +52,12 @@ row_d p s y m i =
 unfoldable pub content_d : Frame → ℕ → ℕ → ℕ → ℕ → ℕ
 content_d p s t m i = sum (λ y. row_d p s y m i) (t - p.set.radius) (span p.set.radius t p.set.height)
 
--- ---- a move by one among size columns or rows: which one enters and which one leaves, and whether it is in the picture
+-- ---- a move by one among size columns or rows: which one enters and which one leaves, where it is in the picture
 unfoldable pub ahead : ℕ → ℕ → ℕ → Exchange
-ahead c r size = record { entering = c + r + 1; enters = ltb (c + r + 1) size; leaving = c - r; leaves = leb r c }
+ahead c r size = record { entering = then_some (ltb (c + r + 1) size) (c + r + 1); leaving = then_some (leb r c) (c - r) }
 
 unfoldable pub back : Exchange → Exchange
-back d = record { entering = d.leaving; enters = d.leaves; leaving = d.entering; leaves = d.enters }
+back d = record { entering = d.leaving; leaving = d.entering }
 
 unfoldable pub exchange_of : ℕ → ℕ → ℕ → ℕ → Exchange
 exchange_of c c' r size = if ltb c c' then ahead c r size else back (ahead c' r size)
@@ -70,12 +67,16 @@ pub record Neighbours (c c' size : ℕ) : Type 0 where
   pub in_old : c < size
   pub in_new : c' < size
 
+-- f at the number, if there is one
+abbrev pub when_some : Option ℕ → (ℕ → ℕ) → ℕ
+when_some x f = option_map_or f x 0
+
 -- the row that enters, and the one that leaves, in the store of a window at column s
 unfoldable pub enter_d : Frame → ℕ → Exchange → ℕ → ℕ → ℕ
-enter_d p s d m i = when d.enters (row_d p s d.entering m i)
+enter_d p s d m i = when_some d.entering (λ y. row_d p s y m i)
 
 unfoldable pub leave_d : Frame → ℕ → Exchange → ℕ → ℕ → ℕ
-leave_d p s d m i = when d.leaves (row_d p s d.leaving m i)
+leave_d p s d m i = when_some d.leaving (λ y. row_d p s y m i)
 
 -- ---- sideways: ys is xs with D put in and E taken out
 pub record Swap (l : ℕ) (D E : ℕ → ℕ → ℕ) (xs ys : List ℕ) : Type 0 where
@@ -88,21 +89,23 @@ pub record BlockReady (l a : ℕ) (F G : ℕ → ℕ) (xs : List ℕ) : Type 0 w
   pub enough : (i : ℕ) → i < l → G i ≤ get_or xs (a * l + i) 0 + F i
 
 -- number i of a block, if there is one
-abbrev pub cell_of : Bool → ℕ → ℕ → List ℕ → ℕ → ℕ
-cell_of on l m xs i = when on (get_or xs (m * l + i) 0)
+abbrev pub cell_of : ℕ → Option ℕ → List ℕ → ℕ → ℕ
+cell_of l m xs i = when_some m (λ a. get_or xs (a * l + i) 0)
+
+-- the block of a column's guide sums, if there is one
+abbrev pub guides_of : ℕ → Option ℕ → Option ℕ
+guides_of w x = option_map (λ a. w + a) x
 
 -- column x in the window's two blocks, if there is one
-unfoldable pub pair_d : ℕ → Bool → ℕ → ℕ → List ℕ → ℕ → ℕ → ℕ
-pair_d w on l x xs m i = block (2 * w) (cell_of on l x xs) m i + block (2 * w + 1) (cell_of on l (w + x) xs) m i
+unfoldable pub pair_d : ℕ → ℕ → Option ℕ → List ℕ → ℕ → ℕ → ℕ
+pair_d w l x xs m i = block (2 * w) (cell_of l x xs) m i + block (2 * w + 1) (cell_of l (guides_of w x) xs) m i
 
--- the columns that enter and leave are in the picture where they count, and small numbers in any case
+-- the columns that enter and leave are in the picture
 pub record InWidth (w : ℕ) (d : Exchange) : Type 0 where
-  pub entering : d.enters ≡ true → d.entering < w
-  pub leaving : d.leaves ≡ true → d.leaving < w
-  pub entering_small : d.entering ≤ 2048
-  pub leaving_small : d.leaving ≤ 2048
+  pub entering : ForSome d.entering (λ x. x < w)
+  pub leaving : ForSome d.leaving (λ x. x < w)
 
 -- the window's two blocks have room for the column that enters, and then enough to lose the one that leaves
 pub record SideReady (w l : ℕ) (d : Exchange) (xs : List ℕ) : Type 0 where
-  pub counts : BlockReady l (2 * w) (cell_of d.enters l d.entering xs) (cell_of d.leaves l d.leaving xs) xs
-  pub guides : BlockReady l (2 * w + 1) (cell_of d.enters l (w + d.entering) xs) (cell_of d.leaves l (w + d.leaving) xs) xs
+  pub counts : BlockReady l (2 * w) (cell_of l d.entering xs) (cell_of l d.leaving xs) xs
+  pub guides : BlockReady l (2 * w + 1) (cell_of l (guides_of w d.entering) xs) (cell_of l (guides_of w d.leaving) xs) xs

@@ -1,24 +1,22 @@
 // The column store: its start, and its moves. Its length is store_size; what lies beyond stays as it was.
-ghost use Rattle.std.specs.Prelude.{◌≡◌, true, ◌++◌, ℕ, ◌+◌, ◌*◌, ◌<◌, ◌≤◌, length, get_or, drop};
-ghost use Rattle.spec.specs.Base.{when};
+ghost use Rattle.std.specs.Prelude.{◌≡◌, ◌++◌, ℕ, ◌+◌, ◌*◌, ◌<◌, ◌≤◌, length, drop};
+ghost use Rattle.std.specs.Option.{ForSome};
 ghost use Rattle.spec.specs.Checks.{Planned};
 ghost use Rattle.spec.specs.Columns.{column_store};
 ghost use Rattle.spec.specs.Frame.{frame_of};
 ghost use Rattle.window.specs.Line.{Adjacent};
-ghost use Rattle.columns.specs.Blocks.{Put, Able, Cleared, Swap, BlockReady, Neighbours, InWidth, SideReady};
-ghost use Rattle.columns.specs.Blocks.{block, cell_of, pixel_d, strip_d, row_d, pair_d, exchange_of, blocks_size};
+ghost use Rattle.columns.specs.Blocks.{Put, Able, Swap, BlockReady, Neighbours, InWidth, SideReady};
+ghost use Rattle.columns.specs.Blocks.{block, cell_of, pixel_d, strip_d, row_d, pair_d, when_some, guides_of, exchange_of, blocks_size};
 
 use pixels::store::change;
 use spec::{NO_READING, Plan};
 use window::{line, pixel};
 
-// Which column or row enters and which one leaves as the centre moves by one, and whether it is in the picture.
+// Which column or row enters and which one leaves as the centre moves by one, where it is in the picture.
 #[derive(Clone, Copy)]
 pub struct Exchange {
-    pub entering: usize,
-    pub enters: bool,
-    pub leaving: usize,
-    pub leaves: bool,
+    pub entering: Option<usize>,
+    pub leaving: Option<usize>,
 }
 
 // One pixel, into or out of the counts of block a and the guide sums of block b; a dead one is passed over.
@@ -46,9 +44,9 @@ pub fn count_pixel(
         return;
     }
     let g = pixel::guide_at(file, plan, q);
-    let at = value as usize;
+    let at = usize::from(value);
     change(blocks, a * l + at, 1, add);
-    change(blocks, b * l + at, g.0 as u32, add);
+    change(blocks, b * l + at, u32::from(g.0), add);
 }
 
 // Some pixels of row y, into or out of the blocks that lie so far apart from column to column.
@@ -72,12 +70,9 @@ pub fn count_strip(
     ensures { Put add plan.levels (strip_d (frame_of file.now) y a b apart first count) blocks.old
         blocks.new }
 {
-    let mut k: usize = 0;
-    while k < count {
-        let x = first + k;
+    for x in first..first + count {
         let step = x * apart;
         count_pixel(file, plan, blocks, a + step, b + step, x, y, add);
-        k += 1;
     }
 }
 
@@ -89,7 +84,7 @@ pub fn count_row(file: &[u8], plan: Plan, blocks: &mut [u32], s: usize, y: usize
     ensures { Put add plan.levels (row_d (frame_of file.now) s y) blocks.old blocks.new }
 {
     let w = plan.width;
-    let left = line::low(s, plan.radius);
+    let left = s.saturating_sub(plan.radius);
     let columns = line::span_of(s, plan.radius, w);
     count_strip(file, plan, blocks, y, 0, w, 1, 0, w, add);
     count_strip(
@@ -106,18 +101,6 @@ pub fn count_row(file: &[u8], plan: Plan, blocks: &mut [u32], s: usize, y: usize
     );
 }
 
-// The first n numbers to 0.
-pub fn clear(blocks: &mut [u32], n: usize)
-    requires { n ≤ length blocks.old }
-    ensures { Cleared n blocks.old blocks.new }
-{
-    let mut j: usize = 0;
-    while j < n {
-        blocks[j] = 0;
-        j += 1;
-    }
-}
-
 // The store of the window at (s, t), whatever was there before.
 pub fn start(file: &[u8], plan: Plan, blocks: &mut [u32], s: usize, t: usize)
     requires planned { Planned file.now plan }
@@ -126,13 +109,11 @@ pub fn start(file: &[u8], plan: Plan, blocks: &mut [u32], s: usize, t: usize)
         ++ drop (blocks_size (frame_of file.now)) blocks.old }
 {
     let n = 2 * (plan.width * plan.levels) + 2 * plan.levels;
-    clear(blocks, n);
-    let top = line::low(t, plan.radius);
+    blocks[..n].fill(0);
+    let top = t.saturating_sub(plan.radius);
     let rows = line::span_of(t, plan.radius, plan.height);
-    let mut k: usize = 0;
-    while k < rows {
-        count_row(file, plan, blocks, s, top + k, true);
-        k += 1;
+    for y in top..top + rows {
+        count_row(file, plan, blocks, s, y, true);
     }
 }
 
@@ -141,42 +122,40 @@ pub fn exchange_of(c: usize, c2: usize, r: usize, size: usize) -> Exchange
     requires { (c < size) × (c2 < size) × (size ≤ 1024) × (r ≤ 15) }
     ensures { result ≡ exchange_of c c2 r size }
 {
+    let first = c.min(c2);
+    let before = first.checked_sub(r);
+    let after = first + r + 1;
+    let after = (after < size).then_some(after);
     if c < c2 {
-        let high = c + r + 1;
-        return Exchange {
-            entering: high,
-            enters: high < size,
-            leaving: line::low(c, r),
-            leaves: r <= c,
-        };
-    }
-    let high = c2 + r + 1;
-    Exchange {
-        entering: line::low(c2, r),
-        enters: r <= c2,
-        leaving: high,
-        leaves: high < size,
+        Exchange {
+            entering: after,
+            leaving: before,
+        }
+    } else {
+        Exchange {
+            entering: before,
+            leaving: after,
+        }
     }
 }
 
-// Row y, where it is in the picture.
+// Row y, if there is one.
 pub fn count_row_if(
     file: &[u8],
     plan: Plan,
     blocks: &mut [u32],
     s: usize,
-    y: usize,
-    on: bool,
+    y: Option<usize>,
     add: bool,
 )
     requires planned { Planned file.now plan }
-    requires s_lt_width { (s < plan.width) × (on ≡ true → y < plan.height)
+    requires s_lt_width { (s < plan.width) × (ForSome y (λ y. y < plan.height))
         × (2 * (plan.width * plan.levels) + 2 * plan.levels ≤ length blocks.old) }
-    requires able { Able add plan.levels (λ m i. when on (row_d (frame_of file.now) s y m i)) blocks.old }
-    ensures { Put add plan.levels (λ m i. when on (row_d (frame_of file.now) s y m i)) blocks.old
+    requires able { Able add plan.levels (λ m i. when_some y (λ y. row_d (frame_of file.now) s y m i)) blocks.old }
+    ensures { Put add plan.levels (λ m i. when_some y (λ y. row_d (frame_of file.now) s y m i)) blocks.old
         blocks.new }
 {
-    if on {
+    if let Some(y) = y {
         count_row(file, plan, blocks, s, y, add);
     }
 }
@@ -190,66 +169,60 @@ pub fn vertical(file: &[u8], plan: Plan, blocks: &mut [u32], s: usize, t: usize,
         ++ drop (blocks_size (frame_of file.now)) blocks.old }
 {
     let d = exchange_of(t, t2, plan.radius, plan.height);
-    count_row_if(file, plan, blocks, s, d.entering, d.enters, true);
-    count_row_if(file, plan, blocks, s, d.leaving, d.leaves, false);
+    count_row_if(file, plan, blocks, s, d.entering, true);
+    count_row_if(file, plan, blocks, s, d.leaving, false);
 }
 
-// A number, or 0.
-pub fn pick(blocks: &[u32], at: usize, on: bool) -> u32
-    requires { on ≡ true → at < length blocks.now }
-    ensures { result ≡ when on (get_or blocks.now at 0) }
+// Number i of a block of l numbers, or 0 where there is no block.
+pub fn pick(blocks: &[u32], l: usize, block: Option<usize>, i: usize) -> u32
+    requires { ForSome block (λ m. m * l + i < length blocks.now) }
+    ensures { result ≡ cell_of l block blocks.now i }
 {
-    if on {
-        return blocks[at];
-    }
-    0
+    block.map_or(0, |m| blocks[m * l + i])
 }
 
-// Block at gains block more and loses block less, where there are such, in one pass over the levels.
+// Block at gains block more and loses block less, where there are such, in one pass over the levels. Whether there are is the same at each level, so
+// that the compiler can test it outside the loop.
 pub fn update_block(
     blocks: &mut [u32],
     l: usize,
     at: usize,
-    more: usize,
-    gain: bool,
-    less: usize,
-    lose: bool,
+    more: Option<usize>,
+    less: Option<usize>,
 )
-    requires l_bound { (l ≤ 1024) × (at ≤ 4096) × (more ≤ 4096) × (less ≤ 4096) × (at * l + l ≤ length blocks.old) }
-    requires more_lt_at { (gain ≡ true → more < at) × (lose ≡ true → less < at) }
-    requires block_ready { BlockReady l at (cell_of gain l more blocks.old) (cell_of lose l less blocks.old) blocks.old }
-    ensures { Swap l (block at (cell_of gain l more blocks.old)) (block at (cell_of lose l less blocks.old))
+    requires l_bound { (l ≤ 1024) × (at ≤ 4096) × (at * l + l ≤ length blocks.old) }
+    requires more_lt_at { (ForSome more (λ m. m < at)) × (ForSome less (λ m. m < at)) }
+    requires block_ready { BlockReady l at (cell_of l more blocks.old) (cell_of l less blocks.old) blocks.old }
+    ensures { Swap l (block at (cell_of l more blocks.old)) (block at (cell_of l less blocks.old))
         blocks.old blocks.new }
 {
-    let a = at * l;
-    let b = more * l;
-    let c = less * l;
-    let mut i: usize = 0;
-    while i < l {
-        let u = pick(blocks, b + i, gain);
-        let v = pick(blocks, c + i, lose);
-        blocks[a + i] = blocks[a + i] + u - v;
-        i += 1;
+    let first = at * l;
+    for i in 0..l {
+        let u = pick(blocks, l, more, i);
+        let v = pick(blocks, l, less, i);
+        blocks[first + i] = blocks[first + i] + u - v;
     }
+}
+
+// The block of a column's guide sums, if there is one.
+fn guides_of(w: usize, column: Option<usize>) -> Option<usize>
+    requires { (w ≤ 1024) × ForSome column (λ x. x < w) }
+    ensures { result ≡ guides_of w column }
+{
+    column.map(|x| w + x)
 }
 
 // The window's two blocks gain the column that enters and lose the one that leaves; the columns stay. No pixel is read.
 pub fn sideways(blocks: &mut [u32], w: usize, l: usize, d: Exchange)
     requires w_bound { (w ≤ 1024) × (l ≤ 1024) × (2 * (w * l) + 2 * l ≤ length blocks.old) × (InWidth w d) }
     requires side_ready { SideReady w l d blocks.old }
-    ensures { Swap l (pair_d w d.enters l d.entering blocks.old) (pair_d w d.leaves l d.leaving blocks.old)
+    ensures { Swap l (pair_d w l d.entering blocks.old) (pair_d w l d.leaving blocks.old)
         blocks.old blocks.new }
 {
-    update_block(blocks, l, 2 * w, d.entering, d.enters, d.leaving, d.leaves);
-    update_block(
-        blocks,
-        l,
-        2 * w + 1,
-        w + d.entering,
-        d.enters,
-        w + d.leaving,
-        d.leaves,
-    );
+    update_block(blocks, l, 2 * w, d.entering, d.leaving);
+    let entering = guides_of(w, d.entering);
+    let leaving = guides_of(w, d.leaving);
+    update_block(blocks, l, 2 * w + 1, entering, leaving);
 }
 
 // From (s, t) to the neighbour (s2, t2).
@@ -262,8 +235,8 @@ pub fn slide(file: &[u8], plan: Plan, blocks: &mut [u32], s: usize, t: usize, s2
 {
     if s == s2 {
         vertical(file, plan, blocks, s, t, t2);
-        return;
+    } else {
+        let d = exchange_of(s, s2, plan.radius, plan.width);
+        sideways(blocks, plan.width, plan.levels, d);
     }
-    let d = exchange_of(s, s2, plan.radius, plan.width);
-    sideways(blocks, plan.width, plan.levels, d);
 }

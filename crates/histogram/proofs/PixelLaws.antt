@@ -14,6 +14,7 @@ use Rattle.window.specs.declared.line.Line.{Line}
 use Rattle.window.specs.declared.line.Step.{Step}
 use Rattle.window.specs.Line.{column_line, Adjacent, step_of}
 use Rattle.window.proofs.PixelLaws.{guides_high, levels_high}
+use Rattle.pixels.specs.declared.Pixel.{Pixel}
 use Rattle.pixels.specs.Pixels.{count_of, level_in, guide_in, pixel_fold, PixelsBelow, LinePixels}
 use Rattle.pixels.specs.Additive.{changed, Fits, PassedTo, Exchanged, SharesExchangeable}
 use Rattle.pixels.proofs.AdditiveLaws.{columns-none, columns-more, columns-window, high, naturals, passed-next, room_next, leaving-there, slid}
@@ -22,7 +23,7 @@ use Rattle.histogram.specs.Histogram.{share, Changed, Blank, HistogramFilled, Hi
 use Rattle.histogram.specs.Places.{HistogramPlace, share_at, number_at, RoomFor}
 use Rattle.histogram.proofs.Laws.{own-count, own-sum, share-le, place_of, histogram-of, held_high, levels-same}
 
-module _ {w : Bool} {l : ℕ} {p xs : List ℕ} (v : PixelsBelow l 256 p) (rm : RoomFor w l p xs) {k : ℕ} (h : k < count_of p) (ys : List ℕ)
+module _ {w : Bool} {l : ℕ} {p : List Pixel} {xs : List ℕ} (v : PixelsBelow l 256 p) (rm : RoomFor w l p xs) {k : ℕ} (h : k < count_of p) (ys : List ℕ)
     (g : PassedTo ◌+◌ 0 (share_at l) changed w p k (number_at l xs) (number_at l ys)) where
   abbrev i : ℕ
   i = level_in p k
@@ -45,7 +46,7 @@ module _ {w : Bool} {l : ℕ} {p xs : List ℕ} (v : PixelsBelow l 256 p) (rm : 
   turn-next c = passed-next naturals (share_at l) g (λ q. c.cells q.at)
 
 -- ---- a list adds little
-module _ {l : ℕ} {p : List ℕ} (v : PixelsBelow l 256 p) where
+module _ {l : ℕ} {p : List Pixel} (v : PixelsBelow l 256 p) where
   pub list-high : (q : HistogramPlace l) → pixel_fold ◌+◌ 0 p (share_at l q) ≤ 7936
   list-high q =
       omega (
@@ -56,7 +57,7 @@ module _ {l : ℕ} {p : List ℕ} (v : PixelsBelow l 256 p) where
       )
 
 -- a plan's pixels have at most 256 guides
-below : {b vs : List ℕ} {z : Plan} {p : List ℕ} → Pictured b vs z → PixelsBelow z.levels z.guides p → PixelsBelow z.levels 256 p
+below : {b vs : List ℕ} {z : Plan} {p : List Pixel} → Pictured b vs z → PixelsBelow z.levels z.guides p → PixelsBelow z.levels 256 p
 below pl u = record { few = u.few; level = u.level; guide = λ k h. omega (arith, u.guide k h, guides_high pl) }
 
 -- ---- column by column
@@ -69,7 +70,7 @@ module _ {b vs : List ℕ} {z : Plan} (pl : Pictured b vs z) where
   }
 
   module _ {x t n : ℕ} {xs : List ℕ} (v : HistogramFilled b vs z x t n xs) {d : Line} (ed : d ≡ column_line z (x + n) t)
-      {p : List ℕ} (r : LinePixels b vs z d p)
+      {p : List Pixel} (r : LinePixels b vs z d p)
     where
       pub fill-asks : n < 31 →
           ((z.levels ≤ 1024) × (z.levels + z.levels ≤ length xs) × PixelsBelow z.levels 256 p) × RoomFor true z.levels p xs
@@ -104,7 +105,7 @@ module _ {b vs : List ℕ} {z : Plan} (pl : Pictured b vs z) where
 
 -- ---- a step of the window
 module _ {b vs : List ℕ} {z : Plan} (pl : Pictured b vs z) {s t s' t' : ℕ} (adj : Adjacent z s t s' t') {d : Step} (ed : d ≡ step_of z s t s' t')
-    {e l : List ℕ} (re : LinePixels b vs z d.entering e) (rl : LinePixels b vs z d.leaving l) {xs : List ℕ}
+    {e l : List Pixel} (re : LinePixels b vs z d.entering e) (rl : LinePixels b vs z d.leaving l) {xs : List ℕ}
     (v : Histogram (frame_with b vs) s t xs) where
   abbrev L : ℕ
   L = z.levels

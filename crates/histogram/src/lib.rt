@@ -11,8 +11,9 @@ ghost use Rattle.histogram.specs.Places.{share_at, number_at, RoomFor};
 ghost use Rattle.histogram.specs.Histogram.{Changed, Blank, Histogram};
 
 use pixels::store::change;
+use pixels::{Pixel, read};
 use spec::{Guide, Level, Plan};
-use window::line::{column_line, low, span_of};
+use window::line::{column_line, span_of};
 
 // A pixel that enters the window or leaves it.
 pub fn change_pixel(histogram: &mut [u32], l: usize, level: Level, guide: Guide, enters: bool)
@@ -28,24 +29,19 @@ pub fn change_pixel(histogram: &mut [u32], l: usize, level: Level, guide: Guide,
 }
 
 // A list's pixels enter the window, or leave it; l is the number of levels.
-pub fn change_pixels(p: &[u16], l: usize, enters: bool, histogram: &mut [u32])
-    requires l_bound { (l ≤ 1024) × (l + l ≤ length histogram.old) × (PixelsBelow l 256 p.now) }
-    requires room_for { RoomFor enters l p.now histogram.old }
-    ensures { PassedTo ◌+◌ 0 (share_at l) changed enters p.now (count_of p.now) (number_at l histogram.old)
+pub fn change_pixels(pixels: &[Pixel], l: usize, enters: bool, histogram: &mut [u32])
+    requires l_bound { (l ≤ 1024) × (l + l ≤ length histogram.old) × (PixelsBelow l 256 pixels.now) }
+    requires room_for { RoomFor enters l pixels.now histogram.old }
+    ensures { PassedTo ◌+◌ 0 (share_at l) changed enters pixels.now (count_of pixels.now) (number_at l histogram.old)
         (number_at l histogram.new) }
 {
-    let n = p.len() / 2;
-    let mut k = 0;
-    while k < n {
-        let at = 2 * k;
-        let next = at + 1;
-        change_pixel(histogram, l, Level(p[at]), Guide(p[next]), enters);
-        k += 1;
+    for pixel in pixels {
+        change_pixel(histogram, l, pixel.level(), pixel.guide, enters);
     }
 }
 
 // One list in, another out. The entering one goes in first, so that no number lacks what it is to lose.
-pub fn exchange(entering: &[u16], leaving: &[u16], l: usize, histogram: &mut [u32])
+pub fn exchange(entering: &[Pixel], leaving: &[Pixel], l: usize, histogram: &mut [u32])
     requires l_bound { (l ≤ 1024) × (l + l ≤ length histogram.old) × (PixelsBelow l 256 entering.now) × (PixelsBelow l 256 leaving.now) }
     requires shares_exchangeable { SharesExchangeable (share_at l) 4294967296 entering.now leaving.now (number_at l histogram.old) }
     ensures { Exchanged ◌+◌ 0 (share_at l) entering.now leaving.now (number_at l histogram.old)
@@ -61,14 +57,11 @@ pub fn start(file: &[u8], plan: Plan, s: usize, t: usize, histogram: &mut [u32])
     requires blank { Blank plan.levels histogram.old }
     ensures { Histogram (frame_of file.now) s t histogram.new }
 {
-    let x = low(s, plan.radius);
-    let n = span_of(s, plan.radius, plan.width);
-    let mut k = 0;
-    while k < n {
-        let mut places = [0u16; 62];
+    let x = s.saturating_sub(plan.radius);
+    for k in 0..span_of(s, plan.radius, plan.width) {
+        let mut pixels = [Pixel::NONE; 31];
         let line = column_line(plan, x + k, t);
-        let p = pixels::read(file, plan, line, &mut places);
-        change_pixels(&places[0..p], plan.levels, true, histogram);
-        k += 1;
+        let m = read(file, plan, line, &mut pixels);
+        change_pixels(&pixels[..m], plan.levels, true, histogram);
     }
 }

@@ -25,6 +25,7 @@ use Rattle.window.specs.declared.line.Step.{Step}
 use Rattle.window.specs.Line.{Adjacent, step_of}
 use Rattle.window.proofs.PixelLaws.{guides_high, levels_high}
 use Rattle.window.proofs.FormLaws.{both-in}
+use Rattle.pixels.specs.declared.Pixel.{Pixel}
 use Rattle.pixels.specs.Pixels.{count_of, level_in, guide_in, pixel_fold_to, pixel_fold, LinePixels}
 use Rattle.pixels.specs.Additive.{changed, changedℤ, Fits}
 use Rattle.pixels.proofs.AdditiveLaws.{
@@ -73,7 +74,7 @@ word_in : (l m i f : ℕ) (ws : List ℕ) → l * words_per m ≤ length ws → 
 word_in l m i f ws h u v = let k : f / 64 < words_per m = omega arith in lt_of_lt_of_le (digits_lt u k) h
 
 -- ---- the counts
-module _ {w : Bool} {m : ℕ} {p xs ws : List ℕ} (a : Countable w m p xs ws) where
+module _ {w : Bool} {m : ℕ} {p : List Pixel} {xs ws : List ℕ} (a : Countable w m p xs ws) where
   abbrev L : ℕ
   L = a.levels
 
@@ -139,7 +140,7 @@ module _ {w : Bool} {m : ℕ} {p xs ws : List ℕ} (a : Countable w m p xs ws) w
         })
 
 -- ---- the box
-module _ (w : Bool) (c : ℕ) (p : List ℕ) where
+module _ (w : Bool) (c : ℕ) (p : List Pixel) where
   pub list-abs : (k f : ℕ) (x : ℤ) → nat_abs (changedℤ w x (pixel_fold_to ◌+ℤ◌ (pos 0) p (side_of c f) k)) ≤ nat_abs x + k
   list-abs k f x =
       omega (
@@ -191,11 +192,11 @@ hit-le i f i' f' = go (eqb i i' && eqb f f')
     go true = omega arith
     go false = omega arith
 
-pub list-le : (p : List ℕ) (k i f : ℕ) → list_count p k i f ≤ k
+pub list-le : (p : List Pixel) (k i f : ℕ) → list_count p k i f ≤ k
 list-le p k i f = omega (arith, high p (λ v g. hit v g i f) 1 k (λ j h. hit-le (level_in p j) (guide_in p j) i f) k (omega arith))
 
 -- ---- one list in, another out
-module _ {m : ℕ} {e l xs ws : List ℕ} (x : Exchangeable m e l xs ws) {xs₁ ws₁ : List ℕ}
+module _ {m : ℕ} {e l : List Pixel} {xs ws : List ℕ} (x : Exchangeable m e l xs ws) {xs₁ ws₁ : List ℕ}
     (g : CountsPassed true x.entering.levels m e (count_of e) xs ws xs₁ ws₁) where
   pub own₁ : (i f : ℕ) → i < x.entering.levels → count_in m xs₁ i f ≡ count_in m xs i f + list_count e (count_of e) i f
   unfolding changed
@@ -227,7 +228,7 @@ module _ {m : ℕ} {e l xs ws : List ℕ} (x : Exchangeable m e l xs ws) {xs₁ 
     fits = fit;
   }
 
-module _ (e l : List ℕ) {bx : List ℤ} (br : BoxRoom (count_of e + count_of l) bx) where
+module _ (e l : List Pixel) {bx : List ℤ} (br : BoxRoom (count_of e + count_of l) bx) where
   pub enter-box : BoxRoom (count_of e) bx
   enter-box = record { long = br.long; room = λ f. omega (arith, br.room f) }
 
@@ -246,7 +247,7 @@ module _ (e l : List ℕ) {bx : List ℤ} (br : BoxRoom (count_of e + count_of l
 -- ---- a window's stores and box, moved to a neighbour
 module _ {b vs : List ℕ} {z : Plan} {s t c : ℕ} {xs ws : List ℕ} {bx : List ℤ} (hd : Held b vs z s t c xs ws bx) {s' t' : ℕ} {d : Step}
     (adj : Adjacent z s t s' t') (ed : d ≡ step_of z s t s' t')
-    {e l : List ℕ} (re : LinePixels b vs z d.entering e) (rl : LinePixels b vs z d.leaving l) where
+    {e l : List Pixel} (re : LinePixels b vs z d.entering e) (rl : LinePixels b vs z d.leaving l) where
   abbrev at : ℕ → ℕ → ℕ → ℕ → ℕ
   at i f v g = hit v g i f
 

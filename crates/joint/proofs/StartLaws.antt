@@ -1,28 +1,16 @@
 -- Laws of the start: zeros hold no pixel, and the window's columns, one after the other, make the window.
 -- Assumes nothing.
-use mathlib.Core.Path.{◌≡◌, refl, sym, ap, ap₂, ◌∙◌}
+use mathlib.Core.Path.{◌≡◌, refl, sym, ap, ◌∙◌}
 use mathlib.Core.Bool.{true}
 use mathlib.Core.List.{List, ◌++◌}
 use Prim.Native.Nat.{ℕ, zero, suc, ◌+◌, ◌-◌, ◌*◌, ◌/◌, ◌%◌, ◌^◌, ◌≤◌, ◌<◌, min}
 use native.Mathlib.Nat.{mul-le-mul}
-use native.Mathlib.Numerals.{add-one}
 use native.Mathlib.Omega.{arith}
 use lib.Arith.{digits_lt}
 use lib.Dec.{lit<}
-use lib.ListN.{
-  length,
-  get_or,
-  set,
-  drop,
-  replicate,
-  length-append,
-  length-replicate,
-  length-drop,
-  get_or-replicate,
-  get_or-append,
-  replicate-append-replicate,
-}
-use lib.Seq.{drop-cons, set_at, append_snoc, drop_at}
+use lib.ListN.{length, get_or, take, drop, replicate, length-append, length-replicate, length-drop, get_or-replicate, get_or-append}
+use lib.Seq.{drop_at, length-take-le}
+use Rattle.std.specs.Int.{div_ceil}
 use lib.IntN.{ℤ, pos, ◌+ℤ◌}
 use Rattle.spec.specs.declared.Plan.{Plan}
 use Rattle.spec.specs.Frame.{frame_with}
@@ -35,6 +23,7 @@ use Rattle.window.specs.Line.{column_line, InPlanes}
 use Rattle.window.proofs.PixelLaws.{plan-limits, guides_high, levels_high}
 use Rattle.window.proofs.LineLaws.{column-in, span-high}
 use Rattle.joint_pixel.specs.Bit.{bit}
+use Rattle.pixels.specs.declared.Pixel.{Pixel}
 use Rattle.pixels.specs.Pixels.{count_of, pixel_fold, columns_fold, LinePixels}
 use Rattle.pixels.specs.Additive.{changed, changedℤ}
 use Rattle.pixels.proofs.AdditiveLaws.{columns-none, columns-more, columns-window}
@@ -49,14 +38,13 @@ use Rattle.joint.proofs.WindowLaws.{cell-sum, plan-cells, plan-words, joint-of}
 use Rattle.joint.proofs.PixelLaws.{list-le, list-abs}
 
 -- ---- zeros
-pub clear_next : (xs : List ℕ) (k : ℕ) → k < length xs → set (replicate k 0 ++ drop k xs) k 0 ≡ replicate (k + 1) 0 ++ drop (k + 1) xs
-clear_next xs k h =
-    ap (λ (q : List ℕ). set (replicate k 0 ++ q) k 0) (drop-cons xs k 0 h)
-    ∙ set_at (replicate k 0) (get_or xs k 0) (drop (suc k) xs) 0 k (length-replicate k 0)
-    ∙ sym (append_snoc (replicate k 0) 0 (drop (suc k) xs))
-    ∙ ap₂ (λ (p q : List ℕ). p ++ q) (replicate-append-replicate k 1 0) (ap (λ (n : ℕ). drop n xs) (sym (add-one k)))
+pub wiped : (xs : List ℕ) {ys : List ℕ} (n : ℕ) → n ≤ length xs → ys ≡ replicate (length (take n xs)) 0 → ys ++ drop n xs ≡ replicate n 0 ++ drop n xs
+wiped xs n h e = ap (λ (q : List ℕ). q ++ drop n xs) (e ∙ ap (λ (m : ℕ). replicate m 0) (length-take-le n xs h))
 
-pub clear-long : (xs : List ℕ) (k : ℕ) → k ≤ length xs → length (replicate k 0 ++ drop k xs) ≡ length xs
+pub words-even : (m d : ℕ) → d ≡ div_ceil m 64 → d ≡ words_per m
+words-even m d e = omega arith
+
+clear-long : (xs : List ℕ) (k : ℕ) → k ≤ length xs → length (replicate k 0 ++ drop k xs) ≡ length xs
 clear-long xs k h = length-append (replicate k 0) (drop k xs) ∙ omega (arith, length-replicate {A = ℕ} k 0, length-drop k xs)
 
 clear_at : (xs : List ℕ) (n k : ℕ) → k < n → get_or (replicate n 0 ++ drop n xs) k 0 ≡ 0
@@ -127,7 +115,7 @@ module _ {b vs : List ℕ} {z : Plan} (pl : Pictured b vs z) where
     pub column-planes : InPlanes z d
     column-planes = rw ed (column-in (plan-limits pl) (x + k) t (omega (arith, co.wide)))
 
-    module _ {p : List ℕ} (r : LinePixels b vs z d p) where
+    module _ {p : List Pixel} (r : LinePixels b vs z d p) where
       unfoldable column-countable : Countable true M p xs₁ ws₁
       column-countable = record {
         levels = L;

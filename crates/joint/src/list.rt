@@ -6,11 +6,12 @@ ghost use Rattle.joint.specs.List.{Countable, BoxRoom, CountsPassed, BoxPassed, 
 
 use joint_pixel::cell;
 use joint_pixel::side::side_changed;
-use spec::{Guide, Level};
+use pixels::Pixel;
+use spec::Level;
 
 // Counts, words and box; m is the number of guides.
 pub fn change_pixels(
-    p: &[u16],
+    pixels: &[Pixel],
     m: usize,
     enters: bool,
     cut: Level,
@@ -18,30 +19,24 @@ pub fn change_pixels(
     counts: &mut [u16],
     words: &mut [u64],
 )
-    requires { (Countable enters m p.now counts.old words.old) × (BoxRoom (count_of p.now) balance_box.old) }
-    ensures counts_passed { (a : Countable enters m p.now counts.old words.old)
-        → CountsPassed enters a.levels m p.now (count_of p.now) counts.old words.old counts.new words.new }
-    ensures box_passed { BoxPassed enters cut.0 p.now (count_of p.now)
+    requires { (Countable enters m pixels.now counts.old words.old) × (BoxRoom (count_of pixels.now) balance_box.old) }
+    ensures counts_passed { (a : Countable enters m pixels.now counts.old words.old)
+        → CountsPassed enters a.levels m pixels.now (count_of pixels.now) counts.old words.old counts.new words.new }
+    ensures box_passed { BoxPassed enters cut.0 pixels.now (count_of pixels.now)
         balance_box.old balance_box.new }
 {
-    let n = p.len() / 2;
-    let mut k = 0;
-    while k < n {
-        let at = 2 * k;
-        let next = at + 1;
-        let level = Level(p[at]);
-        let guide = Guide(p[next]);
-        cell::change_pixel(level, guide, m, enters, counts, words);
-        let f = guide.0 as usize;
+    for pixel in pixels {
+        let level = pixel.level();
+        cell::change_pixel(level, pixel.guide, m, enters, counts, words);
+        let f = pixel.guide.0 as usize;
         balance_box[f] = side_changed(balance_box[f], level, cut, enters);
-        k += 1;
     }
 }
 
 // One list in, another out. The entering one goes in first, so that no cell lacks what it is to lose.
 pub fn exchange(
-    entering: &[u16],
-    leaving: &[u16],
+    entering: &[Pixel],
+    leaving: &[Pixel],
     m: usize,
     cut: Level,
     balance_box: &mut [i16; 256],

@@ -1,35 +1,12 @@
 // The stores and the box made for a window, whatever they held. A plane given in place of the file's values has them; an empty one is none.
-ghost use Rattle.std.specs.Prelude.{◌≡◌, ◌++◌, ◌≤◌, length, drop, replicate};
 ghost use Rattle.spec.specs.Frame.{frame_with};
 ghost use Rattle.spec.specs.Checks.{Pictured};
 ghost use Rattle.joint.specs.Window.{JointAt, Fresh, Columns, Filled};
 
 use crate::list;
+use pixels::{Pixel, read_in};
 use spec::{Level, Plan};
-use window::line::{column_line, low, span_of};
-
-// 0 in the first n places.
-pub fn clear_counts(s: &mut [u16], n: usize)
-    requires { n ≤ length s.old }
-    ensures { s.new ≡ replicate n 0 ++ drop n s.old }
-{
-    let mut k = 0;
-    while k < n {
-        s[k] = 0;
-        k += 1;
-    }
-}
-
-pub fn clear_words(s: &mut [u64], n: usize)
-    requires { n ≤ length s.old }
-    ensures { s.new ≡ replicate n 0 ++ drop n s.old }
-{
-    let mut k = 0;
-    while k < n {
-        s[k] = 0;
-        k += 1;
-    }
-}
+use window::line::{column_line, span_of};
 
 // Adds n columns from column x of the windows of row t to stores and a box that hold no pixel.
 pub fn fill(
@@ -50,13 +27,12 @@ pub fn fill(
         counts.new
         words.new balance_box.new }
 {
-    let mut k = 0;
-    while k < n {
-        let mut places = [0u16; 62];
+    for k in 0..n {
+        let mut pixels = [Pixel::NONE; 31];
         let line = column_line(plan, x + k, t);
-        let p = pixels::read_in(file, plane, plan, line, &mut places);
+        let m = read_in(file, plane, plan, line, &mut pixels);
         list::change_pixels(
-            &places[0..p],
+            &pixels[..m],
             plan.guides,
             true,
             cut,
@@ -64,7 +40,6 @@ pub fn fill(
             counts,
             words,
         );
-        k += 1;
     }
 }
 
@@ -85,12 +60,10 @@ pub fn build(
         counts.new
         words.new balance_box.new }
 {
-    let l = plan.levels;
-    let m = plan.guides;
-    clear_counts(counts, l * m);
-    clear_words(words, l * ((m + 63) / 64));
-    *balance_box = [0i16; 256];
-    let x = low(s, plan.radius);
+    counts[..plan.levels * plan.guides].fill(0);
+    words[..plan.levels * plan.guides.div_ceil(64)].fill(0);
+    *balance_box = [0; 256];
+    let x = s.saturating_sub(plan.radius);
     let n = span_of(s, plan.radius, plan.width);
     fill(file, plane, plan, x, n, t, cut, balance_box, counts, words);
 }

@@ -1,7 +1,8 @@
 -- The joint counts and their occupancy words as lists: where a cell, its word and its bit stand, what one pixel more or less does to the two lists,
 -- and when they hold given counts.
 -- Assumes nothing.
-use Rattle.std.specs.Prelude.{◌≡◌, Bool, true, false, ◌&&◌, List, ℕ, ◌+◌, ◌-◌, ◌*◌, ◌/◌, ◌%◌, ◌≤◌, ◌<◌, min, length, get_or, set, eqb, ltb, if◌then◌else◌}
+use Rattle.std.specs.Prelude.{◌≡◌, Bool, true, false, ◌&&◌, List, ℕ, ◌+◌, ◌-◌, ◌*◌, ◌/◌, ◌%◌, ◌≤◌, ◌<◌, min, length, get_or, set}
+use Rattle.std.specs.Prelude.{eqb, ltb, if◌then◌else◌}
 use Rattle.spec.specs.Base.{indicator}
 use Rattle.pixels.specs.Additive.{changed}
 use Rattle.joint_pixel.specs.Bit.{bit, with_bit, without_bit}

@@ -11,7 +11,7 @@ pub fn cell_at(level: Level, guide: Guide, m: usize) -> usize
     requires { m ≤ 256 }
     ensures { result ≡ cell_at m level.0 guide.0 }
 {
-    (level.0 as usize) * m + (guide.0 as usize)
+    level.0 as usize * m + guide.0 as usize
 }
 
 // The place of the word that has their bit.
@@ -19,21 +19,21 @@ pub fn word_at(level: Level, guide: Guide, m: usize) -> usize
     requires { m ≤ 256 }
     ensures { result ≡ word_at m level.0 guide.0 }
 {
-    (level.0 as usize) * ((m + 63) / 64) + (guide.0 as usize) / 64
+    level.0 as usize * m.div_ceil(64) + guide.0 as usize / 64
 }
 
 // The bit of a guide in its word.
 pub fn bit_at(guide: Guide) -> u32
     ensures { result ≡ guide.0 % 64 }
 {
-    (guide.0 as u32) % 64
+    guide.0 as u32 % 64
 }
 
 // 1 where nothing is left, else 0.
 pub fn emptied(left: u16) -> u64
     ensures { result ≡ 1 - left }
 {
-    (65536 - (left as u64)) >> 16
+    u64::from(left == 0)
 }
 
 // A pixel that enters the window or leaves it: its count and its bit. The bit of a cell that falls to 0 is cleared without a branch, because which
@@ -55,12 +55,10 @@ pub fn change_pixel(
     let w = word_at(level, guide, m);
     let b = bit_at(guide);
     if enters {
-        counts[at] = counts[at] + 1;
+        counts[at] += 1;
         words[w] = bits::with_bit(words[w], b);
-        return;
+    } else {
+        counts[at] -= 1;
+        words[w] = bits::without_bit(words[w], b, emptied(counts[at]));
     }
-    let left = counts[at] - 1;
-    counts[at] = left;
-    let gone = emptied(left);
-    words[w] = bits::without_bit(words[w], b, gone);
 }

@@ -21,6 +21,7 @@ use Rattle.window.specs.declared.line.Line.{Line}
 use Rattle.window.specs.declared.line.Step.{Step}
 use Rattle.window.specs.Line.{column_line, Adjacent, step_of, line_fold}
 use Rattle.window.proofs.LineLaws.{fold-none, fold_more, columns-law, step-law}
+use Rattle.pixels.specs.declared.Pixel.{Pixel}
 use Rattle.pixels.specs.Pixels.{count_of, level_in, guide_in, pixel_fold_to, pixel_fold, columns_fold, LinePixels}
 use Rattle.pixels.specs.Additive.{changed, changedℤ, Fits, PassedTo, Exchanged, SharesExchangeable, window_sum}
 
@@ -34,9 +35,6 @@ pub changed-next : (w : Bool) (a m n : ℕ) → changed w (changed w a m) n ≡ 
 unfolding changed
 changed-next true a m n = add_assoc a m n
 changed-next false a m n = omega arith
-
-pub fits-up : (limit : ℕ) (w : Bool) (a n : ℕ) → w ≡ true → Fits limit w a n → a + n < limit
-fits-up limit w a n e h = rw e at h
 
 pub fits-down : (limit : ℕ) (w : Bool) (a n : ℕ) → w ≡ false → Fits limit w a n → n ≤ a
 fits-down limit w a n e h = rw e at h
@@ -85,7 +83,7 @@ integers = record {
     less-back a n = solve2 (λ a n. (a ⊕ n) ⊖ n ≐ a) refl a n
 
 -- ---- along a list, for any operation
-module _ {A : Type 0} (◌⊕◌ : A → A → A) (o : A) (p : List ℕ) (h : ℕ → ℕ → A) where
+module _ {A : Type 0} (◌⊕◌ : A → A → A) (o : A) (p : List Pixel) (h : ℕ → ℕ → A) where
   infixl 6 ◌⊕◌
   pub pixels-none : pixel_fold_to ◌⊕◌ o p h 0 ≡ o
   unfolding pixel_fold_to fold
@@ -105,7 +103,7 @@ module _ {A : Type 0} (◌⊕◌ : A → A → A) (o : A) (b vs : List ℕ) (z :
   columns-none = fold-none ◌⊕◌ o _ x
 
   -- a column that was read into the list p
-  pub columns-more : (n : ℕ) (p : List ℕ) {d : Line} → d ≡ column_line z (x + n) t → pixel_fold ◌⊕◌ o p h ≡ line_fold ◌⊕◌ o b vs d h
+  pub columns-more : (n : ℕ) (p : List Pixel) {d : Line} → d ≡ column_line z (x + n) t → pixel_fold ◌⊕◌ o p h ≡ line_fold ◌⊕◌ o b vs d h
       → columns_fold ◌⊕◌ o b vs z x t h (n + 1) ≡ columns_fold ◌⊕◌ o b vs z x t h n ⊕ pixel_fold ◌⊕◌ o p h
   columns-more n p ed e =
       fold_more ◌⊕◌ o _ x n ∙ ap (λ (q : A). columns_fold ◌⊕◌ o b vs z x t h n ⊕ q) (sym (e ∙ ap (λ (y : Line). line_fold ◌⊕◌ o b vs y h) ed))
@@ -116,7 +114,7 @@ module _ {A : Type 0} (◌⊕◌ : A → A → A) (o : A) (b vs : List ℕ) (z :
   columns-window pl s ex en = rw (ex, en) (sym (columns-law ◌⊕◌ o pl h s t))
 
 -- ---- for plain sums
-module _ (p : List ℕ) (h : ℕ → ℕ → ℕ) where
+module _ (p : List Pixel) (h : ℕ → ℕ → ℕ) where
   abbrev along : ℕ → ℕ
   along n = pixel_fold_to ◌+◌ 0 p h n
 
@@ -134,7 +132,7 @@ module _ (p : List ℕ) (h : ℕ → ℕ → ℕ) where
     high (suc m) l = rw (native.Mathlib.Nat.suc-mul m top) (omega (arith, high m (omega arith), pixels-next ◌+◌ 0 p h m, low m l))
 
 -- ---- for integers: n pixels with at most top each
-pub high-abs : (p : List ℕ) (h : ℕ → ℕ → ℤ) (top n : ℕ) → ((k : ℕ) → k < n → nat_abs (h (level_in p k) (guide_in p k)) ≤ top) →
+pub high-abs : (p : List Pixel) (h : ℕ → ℕ → ℤ) (top n : ℕ) → ((k : ℕ) → k < n → nat_abs (h (level_in p k) (guide_in p k)) ≤ top) →
     nat_abs (pixel_fold_to ◌+ℤ◌ (pos 0) p h n) ≤ n * top
 unfolding pixel_fold_to
 high-abs p h top n low = le_trans (sum-abs _ (λ k. top) 0 n (λ k x y. low k (omega arith))) (le_of_eq (sum-const top 0 n))
@@ -142,10 +140,10 @@ high-abs p h top n low = le_trans (sum-abs _ (λ k. top) 0 n (λ k x y. low k (o
 -- ---- the store
 module _ {A : Type 0} {◌⊕◌ : A → A → A} {o : A} {change : Bool → A → A → A} (laws : Numbers ◌⊕◌ o change) {Q : Type 0} (share : Q → ℕ → ℕ → A) where
   infixl 6 ◌⊕◌
-  pub passed_none : (w : Bool) (p : List ℕ) (c : Q → A) → PassedTo ◌⊕◌ o share change w p 0 c c
+  pub passed_none : (w : Bool) (p : List Pixel) (c : Q → A) → PassedTo ◌⊕◌ o share change w p 0 c c
   passed_none w p c = record { cells = λ q. sym (ap (change w (c q)) (pixels-none ◌⊕◌ o p (share q)) ∙ laws.none w (c q)) }
 
-  pub passed-next : {w : Bool} {p : List ℕ} {k : ℕ} {c c₁ c₂ : Q → A} → PassedTo ◌⊕◌ o share change w p k c c₁
+  pub passed-next : {w : Bool} {p : List Pixel} {k : ℕ} {c c₁ c₂ : Q → A} → PassedTo ◌⊕◌ o share change w p k c c₁
       → ((q : Q) → c₂ q ≡ change w (c₁ q) (share q (level_in p k) (guide_in p k))) → PassedTo ◌⊕◌ o share change w p (k + 1) c c₂
   passed-next {w} {p} {k} {c} g e = record {
     cells = λ q. e q ∙ ap (λ (a : A). change w a (share q (level_in p k) (guide_in p k))) (g.cells q) ∙ laws.next w (c q) _ _
@@ -154,7 +152,7 @@ module _ {A : Type 0} {◌⊕◌ : A → A → A} {o : A} {change : Bool → A �
 
   -- ---- a step of the window, whose lines were read into the lists e and l
   module _ {b vs : List ℕ} {z : Plan} (pl : Pictured b vs z) {s t s' t' : ℕ} (adj : Adjacent z s t s' t') {d : Step} (ed : d ≡ step_of z s t s' t')
-      (e l : List ℕ)
+      (e l : List Pixel)
       (re : (h : ℕ → ℕ → A) → pixel_fold ◌⊕◌ o e h ≡ line_fold ◌⊕◌ o b vs d.entering h) (rl : (h : ℕ → ℕ → A) →
       pixel_fold ◌⊕◌ o l h ≡ line_fold ◌⊕◌ o b vs d.leaving h) where
     pub window-step : (q : Q) →
@@ -175,14 +173,14 @@ module _ {A : Type 0} {◌⊕◌ : A → A → A} {o : A} {change : Bool → A �
 -- ---- natural numbers: room
 module _ {Q : Type 0} (share : Q → ℕ → ℕ → ℕ) where
   -- a number that has room for all the list's pixels, or has them to lose, has it for the next one
-  pub room_next : {w : Bool} {p : List ℕ} {k : ℕ} {c c₁ : Q → ℕ} → PassedTo ◌+◌ 0 share changed w p k c c₁ → (limit : ℕ) → k < count_of p → (q : Q)
+  pub room_next : {w : Bool} {p : List Pixel} {k : ℕ} {c c₁ : Q → ℕ} → PassedTo ◌+◌ 0 share changed w p k c c₁ → (limit : ℕ) → k < count_of p → (q : Q)
       → Fits limit w (c q) (pixel_fold ◌+◌ 0 p (share q)) → Fits limit w (c₁ q) (share q (level_in p k) (guide_in p k))
   room_next {w} {p} {k} {c} g limit l q h =
       subst (λ (a : ℕ). Fits limit w a (share q (level_in p k) (guide_in p k))) (sym (g.cells q))
       (fits_next limit w (c q) _ _ _ h (omega (arith, pixels-next ◌+◌ 0 p (share q) k, upto p (share q) (suc k) (count_of p) l)))
 
   -- one list in, another out
-  module _ {limit : ℕ} {e l : List ℕ} {c : Q → ℕ} (x : SharesExchangeable share limit e l c) {c₁ : Q → ℕ}
+  module _ {limit : ℕ} {e l : List Pixel} {c : Q → ℕ} (x : SharesExchangeable share limit e l c) {c₁ : Q → ℕ}
       (g : PassedTo ◌+◌ 0 share changed true e (count_of e) c c₁) where
     pub leave_fits : (q : Q) → Fits limit false (c₁ q) (pixel_fold ◌+◌ 0 l (share q))
     unfolding changed
@@ -193,7 +191,7 @@ module _ {Q : Type 0} (share : Q → ℕ → ℕ → ℕ) where
     exchanged o = record { cells = λ q. omega (arith, o.cells q, g.cells q, x.there q) }
 
   module _ {b vs : List ℕ} {z : Plan} (pl : Pictured b vs z) {s t s' t' : ℕ} (adj : Adjacent z s t s' t') {d : Step} (ed : d ≡ step_of z s t s' t')
-      {e l : List ℕ} (re : LinePixels b vs z d.entering e) (rl : LinePixels b vs z d.leaving l) where
+      {e l : List Pixel} (re : LinePixels b vs z d.entering e) (rl : LinePixels b vs z d.leaving l) where
     pub stepped : (q : Q) →
         window_sum ◌+◌ 0 share (frame_with b vs) s' t' q + pixel_fold ◌+◌ 0 l (share q)
         ≡ window_sum ◌+◌ 0 share (frame_with b vs) s t q + pixel_fold ◌+◌ 0 e
@@ -206,7 +204,7 @@ module _ {Q : Type 0} (share : Q → ℕ → ℕ → ℕ) where
     leaving-there here q = omega (arith, here q, stepped q)
 
 -- ---- integers: one list in, another out
-pub exchangedℤ : {Q : Type 0} (share : Q → ℕ → ℕ → ℤ) {e l : List ℕ} {c c₁ c₂ : Q → ℤ} → PassedTo ◌+ℤ◌ (pos 0) share changedℤ true e (count_of e) c c₁
+pub exchangedℤ : {Q : Type 0} (share : Q → ℕ → ℕ → ℤ) {e l : List Pixel} {c c₁ c₂ : Q → ℤ} → PassedTo ◌+ℤ◌ (pos 0) share changedℤ true e (count_of e) c c₁
     → PassedTo ◌+ℤ◌ (pos 0) share changedℤ false l (count_of l) c₁ c₂ → Exchanged ◌+ℤ◌ (pos 0) share e l c c₂
 unfolding changedℤ
 exchangedℤ share {e} {l} {c} g o = record {

@@ -18,6 +18,7 @@ use Rattle.window.specs.Line.{column_line, Adjacent, step_of}
 use Rattle.window.specs.Sums.{one, itself, squared, SumsAt}
 use Rattle.window.proofs.FormLaws.{both-in}
 use Rattle.window.proofs.PixelLaws.{guides_high, levels_high}
+use Rattle.pixels.specs.declared.Pixel.{Pixel}
 use Rattle.pixels.specs.Pixels.{count_of, guide_in, PixelsBelow, LinePixels}
 use Rattle.pixels.specs.Sums.{ListSums, ColumnSums, MovableByLists, MovedByLists}
 use Rattle.pixels.proofs.AdditiveLaws.{pixels-none, pixels-more, columns-none, columns-more, columns-window, stepped}
@@ -26,7 +27,7 @@ abbrev sums : ℕ → ℕ → ℕ → Sums
 sums n s q = record { count = n; sum = s; squares = q }
 
 -- a plan's pixels are below every limit
-pub below-most : {b vs : List ℕ} {z : Plan} {p : List ℕ} → Pictured b vs z → PixelsBelow z.levels z.guides p → PixelsBelow 1024 256 p
+pub below-most : {b vs : List ℕ} {z : Plan} {p : List Pixel} → Pictured b vs z → PixelsBelow z.levels z.guides p → PixelsBelow 1024 256 p
 below-most pl v = record {
   few = v.few;
   level = λ k h. omega (arith, v.level k h, levels_high pl);
@@ -34,7 +35,7 @@ below-most pl v = record {
 }
 
 -- ---- along a list
-pub sums_none : (p : List ℕ) → ListSums p 0 (sums 0 0 0)
+pub sums_none : (p : List Pixel) → ListSums p 0 (sums 0 0 0)
 sums_none p = record {
   count = sym (pixels-none ◌+◌ 0 p one);
   sum = sym (pixels-none ◌+◌ 0 p itself);
@@ -44,7 +45,7 @@ sums_none p = record {
   squares_high = omega arith;
 }
 
-module _ {p : List ℕ} (v : PixelsBelow 1024 256 p) {k : ℕ} (h : k < count_of p) where
+module _ {p : List Pixel} (v : PixelsBelow 1024 256 p) {k : ℕ} (h : k < count_of p) where
   pub guide-small : (guide_in p k ≤ 255) × (guide_in p k * guide_in p k ≤ 65025)
   guide-small = let l : guide_in p k ≤ 255 = omega (arith, v.guide k h) in (l, mul-le-mul {n₂ = 255} l l)
 
@@ -70,7 +71,7 @@ columns-start b vs z x t = record {
 }
 
 module _ {b vs : List ℕ} {z : Plan} {x t : ℕ} where
-  pub columns-next : {k n u q : ℕ} {d : Line} {p : List ℕ} {a : Sums} → ColumnSums b vs z x t k (sums n u q) → d ≡ column_line z (x + k) t →
+  pub columns-next : {k n u q : ℕ} {d : Line} {p : List Pixel} {a : Sums} → ColumnSums b vs z x t k (sums n u q) → d ≡ column_line z (x + k) t →
       LinePixels b vs z d p → ListSums p (count_of p) a
       → ColumnSums b vs z x t (k + 1) (sums (n + a.count) (u + a.sum) (q + a.squares))
   columns-next {k} {p = p} v ed r l = record {
@@ -92,7 +93,7 @@ module _ {b vs : List ℕ} {z : Plan} {x t : ℕ} where
   }
 
 -- ---- one list in, another out
-pub exchanged : {e l : List ℕ} {a less more : Sums} → MovableByLists e l a → ListSums l (count_of l) less → ListSums e (count_of e) more
+pub exchanged : {e l : List Pixel} {a less more : Sums} → MovableByLists e l a → ListSums l (count_of l) less → ListSums e (count_of e) more
     → MovedByLists e l a (sums (a.count + more.count - less.count) (a.sum + more.sum - less.sum) (a.squares + more.squares - less.squares))
 exchanged m l e = record {
   count = omega (arith, m.count_enough, l.count, e.count);
@@ -102,7 +103,7 @@ exchanged m l e = record {
 
 -- ---- a step of the window
 module _ {b vs : List ℕ} {z : Plan} (pl : Pictured b vs z) {s t s' t' : ℕ} (adj : Adjacent z s t s' t') {d : Step} (ed : d ≡ step_of z s t s' t')
-    {e l : List ℕ} (re : LinePixels b vs z d.entering e) (rl : LinePixels b vs z d.leaving l) {a : Sums}
+    {e l : List Pixel} (re : LinePixels b vs z d.entering e) (rl : LinePixels b vs z d.leaving l) {a : Sums}
     (v : SumsAt (frame_with b vs) s t a) where
   pub movable : MovableByLists e l a
   unfolding pixel_count guide_sum square_sum

@@ -3,31 +3,28 @@
 -- Assumes nothing.
 use mathlib.Core.Path.{◌≡◌, refl, sym, ap, ap₂, ◌∙◌}
 use mathlib.Core.Bool.{true, false}
-use mathlib.Core.Logic.{⊎_elim}
 use mathlib.Core.List.{List}
 use Prim.Native.Nat.{ℕ, ◌+◌, ◌*◌, ◌≤◌, ◌<◌}
 use native.Mathlib.Omega.{arith}
 use lib.Dec.{eqb}
-use lib.ListN.{length, set, take, length-set}
+use lib.ListN.{length, take}
 use lib.IntN.{pos, ◌+ℤ◌}
-use lib.Seq.{get_or-set_same, get_or-set_other, get_or-take, length-take-le}
+use lib.Seq.{get_or-take, length-take-le}
 use borrow.Author.Tests.{eq-eqb, ne_eqb}
-use Rattle.ints.specs.Order.{eq-or-ne}
 use Rattle.spec.specs.declared.Plan.{Plan}
-use Rattle.std.specs.Prelude.{if◌then◌else◌}
 use Rattle.spec.specs.Frame.{no_reading, value_of, pixel_guide}
 use Rattle.spec.specs.Checks.{Pictured}
 use Rattle.spec.proofs.Ranges.{AdditionLaws, nat_sums, int_sums, fold-none, fold_same}
 use Rattle.window.specs.declared.line.Line.{Line}
-use Rattle.window.specs.Line.{InPlanes, pixel_of, reading, line_fold_to}
+use Rattle.window.specs.Line.{InPlanes, pixel_of, line_fold_to}
 use Rattle.window.proofs.PixelLaws.{level-low, guide-low}
-use Rattle.pixels.specs.Pixels.{count_of, level_in, guide_in, pixel_fold_to, LinePixels}
-use Rattle.pixels.proofs.Laws.{put-long}
+use Rattle.pixels.specs.declared.Pixel.{Pixel}
+use Rattle.pixels.specs.Pixels.{no_pixel, count_of, level_in, guide_in, pixel_fold_to, LinePixels}
 use Rattle.pixels.proofs.AdditiveLaws.{pixels-none}
 
 -- the list has the line's first n pixels, and no value is above the total
-pub record CopiedTo (b vs : List ℕ) (d : Line) (n total : ℕ) (p : List ℕ) : Type 0 where
-  pub long : 62 ≤ length p
+pub record CopiedTo (b vs : List ℕ) (d : Line) (n total : ℕ) (p : List Pixel) : Type 0 where
+  pub long : 31 ≤ length p
   pub low : total ≤ 65535 * n
   pub most : (k : ℕ) → k < n → value_of b vs (pixel_of d k) ≤ total
   pub small : (k : ℕ) → k < n → value_of b vs (pixel_of d k) ≤ 65535
@@ -35,41 +32,8 @@ pub record CopiedTo (b vs : List ℕ) (d : Line) (n total : ℕ) (p : List ℕ) 
   pub level : (k : ℕ) → k < n → level_in p k ≡ value_of b vs (pixel_of d k)
   pub guide : (k : ℕ) → k < n → guide_in p k ≡ pixel_guide b (pixel_of d k)
 
-pub copied_none : (b vs : List ℕ) (d : Line) (p : List ℕ) → 62 ≤ length p → CopiedTo b vs d 0 0 p
-copied_none b vs d p e = record {
-  long = e;
-  low = omega arith;
-  most = λ k h. absurd (omega arith);
-  small = λ k h. absurd (omega arith);
-  least = λ k h. absurd (omega arith);
-  level = λ k h. absurd (omega arith);
-  guide = λ k h. absurd (omega arith);
-}
-
-module _ {b vs : List ℕ} {d : Line} {k total i f : ℕ} {p : List ℕ} (h : k < 31) (v : CopiedTo b vs d k total p) (ei : i ≡ value_of b vs (pixel_of d k))
-    (ef : f ≡ pixel_guide b (pixel_of d k)) (li : i ≤ 65535) where
-  inside : 2 * k + 1 < length p
-  inside = omega (arith, v.long)
-
-  pub copied_next : CopiedTo b vs d (k + 1) (total + i) (set (set p (2 * k) i) (2 * k + 1) f)
-  copied_next = record {
-    long = rw (put-long p k i f) v.long;
-    low = omega (arith, v.low, li);
-    most = λ j l. ⊎_elim (λ q. rw q (omega (arith, ei))) (λ n. omega (arith, v.most j (omega arith))) (eq-or-ne j k);
-    small = λ j l. ⊎_elim (λ q. rw q (omega (arith, ei, li))) (λ n. v.small j (omega arith)) (eq-or-ne j k);
-    least = λ j l. ⊎_elim (λ q. rw q (omega (arith, ei, v.low))) (λ n. omega (arith, li, v.least j (omega arith))) (eq-or-ne j k);
-    level = λ j l. get_or-set_other (set p (2 * k) i) (2 * k + 1) (2 * j) f 0 (λ e. absurd (omega arith))
-        ∙ ⊎_elim (λ q. rw q (get_or-set_same p (2 * k) i 0 (omega (arith, inside)) ∙ ei))
-        (λ n. get_or-set_other p (2 * k) (2 * j) i 0 (λ e. n (omega arith)) ∙ v.level j (omega arith)) (eq-or-ne j k);
-    guide = λ j l.
-        ⊎_elim (λ q. rw q (get_or-set_same (set p (2 * k) i) (2 * k + 1) f 0 (rw (length-set p (2 * k) i) inside) ∙ ef))
-        (λ n. get_or-set_other (set p (2 * k) i) (2 * k + 1) (2 * j + 1) f 0 (λ e. n (omega arith)) ∙ get_or-set_other p (2 * k) (2 * j + 1) i 0
-        (λ e. absurd (omega arith)) ∙ v.guide j (omega arith))
-        (eq-or-ne j k);
-  }
-
 -- every sum over the list is that over the line, where none of its pixels is dead
-whole-fold : {A : Type 0} (◌⊕◌ : A → A → A) (o : A) → AdditionLaws ◌⊕◌ o → (b vs : List ℕ) (d : Line) (n : ℕ) (p : List ℕ)
+whole-fold : {A : Type 0} (◌⊕◌ : A → A → A) (o : A) → AdditionLaws ◌⊕◌ o → (b vs : List ℕ) (d : Line) (n : ℕ) (p : List Pixel)
     → ((k : ℕ) → k < n → eqb (value_of b vs (pixel_of d k)) no_reading ≡ false)
     → ((k : ℕ) → k < n → level_in p k ≡ value_of b vs (pixel_of d k)) → ((k : ℕ) → k < n → guide_in p k ≡ pixel_guide b (pixel_of d k))
     → (h : ℕ → ℕ → A) → pixel_fold_to ◌⊕◌ o p h n ≡ line_fold_to ◌⊕◌ o b vs d h n
@@ -77,28 +41,28 @@ unfolding pixel_fold_to line_fold_to
 whole-fold ◌⊕◌ o laws b vs d n p live level guide h =
     fold_same ◌⊕◌ o laws _ _ 0 _ (λ k x y. rw (live k (omega arith)) (ap₂ h (level k (omega arith)) (guide k (omega arith))))
 
-module _ {b vs : List ℕ} {z : Plan} {d : Line} {total : ℕ} {p : List ℕ} (pl : Pictured b vs z) (ins : InPlanes z d)
+module _ {b vs : List ℕ} {z : Plan} {d : Line} {total : ℕ} {p : List Pixel} (pl : Pictured b vs z) (ins : InPlanes z d)
     (v : CopiedTo b vs d d.count total p)
     (few : total < no_reading) where
   abbrev n : ℕ
   n = d.count
 
-  abbrev part : List ℕ
-  part = take (2 * n) p
+  abbrev part : List Pixel
+  part = take n p
 
   live : (k : ℕ) → k < n → eqb (value_of b vs (pixel_of d k)) no_reading ≡ false
   live k h = ne_eqb (value_of b vs (pixel_of d k)) no_reading (λ e. omega (arith, v.most k h))
 
   many : count_of part ≡ n
-  many = omega (arith, length-take-le (2 * n) p (omega (arith, v.long, ins.few)))
+  many = length-take-le n p (omega (arith, v.long, ins.few))
 
   level : (k : ℕ) → k < n → level_in part k ≡ value_of b vs (pixel_of d k)
-  level k h = get_or-take (2 * n) p (2 * k) 0 (omega arith) ∙ v.level k h
+  level k h = ap (λ (q : Pixel). q.value) (get_or-take n p k no_pixel h) ∙ v.level k h
 
   guide : (k : ℕ) → k < n → guide_in part k ≡ pixel_guide b (pixel_of d k)
-  guide k h = get_or-take (2 * n) p (2 * k + 1) 0 (omega arith) ∙ v.guide k h
+  guide k h = ap (λ (q : Pixel). q.guide.0) (get_or-take n p k no_pixel h) ∙ v.guide k h
 
-  pub whole-pixels : LinePixels b vs z d (take (2 * n) p)
+  pub whole-pixels : LinePixels b vs z d (take d.count p)
   whole-pixels = record {
     below = record {
       few = omega (arith, many, ins.few);
@@ -115,11 +79,11 @@ dead-fold : {A : Type 0} (◌⊕◌ : A → A → A) (o : A) → AdditionLaws �
 unfolding line_fold_to
 dead-fold ◌⊕◌ o laws b vs d n dead h = fold_same ◌⊕◌ o laws _ (λ k. o) 0 _ (λ k x y. rw (dead k (omega arith)) refl) ∙ fold-none ◌⊕◌ o laws 0 n
 
-all-dead : {b vs : List ℕ} {d : Line} {total : ℕ} {p : List ℕ} → CopiedTo b vs d d.count total p → total ≡ d.count * no_reading
+all-dead : {b vs : List ℕ} {d : Line} {total : ℕ} {p : List Pixel} → CopiedTo b vs d d.count total p → total ≡ d.count * no_reading
     → (k : ℕ) → k < d.count → eqb (value_of b vs (pixel_of d k)) no_reading ≡ true
 all-dead {b} {vs} {d} v full k h = eq-eqb (value_of b vs (pixel_of d k)) no_reading (omega (arith, full, v.least k h, v.small k h))
 
-pub none_left : {b vs : List ℕ} {z : Plan} {d : Line} {total : ℕ} {p : List ℕ} → CopiedTo b vs d d.count total p → total ≡ d.count * no_reading
+pub none_left : {b vs : List ℕ} {z : Plan} {d : Line} {total : ℕ} {p : List Pixel} → CopiedTo b vs d d.count total p → total ≡ d.count * no_reading
     → LinePixels b vs z d (take 0 p)
 none_left {b} {vs} {z} {d} {total} {p} v full = record {
   below = record { few = omega arith; level = λ k h. absurd (omega arith); guide = λ k h. absurd (omega arith) };

@@ -5,6 +5,7 @@
 use Rattle.std.specs.Prelude.{◌≡◌, Bool, true, false, List, ℕ, ◌+◌, ◌-◌, ◌≤◌, ◌<◌, ℤ, ◌+ℤ◌, ◌-ℤ◌}
 use Rattle.spec.specs.Frame.{Frame, level, guide}
 use Rattle.spec.specs.Window.{over}
+use Rattle.pixels.specs.declared.Pixel.{Pixel}
 use Rattle.pixels.specs.Pixels.{pixel_fold_to, pixel_fold}
 
 -- n more where the pixels enter, n less where they leave
@@ -24,11 +25,11 @@ Fits limit false a n = n ≤ a
 module _ {A : Type 0} (◌⊕◌ : A → A → A) (o : A) {Q : Type 0} (share : Q → ℕ → ℕ → A) where
   infixl 6 ◌⊕◌
   -- a list's first n pixels have entered or left: the numbers were c and are c'
-  pub record PassedTo (change : Bool → A → A → A) (w : Bool) (p : List ℕ) (n : ℕ) (c c' : Q → A) : Type 0 where
+  pub record PassedTo (change : Bool → A → A → A) (w : Bool) (p : List Pixel) (n : ℕ) (c c' : Q → A) : Type 0 where
     pub cells : (q : Q) → c' q ≡ change w (c q) (pixel_fold_to ◌⊕◌ o p (share q) n)
 
   -- one list has entered, and another has left
-  pub record Exchanged (e l : List ℕ) (c c' : Q → A) : Type 0 where
+  pub record Exchanged (e l : List Pixel) (c c' : Q → A) : Type 0 where
     pub cells : (q : Q) → c' q ⊕ pixel_fold ◌⊕◌ o l (share q) ≡ c q ⊕ pixel_fold ◌⊕◌ o e (share q)
 
   -- the window at (s, t)
@@ -36,6 +37,6 @@ module _ {A : Type 0} (◌⊕◌ : A → A → A) (o : A) {Q : Type 0} (share : 
   window_sum p s t q = over ◌⊕◌ o p s t (λ x y. share q (level p x y) (guide p x y))
 
 -- what an exchange asks of natural numbers: nothing overflows, and what leaves is there
-pub record SharesExchangeable {Q : Type 0} (share : Q → ℕ → ℕ → ℕ) (limit : ℕ) (e l : List ℕ) (c : Q → ℕ) : Type 0 where
+pub record SharesExchangeable {Q : Type 0} (share : Q → ℕ → ℕ → ℕ) (limit : ℕ) (e l : List Pixel) (c : Q → ℕ) : Type 0 where
   pub room : (q : Q) → c q + pixel_fold ◌+◌ 0 e (share q) < limit
   pub there : (q : Q) → pixel_fold ◌+◌ 0 l (share q) ≤ c q + pixel_fold ◌+◌ 0 e (share q)

@@ -6,31 +6,27 @@ ghost use Rattle.window.specs.Sums.{SumsAt};
 ghost use Rattle.pixels.specs.Pixels.{count_of, PixelsBelow};
 ghost use Rattle.pixels.specs.Sums.{ListSums, MovableByLists, MovedByLists};
 
-use crate::read;
+use crate::{Pixel, read};
 use spec::Plan;
-use window::line::{column_line, low, span_of};
+use window::line::{column_line, span_of};
 use window::sums::Sums;
 
 // Of a list's pixels.
-pub fn list_sums(p: &[u16]) -> Sums
-    requires { PixelsBelow 1024 256 p.now }
-    ensures { ListSums p.now (count_of p.now) result }
+pub fn list_sums(pixels: &[Pixel]) -> Sums
+    requires { PixelsBelow 1024 256 pixels.now }
+    ensures { ListSums pixels.now (count_of pixels.now) result }
 {
-    let n = p.len() / 2;
     let mut sum: usize = 0;
     let mut squares: usize = 0;
-    let mut k: usize = 0;
-    while k < n {
-        let at = 2 * k + 1;
-        let f = p[at] as usize;
-        sum += f;
-        squares += f * f;
-        k += 1;
+    for pixel in pixels {
+        let guide = pixel.guide.0 as usize;
+        sum += guide;
+        squares += guide * guide;
     }
     Sums {
-        count: k,
-        sum: sum,
-        squares: squares,
+        count: pixels.len(),
+        sum,
+        squares,
     }
 }
 
@@ -40,31 +36,29 @@ pub fn start(file: &[u8], plan: Plan, s: usize, t: usize) -> Sums
     requires s_lt_width { (s < plan.width) × (t < plan.height) }
     ensures { SumsAt (frame_of file.now) s t result }
 {
-    let x = low(s, plan.radius);
+    let x = s.saturating_sub(plan.radius);
     let n = span_of(s, plan.radius, plan.width);
     let mut count: usize = 0;
     let mut sum: usize = 0;
     let mut squares: usize = 0;
-    let mut k: usize = 0;
-    while k < n {
-        let mut places = [0u16; 62];
+    for k in 0..n {
+        let mut pixels = [Pixel::NONE; 31];
         let line = column_line(plan, x + k, t);
-        let p = read(file, plan, line, &mut places);
-        let a = list_sums(&places[0..p]);
+        let m = read(file, plan, line, &mut pixels);
+        let a = list_sums(&pixels[..m]);
         count += a.count;
         sum += a.sum;
         squares += a.squares;
-        k += 1;
     }
     Sums {
-        count: count,
-        sum: sum,
-        squares: squares,
+        count,
+        sum,
+        squares,
     }
 }
 
 // After a step.
-pub fn moved(a: Sums, entering: &[u16], leaving: &[u16]) -> Sums
+pub fn moved(a: Sums, entering: &[Pixel], leaving: &[Pixel]) -> Sums
     requires pixels_below { (PixelsBelow 1024 256 entering.now) × (PixelsBelow 1024 256 leaving.now) }
     requires movable_by_lists { MovableByLists entering.now leaving.now a }
     ensures { MovedByLists entering.now leaving.now a result }

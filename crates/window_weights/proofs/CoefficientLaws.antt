@@ -1,15 +1,14 @@
 -- The coefficients of a window's sums are the definition's, and the two ends of the formula say whether the cumulative weight never falls.
 -- Assumes nothing.
 use mathlib.Core.Path.{◌≡◌, refl, sym, ap, ◌∙◌, subst}
-use mathlib.Core.Bool.{Bool, true, false, ◌&&◌}
+use mathlib.Core.Bool.{◌&&◌}
 use mathlib.Core.List.{List}
-use Prim.Native.Nat.{ℕ, ◌+◌, ◌-◌, ◌*◌, ◌≤◌, ◌<◌}
+use Prim.Native.Nat.{ℕ, ◌-◌, ◌≤◌, ◌<◌}
 use native.Mathlib.Nat.{le_trans, le_of_eq}
 use native.Mathlib.Omega.{arith}
-use lib.IntN.{ℤ, pos, negsuc, nat_abs, ◌+ℤ◌, ◌*ℤ◌}
-use lib.Signed.{◌≤ℤ◌, ◌<ℤ◌, non_neg, clash_ℤ}
+use lib.IntN.{ℤ, pos, nat_abs, ◌+ℤ◌, ◌*ℤ◌}
+use lib.Signed.{non_neg}
 use borrow.Author.Tests.{ne_eqb}
-use Rattle.ints.specs.Order.{0≤pos}
 use Rattle.ints.specs.Polynomial.{◌⊕◌, ◌⊗◌, #◌, ◌≐◌, solve2}
 use Rattle.spec.specs.declared.Plan.{Plan}
 use Rattle.spec.specs.Frame.{guide, frame_of}
@@ -22,19 +21,6 @@ use Rattle.window.specs.declared.sums.Sums.{Sums}
 use Rattle.window_weights.specs.declared.coefficients.Coefficients.{Coefficients}
 use Rattle.window.specs.Sums.{SumsAt}
 use Rattle.window_weights.specs.Coefficients.{WeighsAt, CoefficientsOf, CoefficientsSmall, ends_not_negative}
-
--- ---- the two ends
-pub not_neg : (n : ℤ) → pos 0 ≤ℤ n → non_neg n ≡ true
-not_neg (pos n) h = refl
-not_neg (negsuc n) h = absurd h.le
-
-pub is-neg : (n : ℤ) → n <ℤ pos 0 → non_neg n ≡ false
-is-neg (pos n) h = clash_ℤ h 0≤pos
-is-neg (negsuc n) h = refl
-
-pub both_false : (a : Bool) {b : Bool} → b ≡ false → (a && b) ≡ false
-both_false true e = e
-both_false false e = refl
 
 module _ {b : List ℕ} {z : Plan} (pl : Planned b z) (two : z.kind ≡ 2) where
   guided : (frame_of b).set.kind ≡ 2

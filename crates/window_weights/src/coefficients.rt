@@ -56,13 +56,7 @@ pub fn monotone(plan: Plan, coefficients: Coefficients) -> bool
 {
     let low = coefficients.offset;
     let high = coefficients.slope * ((plan.guides - 1) as i64) + coefficients.offset;
-    if low < 0 {
-        return false;
-    }
-    if high < 0 {
-        return false;
-    }
-    true
+    low >= 0 && high >= 0
 }
 
 // Whether so many of the window's pixels, with that guide sum, weigh at least half of the total.

@@ -1,6 +1,5 @@
 -- `exchange` meets its contract. Assumes nothing.
 use native.Mathlib.Omega.{arith}
-use borrow.Author.Rules.{rules}
 use Rattle.pixels.proofs.AdditiveLaws.{leave_fits, exchanged}
 use Rattle.histogram.specs.Places.{share_at}
 use Rattle.histogram.proofs.exchange.Goals as goal

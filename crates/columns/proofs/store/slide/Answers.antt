@@ -1,5 +1,5 @@
 -- `columns::store::slide` meets its contract. Assumes nothing.
-use Prim.Native.Nat.{ℕ, ◌+◌, ◌-◌}
+use Prim.Native.Nat.{ℕ}
 use mathlib.Core.Path.{sym, ap, ◌∙◌}
 use mathlib.Core.List.{◌++◌}
 use lib.ListN.{drop}
@@ -7,22 +7,8 @@ use Rattle.spec.specs.Frame.{frame_of}
 use Rattle.spec.specs.Columns.{column_store}
 use Rattle.columns.specs.Blocks.{blocks_size}
 use Rattle.window.proofs.PixelLaws.{plan-limits, levels_high}
-use Rattle.columns.proofs.MoveLaws.{across-is, along-is, held-long, sides-in, sides-ready, sideways-done}
-use borrow.Author.Rules.{rules}
+use Rattle.columns.proofs.MoveLaws.{across-is, held-long, sides-in, sides-ready, sideways-done}
 use Rattle.columns.proofs.store.slide.Goals as goal
-
-pub vertical-requires : goal.vertical-requires
-vertical-requires c = let k =
-    along-is c.requires.adjacent c.if-s-s2.true in record {
-      planned = c.requires.planned;
-      s_lt_width = k;
-      blocks_value = c.requires.blocks_value;
-    }
-
-pub returns-then-s-s2 : goal.returns-then-s-s2
-returns-then-s-s2 c = let p =
-    frame_of c.args.file.now in c.vertical.ensures ∙ ap
-    (λ (q : ℕ). column_store p q c.args.t2 ++ drop (blocks_size p) c.args.blocks.now) c.if-s-s2.true
 
 pub exchange_of-d-requires : goal.exchange_of-d-requires
 exchange_of-d-requires c =
@@ -43,8 +29,8 @@ sideways-requires c =
       side_ready = sides-ready pl c.args.s c.args.t c.args.blocks.now c.requires.blocks_value k ed;
     }
 
-pub returns : goal.returns
-returns c =
+pub returns-else-s-s2 : goal.returns-else-s-s2
+returns-else-s-s2 c =
     let k = across-is c.requires.adjacent c.if-s-s2.false in
     let p = frame_of c.args.file.now in
     sideways-done c.requires.planned c.args.s c.args.t c.args.blocks.now c.requires.blocks_value k.0 c.exchange_of-d.ensures _

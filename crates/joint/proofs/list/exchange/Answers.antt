@@ -1,5 +1,4 @@
 -- `exchange` meets its contract. Assumes nothing.
-use borrow.Author.Rules.{rules}
 use Rattle.joint.proofs.PixelLaws.{leave-counts, counts-exchanged, enter-box, leave-box, box-exchanged}
 use Rattle.joint.proofs.list.exchange.Goals as goal
 

@@ -1,0 +1,1 @@
+-- `columns::store::count_row_if` meets its contract. Assumes nothing.
