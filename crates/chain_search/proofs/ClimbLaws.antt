@@ -16,7 +16,6 @@ use Rattle.spec.specs.Frame.{Frame, guide}
 use Rattle.spec.specs.Window.{level_sum}
 use Rattle.spec.specs.Median.{total_weight, cumulative, median}
 use Rattle.spec.proofs.First.{first-is, first-unique}
-use Rattle.spec.specs.Weight.{slope, offset}
 use Rattle.spec.proofs.Limits.{Pixel}
 use Rattle.spec.proofs.Levels.{cumulative-linear}
 use Rattle.spec.proofs.Totals.{lt-le_z, median-first}
@@ -244,6 +243,20 @@ module _ {l : ℕ} {m : List ℕ} {w : Coefficients} {a : Climbs l w m} where
 
           pub node-less : (most : ℕ) → l ≤ most → ahead most m (get_or m at' 0) < ahead most m next
           node-less most h = rw g (ahead-less l m w a _ _ _ after (climb-goes l m w a _ _ _ after) most h)
+
+-- what a turn reads, at the list that the caller showed
+pub record Bounds (m : List ℕ) (count sum at : ℕ) : Type 0 where
+  pub from : 4 ≤ at
+  pub inside : at < length m
+  pub few : count + get_or m (at - 2) 0 ≤ 961
+  pub light : sum + get_or m (at - 1) 0 ≤ 245055
+  pub level : get_or m (at - 3) 0 < 1024
+
+pub bounds : {m : List ℕ} {w : Coefficients} {count sum at next : ℕ} → ((l : ℕ) → l ≤ 1024 → (a : Climbs l w m) → AtNode l m w a count sum at next)
+    → (l : ℕ) × (l ≤ 1024) × Climbs l w m → Bounds m count sum at
+bounds h (l, low, a) =
+    let s = h l low a in
+    record { from = node-from s; inside = node_in s; few = node-count s; light = node-sum s; level = omega (arith, node-level s) }
 
 -- ---- the weight of the levels up to i, by their count and their guide sum
 module _ {p : Frame} {s t : ℕ} (q : Pixel p s t) (two : p.set.kind ≡ 2) where

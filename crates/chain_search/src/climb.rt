@@ -17,18 +17,17 @@ pub fn climb(nodes: &[u32], coefficients: Coefficients) -> Level
     ensures { (l : ℕ) → l ≤ 1024 → (a : Climbs l coefficients nodes.now)
         → result.0 ≡ first (reaches_at a.cnt a.sm coefficients) l }
 {
-    let mut count: u32 = 0;
-    let mut sum: u32 = 0;
+    let mut count = 0;
+    let mut sum = 0;
     let mut at = place(nodes[0]);
-    let mut next = nodes[at];
-    while next != 0 {
-        count += nodes[at - 2];
-        sum += nodes[at - 1];
-        if reached(coefficients, count as usize, sum as usize) {
-            return Level(nodes[at - 3] as u16);
+    // no `for`, since the next node is read from the node
+    while nodes[at] != 0 {
+        count += nodes[at - 2] as usize;
+        sum += nodes[at - 1] as usize;
+        if reached(coefficients, count, sum) {
+            break;
         }
-        at = place(next);
-        next = nodes[at];
+        at = place(nodes[at]);
     }
     Level(nodes[at - 3] as u16)
 }

@@ -10,8 +10,6 @@ use Rattle.std.specs.Prelude.{if◌then◌else◌}
 use Rattle.spec.specs.Frame.{frame_with}
 use Rattle.spec.specs.Window.{empty}
 use Rattle.spec.specs.Weight.{weightless}
-use Rattle.spec.specs.Checks.{SettingsLimits}
-use Rattle.spec.proofs.Limits.{FrameLimits}
 use Rattle.joint_search.specs.declared.Sizes.{Sizes}
 use Rattle.joint_search.specs.Search.{weightless_in}
 use Rattle.joint_search.specs.Window.{Counted, RowOwn, RowWeighs, sizes_of}

@@ -19,18 +19,13 @@ pub fn none_weighs(sizes: Sizes, row: &[u16], cut: Level, counts: &[u16], words:
     requires { (Searchable sizes counts.now words.now) × (RowFits sizes.guides row.now) × (cut.0 < sizes.levels) }
     ensures { result ≡ weightless_in sizes counts.now row.now }
 {
-    let here = level_weight(row, cut, sizes.guides, counts, words);
-    if 0 < here {
+    if level_weight(row, cut, sizes.guides, counts, words) > 0 {
         return false;
     }
-    let l = sizes.levels as u16;
-    let mut i: u16 = 0;
-    while i < l {
-        let v = level_weight(row, Level(i), sizes.guides, counts, words);
-        if 0 < v {
+    for i in 0..sizes.levels as u16 {
+        if level_weight(row, Level(i), sizes.guides, counts, words) > 0 {
             return false;
         }
-        i += 1;
     }
     true
 }
@@ -49,11 +44,8 @@ pub fn ones_if_hollow(
     requires cut_lt_levels { (cut.0 < sizes.levels) × (weighs ≡ true → weightless_in sizes counts.now row.old ≡ false) }
     ensures { (row.new ≡ counted_row sizes counts.now row.old) × (length row.new ≡ 256) }
 {
-    if weighs {
-        return;
-    }
-    if none_weighs(sizes, row, cut, counts, words) {
-        *row = [1u16; 256];
+    if !weighs && none_weighs(sizes, row, cut, counts, words) {
+        *row = [1; 256];
     }
 }
 
@@ -75,11 +67,11 @@ pub fn arrive(
     let bal = box_dot(balance_box, row, sizes.guides);
     if by_blocks(way) {
         let level = joint_blocks::from_cut(sizes, row, cut, bal, balance_box, counts, words);
-        let total = shifts + shifts_to(true, level, cut);
-        return SearchEnd {
-            level: level,
-            shifts: total,
-        };
+        SearchEnd {
+            level,
+            shifts: shifts + shifts_to(true, level, cut),
+        }
+    } else {
+        find::from_cut(sizes, row, cut, bal, shifts, balance_box, counts, words)
     }
-    find::from_cut(sizes, row, cut, bal, shifts, balance_box, counts, words)
 }

@@ -2,20 +2,23 @@
 -- Assumes nothing.
 use mathlib.Core.Path.{◌≡◌, refl, sym, ap, ap₂, ◌∙◌}
 use mathlib.Core.Bool.{Bool, true, false, cond}
-use mathlib.Core.List.{List}
-use Prim.Native.Nat.{ℕ, zero, suc, ◌+◌, ◌-◌, ◌*◌, ◌^◌, ◌≤◌, ◌<◌}
+use mathlib.Core.List.{List, [], ◌∷◌}
+use Prim.Native.Nat.{ℕ, zero, suc, ◌+◌, ◌-◌, ◌*◌, ◌≤◌, ◌<◌}
 use native.Mathlib.Nat.{zero-add, add-zero, add-suc, add_assoc, add-mul, le_refl}
-use native.Mathlib.Numerals.{add-one}
 use native.Mathlib.Omega.{arith}
 use lib.Dec.{ltb}
-use lib.ListN.{get_or}
+use lib.ListN.{length, get_or, take, drop}
+use Rattle.std.proofs.lemmas.List.{length-take}
+use lib.Seq.{get_or-take, get_or-drop}
 use lib.IntN.{ℤ, pos, negsuc, nat_abs, ◌+ℤ◌, ◌*ℤ◌, +ℤ_idl, +ℤ_idr, +ℤ_assoc}
 use lib.Signed.{mag}
 use mir.Syntax.{w16, w32}
-use mir.Val.{SFits, hbits, to_z, of_z}
+use mir.Val.{SFits, to_z, of_z}
 use mir.Facts.{to_z-of_z}
-use Rattle.ints.specs.Bound.{abs-add-le, abs-mul-le}
-use Rattle.ints.specs.Machine.{read-bounded}
+use Rattle.ints.specs.Bound.{abs-add-le, abs-mul-le, sfits-abs}
+use Rattle.ints.specs.Machine.{Cell, read-bounded}
+use Rattle.ints.specs.Auto.{quote, signed_code}
+use Rattle.ints.proofs.Auto.{need!, computes! }
 use Rattle.ints.specs.Ring.{mul-one}
 use Rattle.ints.specs.Polynomial.{◌⊕◌, ◌⊖◌, ◌⊗◌, #◌, ◌≐◌, solve4}
 use Rattle.spec.specs.Base.{fold}
@@ -106,16 +109,22 @@ module _ {bx : List ℤ} (lo : BoxInBounds bx) where
   sum_low n h = omega (arith, part-size bx (λ k. pos 1) 1 0 n (λ k a b. omega arith), lo.few (0 + n) (omega (arith, zero-add n)))
 
   -- one more of them
-  module _ (f d : ℕ) (h : f < 256) (ed : to_z w16 d ≡ box_sum bx f) where
-    pub cell-asks : (nat_abs (to_z w16 d) ≤ 961) × (nat_abs (to_z w16 (of_z w16 (get_or bx f (pos 0)))) ≤ 961)
-    cell-asks = (rw ed (sum_low f (omega arith)), rw (cell-back f) (lo.low f))
+  module _ (f : ℕ) (h : f < 256) {x y : ℤ} (ex : x ≡ box_sum bx f) (ey : y ≡ get_or bx f (pos 0)) where
+    cell-joined : x +ℤ to_z w16 (of_z w16 y) ≡ box_sum bx (f + 1)
+    cell-joined =
+        ap₂ (λ (i j : ℤ). i +ℤ j) ex (ap (λ (i : ℤ). to_z w16 (of_z w16 i)) ey ∙ cell-back f ∙ sym (mul-one (get_or bx f (pos 0))) ∙ sym (part-one bx (λ k. pos 1) f))
+        ∙ ap (λ (k : ℕ). box_sum bx f +ℤ box_part bx (λ j. pos 1) k 1) (sym (zero-add f))
+        ∙ sym (part_join bx (λ k. pos 1) 0 f 1)
 
-    pub cell-more : {v : ℤ} → mag v < 2 ^ hbits w16 → v ≡ to_z w16 d +ℤ to_z w16 (of_z w16 (get_or bx f (pos 0))) →
-        to_z w16 (of_z w16 v) ≡ box_sum bx (f + 1)
-    cell-more s e =
-        to_z-of_z {w = w16} (record { sfits = s }) ∙ e ∙ ap₂ (λ (x y : ℤ). x +ℤ y) ed (cell-back f ∙ sym (mul-one (get_or bx f (pos 0))))
-        ∙ ap (λ (k : ℕ). box_sum bx f +ℤ get_or bx k (pos 0) *ℤ pos 1) (sym (zero-add f))
-        ∙ sym (part-next bx (λ k. pos 1) 0 f) ∙ ap (box_sum bx) (sym (add-one f))
+    pub cell-fits : SFits w16 (x +ℤ to_z w16 (of_z w16 y))
+    cell-fits = rw cell-joined (sfits-abs 961 (sum_low (f + 1) (omega arith)) tt)
+
+    pub cell-more : to_z w16 (of_z w16 (x +ℤ to_z w16 (of_z w16 y))) ≡ box_sum bx (f + 1)
+    cell-more = to_z-of_z {w = w16} cell-fits ∙ cell-joined
+
+-- a list's part, by the list
+pub in_part : {A : Type 0} (xs : List A) (f n k : ℕ) (d : A) → k < n → get_or (take (f + n - f) (drop f xs)) k d ≡ get_or xs (f + k) d
+in_part xs f n k d h = let e : f + n - f ≡ n = omega arith in rw e (get_or-take n (drop f xs) k d h ∙ get_or-drop f xs k d)
 
 -- ---- the products
 module _ {bx : List ℤ} {row : List ℕ} where
@@ -136,23 +145,42 @@ module _ {bx : List ℤ} {row : List ℕ} where
         p.low.few (f + n) p.inside,
       )
 
-  -- ---- d is the sum of n cells from f on, q of the k after them
-  module _ {f : ℕ} (n k d : ℕ) (p : PartFits (n + k) f bx row) {q : ℤ} (ed : to_z w32 d ≡ centred_part bx row f n)
-      (eq : q ≡ centred_part bx row (f + n) k) where
-    before-low : nat_abs (to_z w32 d) ≤ 31490048
-    before-low = rw ed (part_low (part-within p (omega arith) (omega arith)))
-
-    more-low : nat_abs q ≤ 31490048
-    more-low = rw eq (part_low (part-within p (omega arith) (omega arith)))
-
+  -- ---- x is the sum of n cells from f on, q of the k after them: with them, m cells
+  module _ (n k : ℕ) {f j m : ℕ} (p : PartFits m f bx row) (ej : j ≡ f + n) (em : m ≡ n + k) {x q : ℤ} (ex : x ≡ centred_part bx row f n)
+      (eq : q ≡ centred_part bx row j k) where
     back : to_z w32 (of_z w32 q) ≡ q
-    back = read-bounded w32 {z = q} 31490048 more-low tt
+    back = read-bounded w32 {z = q} 31490048 (rw eq (part_low (part-within p (omega arith) (omega arith)))) tt
 
-    pub more-asks : (nat_abs (to_z w32 d) ≤ 31490048) × (nat_abs (to_z w32 (of_z w32 q)) ≤ 31490048)
-    more-asks = (before-low, rw back more-low)
+    joined : x +ℤ to_z w32 (of_z w32 q) ≡ centred_part bx row f m
+    joined =
+        ap₂ (λ (a b : ℤ). a +ℤ b) ex (back ∙ eq ∙ ap (λ (i : ℕ). centred_part bx row i k) ej)
+        ∙ sym (part_join bx _ f n k) ∙ ap (centred_part bx row f) (sym em)
 
-    pub more : {v : ℤ} → mag v < 2 ^ hbits w32 → v ≡ to_z w32 d +ℤ to_z w32 (of_z w32 q) → to_z w32 (of_z w32 v) ≡ centred_part bx row f (n + k)
-    more s e = to_z-of_z {w = w32} (record { sfits = s }) ∙ e ∙ ap₂ (λ (x y : ℤ). x +ℤ y) ed (back ∙ eq) ∙ sym (part_join bx _ f n k)
+    pub more-fits : SFits w32 (x +ℤ to_z w32 (of_z w32 q))
+    more-fits = rw joined (sfits-abs 31490048 (part_low p) tt)
+
+    pub more : to_z w32 (of_z w32 (x +ℤ to_z w32 (of_z w32 q))) ≡ centred_part bx row f m
+    more = to_z-of_z {w = w32} more-fits ∙ joined
+
+  -- ---- the product of the k-th pair of a part's cells and weights
+  module _ {f n : ℕ} (p : PartFits n f bx row) (k : ℕ) {cell : ℤ} {weight : ℕ}
+      (t : (k < length (take (f + n - f) (drop f bx))) × (k < length (take (f + n - f) (drop f row)))
+      × ((d : ℤ) → cell ≡ get_or (take (f + n - f) (drop f bx)) k d) × ((d : ℕ) → weight ≡ get_or (take (f + n - f) (drop f row)) k d)) where
+    pub turn-low : k < n
+    turn-low = let e : f + n - f ≡ n = omega arith in omega (arith, t.0, length-take (f + n - f) (drop f bx))
+
+    pub product : {x y z : ℤ} → x ≡ to_z w16 (of_z w16 cell) → y ≡ centred weight → z ≡ to_z w16 (of_z w16 y) →
+        to_z w32 (of_z w32 x) *ℤ to_z w32 (of_z w32 z) ≡ centred_part bx row (f + k) 1
+    product {x} {y} {z} ex ey ez =
+        let w = p.weights (f + k) (omega arith) (omega (arith, turn-low)) in
+        let dx : x ≡ get_or bx (f + k) (pos 0) =
+        ex ∙ ap (λ (q : ℤ). to_z w16 (of_z w16 q)) (t.2 (pos 0) ∙ in_part bx f n k (pos 0) turn-low) ∙ cell-back p.low (f + k) in
+        let dy : y ≡ centred (get_or row (f + k) 0) = ey ∙ ap centred (t.3 0 ∙ in_part row f n k 0 turn-low) in
+        let dz : z ≡ centred (get_or row (f + k) 0) = ez ∙ ap (λ (q : ℤ). to_z w16 (of_z w16 q)) dy ∙ to_z-of_z (centred-fits _ w) in
+        ap₂ (λ (i j : ℤ). i *ℤ j)
+        (read-bounded w32 {z = x} 961 (rw dx (p.low.low (f + k))) tt ∙ dx)
+        (read-bounded w32 {z = z} 32768 (rw dz (centred-low _ w)) tt ∙ dz)
+        ∙ sym (part-one bx _ (f + k))
 
   -- ---- the first cells of the box, as the search asks for them
   pub part_of : {m : ℕ} → m ≤ 256 → RowFits m row → BoxInBounds bx → PartFits m 0 bx row
@@ -162,3 +190,17 @@ module _ {bx : List ℤ} {row : List ℕ} where
     long = omega (arith, zero-add m, r.inside);
     weights = λ k a b. r.low k (omega (arith, zero-add m));
   }
+
+-- ---- half of each weight comes back
+module _ {x d a s : ℤ} (ex : x ≡ d) (ea : a ≡ s) (dot-low : nat_abs d ≤ 31490048) (sum-low : nat_abs s ≤ 961) where
+  abbrev cells : List Cell
+  cells =
+      record { has = x; is = d; bound = 31490048; same = ex; small = dot-low }
+      ∷ record { has = to_z w32 (of_z w32 a); is = s; bound = 961; same = ap (λ (z : ℤ). to_z w32 (of_z w32 z)) ea ∙ read-bounded w32 961 sum-low tt; small = sum-low }
+      ∷ []
+
+  pub restored-fits : SFits w32 (x +ℤ to_z w32 (of_z w32 (pos 32768 *ℤ to_z w32 (of_z w32 a))))
+  restored-fits = need! w32 cells (search signed_code depth 12) tt
+
+  pub restored : to_z w32 (of_z w32 (x +ℤ to_z w32 (of_z w32 (pos 32768 *ℤ to_z w32 (of_z w32 a))))) ≡ d +ℤ pos 32768 *ℤ s
+  restored = computes! w32 cells (search signed_code depth 12) (search quote depth 12) tt refl

@@ -4,33 +4,22 @@
 // off each weight, and comes back once, times the sum of the cells.
 #![tactic(auto)]
 
-ghost use Rattle.std.specs.Prelude.{◌≡◌, ◌≤◌, pos, nat_abs, ◌+ℤ◌, ◌*ℤ◌};
+ghost use Rattle.std.specs.Prelude.{◌≡◌, ◌≤◌};
 ghost use Rattle.joint_cells.specs.Scan.{RowFits};
 ghost use Rattle.joint_cells.specs.Box.{BoxInBounds};
-ghost use Rattle.joint_box.specs.Products.{PartFits, box_dot, box_sum, half, centred, centred_part};
+ghost use Rattle.joint_box.specs.Products.{PartFits, box_dot, box_sum, centred, centred_part};
 
 // Half of what 16 bits can hold.
 const HALF: i32 = 32768;
 
+// The cells of a part.
+const PART: usize = 32;
+
 // A weight less that half.
-fn centred(n: u16) -> i16
-    ensures { result ≡ centred n }
+fn centred(weight: u16) -> i16
+    ensures { result ≡ centred weight }
 {
-    ((n as i32) - HALF) as i16
-}
-
-fn product(x: i16, y: i16) -> i32
-    requires { (nat_abs x ≤ 961) × (nat_abs y ≤ half) }
-    ensures { result ≡ x *ℤ y }
-{
-    (x as i32) * (y as i32)
-}
-
-fn add(a: i32, b: i32) -> i32
-    requires { (nat_abs a ≤ 31490048) × (nat_abs b ≤ 31490048) }
-    ensures { result ≡ a +ℤ b }
-{
-    a + b
+    (i32::from(weight) - HALF) as i16
 }
 
 // The products of n cells from one on with the weights less that half.
@@ -38,21 +27,12 @@ fn part(balance_box: &[i16; 256], row: &[u16], from: usize, n: usize) -> i32
     requires { PartFits n from balance_box.now row.now }
     ensures { result ≡ centred_part balance_box.now row.now from n }
 {
+    let cells = &balance_box[from..from + n];
     let mut sum: i32 = 0;
-    let mut k = 0;
-    while k < n {
-        let f = from + k;
-        sum = add(sum, product(balance_box[f], centred(row[f])));
-        k += 1;
+    for (cell, weight) in cells.iter().zip(&row[from..from + n]) {
+        sum += i32::from(*cell) * i32::from(centred(*weight));
     }
     sum
-}
-
-fn add_cell(a: i16, b: i16) -> i16
-    requires { (nat_abs a ≤ 961) × (nat_abs b ≤ 961) }
-    ensures { result ≡ a +ℤ b }
-{
-    a + b
 }
 
 // The first m cells, in 16 bits: eight are then added in one instruction.
@@ -61,20 +41,10 @@ fn sum_cells(balance_box: &[i16; 256], m: usize) -> i16
     ensures { result ≡ box_sum balance_box.now m }
 {
     let mut sum: i16 = 0;
-    let mut f = 0;
-    while f < m {
-        sum = add_cell(sum, balance_box[f]);
-        f += 1;
+    for cell in &balance_box[..m] {
+        sum += *cell;
     }
     sum
-}
-
-// Products with that half back, all being the sum of their cells.
-fn restored(dot: i32, all: i32) -> i32
-    requires { (nat_abs dot ≤ 31490048) × (nat_abs all ≤ 961) }
-    ensures { result ≡ dot +ℤ pos half *ℤ all }
-{
-    dot + HALF * all
 }
 
 // Over the first m cells. 32 at a time: of a part whose length is known the compiler makes one sum of products without a loop, which takes half the
@@ -84,11 +54,12 @@ pub fn box_dot(balance_box: &[i16; 256], row: &[u16], m: usize) -> i32
     ensures { result ≡ box_dot balance_box.now row.now m }
 {
     let mut dot: i32 = 0;
-    let mut f = 0;
-    while f + 32 <= m {
-        dot = add(dot, part(balance_box, row, f, 32));
-        f += 32;
+    let parts = m / PART;
+    for p in 0..parts {
+        dot += part(balance_box, row, p * PART, PART);
     }
-    let whole = add(dot, part(balance_box, row, f, m - f));
-    restored(whole, sum_cells(balance_box, m) as i32)
+    let rest = parts * PART;
+    dot += part(balance_box, row, rest, m - rest);
+    // with that half back
+    dot + HALF * i32::from(sum_cells(balance_box, m))
 }

@@ -2,7 +2,7 @@
 -- Assumes nothing.
 use mathlib.Core.Path.{◌≡◌, refl, sym, ap, ◌∙◌, subst}
 use mathlib.Core.Logic.{⊎_elim}
-use mathlib.Core.List.{List}
+use mathlib.Core.List.{List, ◌∷◌}
 use Prim.Native.Nat.{ℕ, zero, suc, ◌+◌, ◌-◌, ◌*◌, ◌/◌, ◌%◌, ◌^◌, ◌≤◌, ◌<◌, min}
 use native.Mathlib.Nat.{
   zero-add,
@@ -21,17 +21,18 @@ use native.Mathlib.Numerals.{add-one}
 use native.Mathlib.Omega.{arith}
 use lib.Bits.{bit_and, and_le_l}
 use lib.Count.{count_trailing_zeros, under}
-use lib.Dec.{lit<}
-use lib.ListN.{length, get_or}
-use borrow.Author.Tests.{eq-eqb, ne_eqb}
+use lib.ListN.{length, get_or, get_or-eq_default, drop, length-take, length-drop}
+use Rattle.std.proofs.lemmas.List.{get_or-take, get_or-drop}
+use Rattle.ints.specs.Order.{eq-or-ne}
+use borrow.Author.Tests.{eq-eqb, ne_eqb, lt-ltb, le-ltb}
 use Rattle.spec.specs.Base.{fold, sum}
 use Rattle.spec.proofs.Sums.{sum-none, sum-suc}
 use Rattle.joint_pixel.specs.Bit.{bit}
-use Rattle.joint_pixel.specs.Store.{cell_at, words_per}
+use Rattle.joint_pixel.specs.Store.{cell_at, words_per, count_in}
 use Rattle.joint_pixel.proofs.BitLaws.{lt-or-le, bit-none, bit-zero, bit-suc, bit-and, bit_high, tz-found, tz-below}
 use Rattle.joint_pixel.proofs.RepLaws.{count-in, count-out}
-use Rattle.joint_cells.specs.declared.scan.Scan.{Scan}
-use Rattle.joint_cells.specs.Scan.{NextGuide, place_of, Scans, Follows, Marked, RowFits, cell_sum}
+use Rattle.joint_cells.specs.declared.scan.Occupied.{Occupied}
+use Rattle.joint_cells.specs.Scan.{words_of, bit_of, left, IsNext, place_of, Scans, Marked, RowFits, cell_sum, cell_dot}
 
 -- ---- the lowest bit of a word
 tz-pos : (w : ℕ) → w < 2 ^ 64 → 0 < w → (bit w (count_trailing_zeros 64 w) ≡ 1) × (count_trailing_zeros 64 w < 64)
@@ -92,131 +93,147 @@ module _ (w : ℕ) (h : w < 2 ^ 64) (p : 0 < w) where
       ⊎_elim (λ l. l) (λ l. absurd (omega (arith, cleared-upto (count_trailing_zeros 64 (bit_and w (w - 1))) l, (tz-pos (bit_and w (w - 1)) cleared-lt q).0)))
       (lt-or-le low (count_trailing_zeros 64 (bit_and w (w - 1))))
 
--- ---- the next guide
-abbrev pub Passed : List ℕ → ℕ → ℕ → ℕ → ℕ → Type 0
-Passed ws first k g r = (h : ℕ) → g ≤ h → h < r → h < k * 64 → bit (get_or ws (first + h / 64) 0) (h % 64) ≡ 0
-
--- nothing in word j from its bit b up to bit r
-passed-word : (ws : List ℕ) (first k g j b r : ℕ) → Passed ws first k g (j * 64 + b) → r ≤ 64 →
-    ((i : ℕ) → b ≤ i → i < r → bit (get_or ws (first + j) 0) i ≡ 0) → Passed ws first k g (j * 64 + r)
-passed-word ws first k g j b r p hr none h l u v = ⊎_elim (λ x. p h l x v) new (lt-or-le h (j * 64 + b))
+tz-most : (d q : ℕ) → count_trailing_zeros d q ≤ d
+unfolding count_trailing_zeros
+tz-most zero q = omega arith
+tz-most (suc d) q = go (q % 2) (tz-most d (q / 2))
   where
-    new : j * 64 + b ≤ h → bit (get_or ws (first + h / 64) 0) (h % 64) ≡ 0
-    new x =
-        let q : h / 64 ≡ j = omega arith in
-        let e : h % 64 ≡ h - j * 64 = omega arith in
-        rw (q, e) (none (h - j * 64) (omega arith) (omega arith))
+    go : (r : ℕ) → count_trailing_zeros d (q / 2) ≤ d → under r (count_trailing_zeros d (q / 2)) ≤ suc d
+    go zero h = omega arith
+    go (suc r) h = omega arith
 
-pub passed-empty : (ws : List ℕ) (first k g j : ℕ) → Passed ws first k g (j * 64) → get_or ws (first + j) 0 ≡ 0 → Passed ws first k g ((j + 1) * 64)
-passed-empty ws first k g j p e =
-    let n : j * 64 + 64 ≡ (j + 1) * 64 = omega arith in
-    let z : j * 64 ≡ j * 64 + 0 = omega arith in
-    subst (λ (q : ℕ). Passed ws first k g q) n
-    (passed-word ws first k g j 0 64 (subst (λ (q : ℕ). Passed ws first k g q) z p) (omega arith) (λ i a b. rw e (bit-none i)))
+pub bit-past : (ws : List ℕ) (g : ℕ) → length ws * 64 ≤ g → bit_of ws g ≡ 0
+unfolding bit_of
+bit-past ws g h = ap (λ (q : ℕ). bit q (g % 64)) (get_or-eq_default ws 0 (omega arith)) ∙ bit-none (g % 64)
 
-pub place-some : (c : Scan) → (c.rest ≡ 0 → ⊥) → place_of c ≡ c.word * 64 + count_trailing_zeros 64 c.rest
+-- ---- what is left
+pub left-below : (s : Occupied) (g : ℕ) → g < s.base → left s g ≡ 0
+unfolding left
+left-below s g h = rw (lt-ltb g s.base h) refl
+
+pub left-word : (s : Occupied) (b : ℕ) → b < 64 → left s (s.base + b) ≡ bit s.rest b
+unfolding left bit_of
+left-word s b h =
+    let n : s.base ≤ s.base + b = omega arith in
+    let d : s.base + b - s.base ≡ b = omega arith in
+    let q : b / 64 ≡ 0 = omega arith in
+    let r : b % 64 ≡ b = omega arith in
+    rw (le-ltb (s.base + b) s.base n, d, q, r) refl
+
+pub left-after : (s : Occupied) (h : ℕ) → left s (s.base + 64 + h) ≡ bit_of s.words.now h
+unfolding left bit_of
+left-after s h =
+    let n : s.base ≤ s.base + 64 + h = omega arith in
+    let q : (s.base + 64 + h - s.base) / 64 ≡ suc (h / 64) = omega arith in
+    let r : (s.base + 64 + h - s.base) % 64 ≡ h % 64 = omega arith in
+    rw (le-ltb (s.base + 64 + h) s.base n, q, r) refl
+
+-- a guide is below the word at hand, in it, or after it
+parts : (s : Occupied) (P : ℕ → Type 0) → ((g : ℕ) → g < s.base → P g) → ((b : ℕ) → b < 64 → P (s.base + b)) → ((h : ℕ) → P (s.base + 64 + h)) →
+    (g : ℕ) → P g
+parts s P low word high g =
+    ⊎_elim (low g)
+    (λ l. ⊎_elim (λ m. let e : s.base + (g - s.base) ≡ g = omega arith in subst P e (word (g - s.base) (omega arith)))
+    (λ m. let e : s.base + 64 + (g - (s.base + 64)) ≡ g = omega arith in subst P e (high (g - (s.base + 64)))) (lt-or-le g (s.base + 64)))
+    (lt-or-le g s.base)
+
+pub place-some : (s : Occupied) → (s.rest ≡ 0 → ⊥) → place_of s ≡ s.base + count_trailing_zeros 64 s.rest
 unfolding place_of
-place-some c n = rw (ne_eqb c.rest 0 n) refl
+place-some s n = rw (ne_eqb s.rest 0 n) refl
 
-pub place_none : (c : Scan) → c.rest ≡ 0 → place_of c ≡ 256
+pub place_none : (s : Occupied) → s.rest ≡ 0 → place_of s ≡ s.base + 64
 unfolding place_of
-place_none c e = rw (eq-eqb c.rest 0 e) refl
+place_none s e = rw (eq-eqb s.rest 0 e) refl
 
-pub place_rest : (c : Scan) → place_of c < 256 → c.rest ≡ 0 → ⊥
-place_rest c h e = omega (arith, place_none c e)
+-- nothing is left below the place
+pub left-low : (s : Occupied) (g : ℕ) → g < place_of s → left s g ≡ 0
+left-low s g h =
+    parts s (λ (q : ℕ). q < place_of s → left s q ≡ 0) (λ q l u. left-below s q l)
+    (λ b l u. left-word s b l ∙ ⊎_elim (λ e. ap (λ (q : ℕ). bit q b) e ∙ bit-none b)
+    (λ n. tz-below 64 s.rest b (omega (arith, place-some s n))) (eq-or-ne s.rest 0))
+    (λ q u. absurd (⊎_elim (λ e. omega (arith, place_none s e)) (λ n. omega (arith, place-some s n, tz-most 64 s.rest)) (eq-or-ne s.rest 0))) g h
 
-module _ (ws : List ℕ) (first k : ℕ) (hk : k ≤ 4) where
-  -- at word i, all of which is left
-  pub begins-at : (g i : ℕ) → i < k → g ≤ i * 64 → Passed ws first k g (i * 64) → get_or ws (first + i) 0 < 2 ^ 64 → (get_or ws (first + i) 0 ≡ 0 → ⊥) →
-      Follows ws first k g (record { word = i; rest = get_or ws (first + i) 0 })
-  begins-at g i hi hg p fit n =
-      let w = get_or ws (first + i) 0 in
-      let t = (tz-pos w fit (pos_of_ne-zero n)).1 in
-      let e = place-some (record { word = i; rest = w }) n in
-      let z : i * 64 ≡ i * 64 + 0 = omega arith in
-      record {
-        scans = record { fits = fit; inside = λ _. hi; agrees = λ b l m u. refl };
-        next = record {
-          from = omega (arith, e);
-          most = omega (arith, e, t);
-          none =
-              rw e
-              (passed-word ws first k g i 0 (count_trailing_zeros 64 w) (subst (λ (q : ℕ). Passed ws first k g q) z p) (omega (arith, t))
-              (λ j a b. tz-below 64 w j b));
-        };
-      }
+-- the first word of a list, its others being the rest of it
+pub left-list : (s : Occupied) (ws : List ℕ) → s.base ≡ 0 → ws ≡ s.rest ∷ s.words.now → (g : ℕ) → left s g ≡ bit_of ws g
+unfolding left
+left-list s ws z e g =
+    let n : s.base ≤ g = omega arith in
+    let d : g - s.base ≡ g = omega arith in
+    rw (le-ltb g s.base n, d, e) refl
 
-  -- past the last word
-  pub begins-none : (g i : ℕ) → k ≤ i → g ≤ 256 → Passed ws first k g (i * 64) → Follows ws first k g (record { word = 0; rest = 0 })
-  begins-none g i hi hg p =
-      let e = place_none (record { word = 0; rest = 0 }) refl in
-      record {
-        scans = record { fits = lit< tt; inside = λ n. absurd (n refl); agrees = λ b l m n. absurd (n refl) };
-        next = record { from = omega (arith, e); most = omega (arith, e); none = λ h l u v. p h l (omega arith) v };
-      }
+pub left-none : (s : Occupied) → s.rest ≡ 0 → length s.words.now ≡ 0 → (g : ℕ) → left s g ≡ 0
+left-none s z e =
+    parts s (λ (g : ℕ). left s g ≡ 0) (left-below s) (λ b h. left-word s b h ∙ ap (λ (q : ℕ). bit q b) z ∙ bit-none b)
+    (λ h. left-after s h ∙ bit-past s.words.now h (omega arith))
 
-  module _ (c : Scan) (sc : Scans ws first k c) (hc : place_of c < 256) where
-    some : c.rest ≡ 0 → ⊥
-    some = place_rest c hc
+-- ---- the next word
+module _ (s : Occupied) (sc : Scans s) (z : s.rest ≡ 0) (t : Occupied) (b : t.base ≡ s.base + 64) (w : s.words.now ≡ t.rest ∷ t.words.now)
+    (fit : t.rest < 2 ^ 64) where
+  pub loaded-scans : Scans t
+  loaded-scans = record { few = omega (arith, sc.few, ap (length {A = ℕ}) w); fits = fit }
 
-    at : place_of c ≡ c.word * 64 + count_trailing_zeros 64 c.rest
-    at = place-some c some
+  at-word : (h : ℕ) → left t (s.base + 64 + h) ≡ bit_of s.words.now h
+  unfolding left
+  at-word h =
+      let n : t.base ≤ s.base + 64 + h = omega arith in
+      let d : s.base + 64 + h - t.base ≡ h = omega arith in
+      rw (le-ltb (s.base + 64 + h) t.base n, d, w) refl
 
-    pub word_in : c.word < k
-    word_in = sc.inside some
+  pub loaded-left : (g : ℕ) → left t g ≡ left s g
+  loaded-left =
+      parts s (λ (g : ℕ). left t g ≡ left s g) (λ g h. left-below t g (omega arith) ∙ sym (left-below s g h))
+      (λ d h. left-below t (s.base + d) (omega arith) ∙ sym (left-word s d h ∙ ap (λ (q : ℕ). bit q d) z ∙ bit-none d))
+      (λ h. at-word h ∙ sym (left-after s h))
 
-    pub rest-pos : 0 < c.rest
-    rest-pos = pos_of_ne-zero some
+  pub loaded-up : place_of s ≤ place_of t
+  loaded-up =
+      ⊎_elim (λ e. omega (arith, place_none s z, place_none t e)) (λ n. omega (arith, place_none s z, place-some t n)) (eq-or-ne t.rest 0)
 
-    start : Passed ws first k (place_of c + 1) (c.word * 64 + (count_trailing_zeros 64 c.rest + 1))
-    start h l u v = absurd (omega (arith, at))
+-- ---- the next guide
+module _ (s : Occupied) (sc : Scans s) (n : s.rest ≡ 0 → ⊥) where
+  abbrev pub taken : Occupied
+  taken = record s { rest = bit_and s.rest (s.rest - 1) }
 
-    zeros : (r : ℕ) → ((i : ℕ) → count_trailing_zeros 64 c.rest < i → i < r → bit (bit_and c.rest (c.rest - 1)) i ≡ 0) → r ≤ 64
-        → (i : ℕ) → count_trailing_zeros 64 c.rest + 1 ≤ i → i < r → bit (get_or ws (first + c.word) 0) i ≡ 0
-    zeros r none hr i l u =
-        sym (sc.agrees i (omega arith) (omega arith) some) ∙ sym (cleared-above c.rest sc.fits rest-pos i (omega arith)) ∙ none i
-        (omega arith) u
+  rest-pos : 0 < s.rest
+  rest-pos = pos_of_ne-zero n
 
-    -- a bit is left in the word
-    pub goes_on : (bit_and c.rest (c.rest - 1) ≡ 0 → ⊥) →
-        Follows ws first k (place_of c + 1) (record { word = c.word; rest = bit_and c.rest (c.rest - 1) })
-    goes_on n =
-        let r = bit_and c.rest (c.rest - 1) in
-        let p = pos_of_ne-zero n in
-        let up = cleared-next c.rest sc.fits rest-pos p in
-        let t = (tz-pos r (lt_of_le_of_lt (and_le_l c.rest (c.rest - 1)) sc.fits) p).1 in
-        let pl = place-some (record { word = c.word; rest = r }) n in
-        record {
-          scans = record {
-            fits = lt_of_le_of_lt (and_le_l c.rest (c.rest - 1)) sc.fits;
-            inside = λ _. word_in;
-            agrees = λ b l m u. cleared-above c.rest sc.fits rest-pos b (omega (arith, up, m)) ∙ sc.agrees b l (omega (arith, up, m)) some;
-          };
-          next = record {
-            from = omega (arith, at, up, pl);
-            most = omega (arith, t, pl, word_in, hk);
-            none =
-                rw pl (passed-word ws first k (place_of c + 1) c.word (count_trailing_zeros 64 c.rest + 1) (count_trailing_zeros 64 r) start (omega (arith, t))
-                (zeros (count_trailing_zeros 64 r) (λ i l u. tz-below 64 r i u) (omega (arith, t))));
-          };
-        }
+  abbrev bit-at : ℕ
+  bit-at = count_trailing_zeros 64 s.rest
 
-    -- none is left: on to the next word
-    pub goes_over : (r : Scan) → bit_and c.rest (c.rest - 1) ≡ 0 → Follows ws first k ((c.word + 1) * 64) r → Follows ws first k (place_of c + 1) r
-    goes_over r e f =
-        let t = (tz-pos c.rest sc.fits rest-pos).1 in
-        let n : c.word * 64 + 64 ≡ (c.word + 1) * 64 = omega arith in
-        let gap : Passed ws first k (place_of c + 1) ((c.word + 1) * 64) = subst (λ (q : ℕ). Passed ws first k (place_of c + 1) q) n
-        (passed-word ws first k (place_of c + 1) c.word (count_trailing_zeros 64 c.rest + 1) 64 start (omega arith)
-        (zeros 64 (λ i l u. rw e (bit-none i)) (omega arith))) in
-        record {
-          scans = f.scans;
-          next = record {
-            from = omega (arith, at, t, f.next.from);
-            most = f.next.most;
-            none = λ h l u v. ⊎_elim (λ x. gap h l x v) (λ x. f.next.none h x u v) (lt-or-le h ((c.word + 1) * 64));
-          };
-        }
+  at : place_of s ≡ s.base + bit-at
+  at = place-some s n
+
+  tz : (bit s.rest bit-at ≡ 1) × (bit-at < 64)
+  tz = tz-pos s.rest sc.fits rest-pos
+
+  pub place-inside : place_of s < 256
+  place-inside = omega (arith, at, tz.1, sc.few)
+
+  pub taken-scans : Scans taken
+  taken-scans = record { few = sc.few; fits = lt_of_le_of_lt (and_le_l s.rest (s.rest - 1)) sc.fits }
+
+  pub taken-up : place_of s < place_of taken
+  taken-up =
+      ⊎_elim (λ e. omega (arith, at, tz.1, place_none taken e))
+      (λ u. omega (arith, at, place-some taken u, cleared-next s.rest sc.fits rest-pos (pos_of_ne-zero u)))
+      (eq-or-ne (bit_and s.rest (s.rest - 1)) 0)
+
+  others : (g : ℕ) → place_of s < g → left taken g ≡ left s g
+  others =
+      parts s (λ (g : ℕ). place_of s < g → left taken g ≡ left s g) (λ g h l. absurd (omega (arith, at)))
+      (λ b h l. left-word taken b h ∙ cleared-above s.rest sc.fits rest-pos b (omega (arith, at)) ∙ sym (left-word s b h))
+      (λ h l. left-after taken h ∙ sym (left-after s h))
+
+  pub taken-next : (s₀ : Occupied) → ((g : ℕ) → left s g ≡ left s₀ g) → place_of s₀ ≤ place_of s → IsNext s₀ (place_of s) taken
+  taken-next s₀ same l = record {
+    here = sym (same (place_of s)) ∙ ap (left s) at ∙ left-word s bit-at tz.1 ∙ tz.0;
+    before = λ h u. sym (same h) ∙ left-low s h u;
+    upto = λ h u. left-low taken h (omega (arith, taken-up));
+    others = λ h u. others h u ∙ same h;
+    inside = place-inside;
+    from = l;
+    after = taken-up;
+  }
 
 -- ---- sums that pass over zeros
 pub sum-run : (F : ℕ → ℕ) (a n : ℕ) → ((h : ℕ) → a ≤ h → h < a + n → F h ≡ 0) → sum F 0 (a + n) ≡ sum F 0 a
@@ -238,44 +255,71 @@ sum-upto F a n h = let e : a + (n - a) ≡ n = omega arith in subst (λ (q : ℕ
 
 -- ---- a level
 module _ {m i : ℕ} {cs ws : List ℕ} (ok : Marked m i cs ws) where
-  pub empty : (g : ℕ) → g < m → bit (get_or ws (i * words_per m + g / 64) 0) (g % 64) ≡ 0 → get_or cs (cell_at m i g) 0 ≡ 0
-  empty g h e = omega (arith, ok.marks g (omega arith), count-in m i g cs h, e)
+  abbrev pub own : List ℕ
+  own = words_of m i ws
 
-  -- a guide that is left is one of the m
-  pub place-low : {c : Scan} → Scans ws (i * words_per m) (words_per m) c → (c.rest ≡ 0 → ⊥) → place_of c < m
-  place-low {c} sc n =
-      let t = tz-pos c.rest sc.fits (pos_of_ne-zero n) in
-      let w = sc.inside n in
-      let e = place-some c n in
-      let q : place_of c / 64 ≡ c.word = omega (arith, e, t.1) in
-      let r : place_of c % 64 ≡ count_trailing_zeros 64 c.rest = omega (arith, e, t.1) in
-      let one : bit (get_or ws (i * words_per m + place_of c / 64) 0) (place_of c % 64) ≡ 1 =
-      rw (q, r) (sym (sc.agrees (count_trailing_zeros 64 c.rest) t.1 (omega arith) n) ∙ t.0) in
-      ⊎_elim (λ l. l) (λ l. absurd (omega (arith, one, ok.marks (place_of c) (omega (arith, e, t.1, w)), count-out m i (place_of c) cs l)))
-      (lt-or-le (place_of c) m)
+  own-long : length own ≡ words_per m
+  own-long = simp (length-take {A = ℕ}, length-drop {A = ℕ}) (omega (arith, ok.words))
 
-  pub place-ended : (c : Scan) → c.rest ≡ 0 → m ≤ place_of c
-  place-ended c e = omega (arith, place_none c e, ok.guides)
+  own-bit : (g : ℕ) → g < words_per m * 64 → bit_of own g ≡ min 1 (count_in m cs i g)
+  unfolding bit_of
+  own-bit g h =
+      let l : g / 64 < (i * words_per m + words_per m) - i * words_per m = omega arith in
+      ap (λ (w : ℕ). bit w (g % 64))
+      (get_or-take {A = ℕ} ((i * words_per m + words_per m) - i * words_per m) (drop (i * words_per m) ws) (g / 64) 0 l ∙ get_or-drop {A = ℕ} (i * words_per m) ws (g / 64) 0)
+      ∙ ok.marks g h
 
-  -- from guide a to the next one nothing is there
-  pub between : (a r : ℕ) → NextGuide ws (i * words_per m) (words_per m) a r → (h : ℕ) → a ≤ h → h < min r m → get_or cs (cell_at m i h) 0 ≡ 0
-  between a r n h l u = empty h (omega arith) (n.none h l (omega arith) (omega arith))
+  -- a scan of the level, from its place on
+  abbrev pub Along : Occupied → Type 0
+  Along s = (h : ℕ) → place_of s ≤ h → left s h ≡ bit_of own h
+
+  pub empty : (g : ℕ) → g < m → bit_of own g ≡ 0 → get_or cs (cell_at m i g) 0 ≡ 0
+  empty g h e = omega (arith, own-bit g (omega arith), count-in m i g cs h, e)
+
+  -- the next one is one of the m, and between two places nothing is there
+  module _ {s t : Occupied} {g : ℕ} (a : Along s) (n : IsNext s g t) where
+    set-here : bit_of own g ≡ 1
+    set-here = sym (a g n.from) ∙ n.here
+
+    pub next-low : g < m
+    next-low =
+        ⊎_elim (λ l. l)
+        (λ l. absurd (⊎_elim (λ u. omega (arith, set-here, own-bit g u, count-out m i g cs l))
+        (λ u. omega (arith, set-here, bit-past own g (omega (arith, own-long)))) (lt-or-le g (words_per m * 64))))
+        (lt-or-le g m)
+
+    pub next-along : Along t
+    next-along h u = n.others h (omega (arith, n.after)) ∙ a h (omega (arith, n.from, n.after))
+
+    pub gap-before : (h : ℕ) → place_of s ≤ h → h < g → get_or cs (cell_at m i h) 0 ≡ 0
+    gap-before h u v = empty h (omega (arith, next-low)) (sym (a h u) ∙ n.before h v)
+
+    pub gap-after : (h : ℕ) → g < h → h < min (place_of t) m → get_or cs (cell_at m i h) 0 ≡ 0
+    gap-after h u v = empty h (omega arith) (sym (a h (omega (arith, n.from))) ∙ sym (n.others h u) ∙ left-low t h (omega arith))
+
+  pub gap-first : (s : Occupied) → ((g : ℕ) → left s g ≡ bit_of own g) → (h : ℕ) → h < min (place_of s) m → get_or cs (cell_at m i h) 0 ≡ 0
+  gap-first s all h u = empty h (omega arith) (sym (all h) ∙ left-low s h (omega arith))
+
+  pub gap-last : (s : Occupied) → Along s → ((g : ℕ) → left s g ≡ 0) → (h : ℕ) → place_of s ≤ h → h < m → get_or cs (cell_at m i h) 0 ≡ 0
+  gap-last s a none h u v = empty h v (sym (a h u) ∙ none h)
 
   module _ (T : ℕ → ℕ) (zeros : (f : ℕ) → get_or cs (cell_at m i f) 0 ≡ 0 → T f ≡ 0) where
-    pub walk_start : (r : ℕ) → NextGuide ws (i * words_per m) (words_per m) 0 r → 0 ≡ sum T 0 (min r m)
-    walk_start r n = sym (sum-skip T 0 (min r m) (omega arith) (λ h l u. zeros h (between 0 r n h l u)) ∙ sum-none T)
+    pub walk-start : (s : Occupied) → ((g : ℕ) → left s g ≡ bit_of own g) → 0 ≡ sum T 0 (min (place_of s) m)
+    walk-start s all = sym (sum-skip T 0 (min (place_of s) m) (omega arith) (λ h u v. zeros h (gap-first s all h v)) ∙ sum-none T)
 
-    pub walk-again : (g r x y : ℕ) → g < m → NextGuide ws (i * words_per m) (words_per m) (g + 1) r → x ≡ sum T 0 (min g m) → y ≡ x + T g →
-        y ≡ sum T 0 (min r m)
-    walk-again g r x y h n e d =
-        let here : min g m ≡ g = omega arith in
-        let before : x ≡ sum T 0 g = e ∙ ap (λ (q : ℕ). sum T 0 q) here in
+    pub walk-again : {s t : Occupied} {g : ℕ} (x y : ℕ) → Along s → IsNext s g t → x ≡ sum T 0 (min (place_of s) m) → y ≡ x + T g →
+        y ≡ sum T 0 (min (place_of t) m)
+    walk-again {s} {t} {g} x y a n e d =
+        let l : g < m = next-low a n in
+        let skip : sum T 0 g ≡ sum T 0 (min (place_of s) m) =
+        sum-skip T (min (place_of s) m) g (omega (arith, n.from)) (λ h u v. zeros h (gap-before a n h (omega arith) v)) in
         sym
-        (sum-skip T (g + 1) (min r m) (omega (arith, n.from)) (λ q l u. zeros q (between (g + 1) r n q l u)) ∙ ap (λ (q : ℕ). sum T 0 q)
-        (add-one g) ∙ sum-suc T g ∙ ap (λ (q : ℕ). q + T g) (sym before) ∙ sym d)
+        (sum-skip T (g + 1) (min (place_of t) m) (omega (arith, n.after)) (λ q u v. zeros q (gap-after a n q (omega arith) v))
+        ∙ ap (λ (q : ℕ). sum T 0 q) (add-one g) ∙ sum-suc T g ∙ ap (λ (q : ℕ). q + T g) (skip ∙ sym e) ∙ sym d)
 
-    pub walk-done : (g x : ℕ) → m ≤ g → x ≡ sum T 0 (min g m) → x ≡ sum T 0 m
-    walk-done g x h e = let d : min g m ≡ m = omega arith in e ∙ ap (λ (q : ℕ). sum T 0 q) d
+    pub walk-done : (s : Occupied) (x : ℕ) → Along s → ((g : ℕ) → left s g ≡ 0) → x ≡ sum T 0 (min (place_of s) m) → x ≡ sum T 0 m
+    walk-done s x a none e =
+        e ∙ sym (sum-skip T (min (place_of s) m) m (omega arith) (λ h u v. zeros h (gap-last s a none h (omega arith) v)))
 
   pub first-low : i * words_per m ≤ 4092
   first-low =
@@ -309,8 +353,23 @@ module _ {m i : ℕ} {cs ws : List ℕ} (ok : Marked m i cs ws) where
     dot-low (suc n) h = omega (arith, sum-suc term n, sum-suc (λ f. get_or cs (cell_at m i f) 0) n, dot-low n (omega arith), term-low n (omega arith))
 
     -- the sum as far as the scan has come
-    pub sofar-low : (n y : ℕ) → y ≡ sum term 0 (min n m) → y ≤ 62979135
+    pub sofar-low : (n y : ℕ) → y ≡ cell_dot m i cs row (min n m) → y ≤ 62979135
+    unfolding cell_dot
     sofar-low n y e = omega (arith, dot-low (min n m) (omega arith), cells-mono (min n m) (omega arith))
+
+    pub dot-start : (s : Occupied) → ((g : ℕ) → left s g ≡ bit_of own g) → 0 ≡ cell_dot m i cs row (min (place_of s) m)
+    unfolding cell_dot
+    dot-start s all = walk-start term term-zero s all
+
+    pub dot-again : {s t : Occupied} {g : ℕ} (x y : ℕ) → Along s → IsNext s g t → x ≡ cell_dot m i cs row (min (place_of s) m)
+        → y ≡ x + term g → y ≡ cell_dot m i cs row (min (place_of t) m)
+    unfolding cell_dot
+    dot-again x y a n e d = walk-again term term-zero x y a n e d
+
+    pub dot-done : (s : Occupied) (x : ℕ) → Along s → ((g : ℕ) → left s g ≡ 0) → x ≡ cell_dot m i cs row (min (place_of s) m)
+        → x ≡ cell_dot m i cs row m
+    unfolding cell_dot
+    dot-done s x a none e = walk-done term term-zero s x a none e
 
     -- a turn
     pub turn : (g : ℕ) → g < m
@@ -325,6 +384,3 @@ module _ {m i : ℕ} {cs ws : List ℕ} (ok : Marked m i cs ws) where
       le_trans (rw'.low g h) (omega arith),
       omega (arith, term-low g h, cell-low g h),
     )
-
-  pub scan-asks : (i * words_per m + words_per m ≤ length ws) × (words_per m ≤ 4) × (0 ≤ 4) × (i * words_per m < 4096)
-  scan-asks = (ok.words, omega (arith, ok.guides), omega arith, omega (arith, first-low))

@@ -4,7 +4,7 @@ ghost use Rattle.std.specs.Prelude.{◌≡◌, pos};
 ghost use Rattle.joint_cells.specs.Scan.{Marked, RowFits, cell_dot};
 ghost use Rattle.joint_cells.specs.Box.{BoxInBounds, CountsAdded};
 
-use crate::scan;
+use crate::scan::Occupied;
 use crate::shift::plus_times;
 use spec::Level;
 
@@ -21,18 +21,13 @@ pub fn raise_level(
     ensures { (result ≡ pos (cell_dot m level.0 counts.now row.now m))
         × (CountsAdded m level.0 (pos 2) counts.now m balance_box.old balance_box.new) }
 {
-    let i = level.0 as usize;
-    let k = (m + 63) / 64;
-    let first = i * k;
-    let base = i * m;
+    let base = level.0 as usize * m;
     let mut dot: u32 = 0;
-    let mut c = scan::begin(words, first, k, 0);
-    while c.rest != 0 {
-        let g = scan::guide(c).0 as usize;
+    for g in Occupied::of(level, m, words) {
+        let g = g.0 as usize;
         let n = counts[base + g];
         balance_box[g] = plus_times(balance_box[g], 2, n);
-        dot = dot + (n as u32) * (row[g] as u32);
-        c = scan::next(words, first, k, c);
+        dot += n as u32 * row[g] as u32;
     }
     dot as i32
 }

@@ -1,55 +1,63 @@
-// The occupied guides of a level, stepped through by its occupancy words. What is left of the word at hand is carried on, so that the next guide
-// waits for no load.
-ghost use Rattle.std.specs.Prelude.{◌≡◌, ◌+◌, ◌*◌, ◌≤◌, ◌<◌, length};
-ghost use Rattle.joint_cells.specs.Scan.{place_of, Scans, Follows};
+// The occupied guides of a level, by its occupancy words, lowest first.
+ghost use Rattle.std.specs.Prelude.{◌≡◌, ℕ, ◌-◌};
+ghost use Rattle.std.specs.Iterator.{at_most};
+ghost use Rattle.joint_cells.specs.Scan.{left, place_of, bit_of, words_of, Scans, GivesNext, Held};
 
-use spec::Guide;
+use spec::{Guide, Level};
 
-// A word by its number among the level's, and its bits that are still to come.
+// Those that are still to come: from the guide `base` on by what is left of the word at hand, then by the words after it. That word is carried on, so
+// that the next guide waits for no load.
 #[derive(Clone, Copy)]
-pub struct Scan {
-    pub word: usize,
-    pub rest: u64,
+pub struct Occupied<'a> {
+    base: usize,
+    rest: u64,
+    words: &'a [u64],
 }
 
-// The guide at the scan, one being left.
-pub fn guide(c: Scan) -> Guide
-    requires { place_of c < 256 }
-    ensures { result.0 ≡ place_of c }
-{
-    Guide((c.word * 64) as u16 + (u64::trailing_zeros(c.rest) as u16))
-}
-
-// The scan at the first occupied guide of the k words, from word j on.
-pub fn begin(words: &[u64], first: usize, k: usize, j: usize) -> Scan
-    requires { (first + k ≤ length words.now) × (k ≤ 4) × (j ≤ 4) × (first < 4096) }
-    ensures { Follows words.now first k (j * 64) result }
-{
-    let mut i = j;
-    while i < k {
-        let rest = words[first + i];
-        if rest != 0 {
-            return Scan {
-                word: i,
-                rest: rest,
-            };
+impl<'a> Occupied<'a> {
+    // Those of a level, of m guides. The first word is loaded at once: with the test of `next` for it, a level would take a third longer.
+    pub fn of(level: Level, m: usize, words: &'a [u64]) -> Occupied<'a>
+        requires { Held m level.0 words.now }
+        ensures scans { Scans result }
+        ensures all { (g : ℕ) → left result g ≡ bit_of (words_of m level.0 words.now) g }
+    {
+        let k = m.div_ceil(64);
+        let first = level.0 as usize * k;
+        let words = &words[first..first + k];
+        match words.split_first() {
+            Some((word, others)) => Occupied {
+                base: 0,
+                rest: *word,
+                words: others,
+            },
+            None => Occupied {
+                base: 0,
+                rest: 0,
+                words,
+            },
         }
-        i += 1;
     }
-    Scan { word: 0, rest: 0 }
 }
 
-// The scan at the next one: the lowest bit goes.
-pub fn next(words: &[u64], first: usize, k: usize, c: Scan) -> Scan
-    requires { (first + k ≤ length words.now) × (k ≤ 4) × (first < 4096) × (Scans words.now first k c) × (place_of c < 256) }
-    ensures { Follows words.now first k (place_of c + 1) result }
-{
-    let rest = c.rest & (c.rest - 1);
-    if rest != 0 {
-        return Scan {
-            word: c.word,
-            rest: rest,
-        };
+impl<'a> Iterator for Occupied<'a> {
+    type Item = Guide;
+
+    ghost can_next = { Scans };
+
+    ghost next_gives = { GivesNext };
+
+    ghost remaining = { λ s. at_most (256 - place_of s) };
+
+    fn next(&mut self) -> Option<Guide> {
+        // words without a guide are passed, however many they are
+        while self.rest == 0 {
+            let (word, others) = self.words.split_first()?;
+            self.base += 64;
+            self.rest = *word;
+            self.words = others;
+        }
+        let bit = self.rest.trailing_zeros();
+        self.rest &= self.rest - 1;
+        Some(Guide(self.base as u16 + bit as u16))
     }
-    begin(words, first, k, c.word + 1)
 }

@@ -3,7 +3,7 @@ ghost use Rattle.std.specs.Prelude.{◌≡◌, ◌≤◌, pos, nat_abs, ◌+ℤ�
 ghost use Rattle.joint_cells.specs.Scan.{Marked};
 ghost use Rattle.joint_cells.specs.Box.{BoxInBounds, CountsAdded};
 
-use crate::scan;
+use crate::scan::Occupied;
 use spec::Level;
 
 // x and by times n.
@@ -11,7 +11,7 @@ pub fn plus_times(x: i16, by: i16, n: u16) -> i16
     requires { (nat_abs x ≤ 961) × (nat_abs by ≤ 2) × (n ≤ 961) }
     ensures { result ≡ x +ℤ by *ℤ pos n }
 {
-    x + by * (n as i16)
+    x + by * n as i16
 }
 
 // By times the level's counts more, in each guide's cell: 2 as the cut point comes up to the level, -2 as it goes below.
@@ -27,14 +27,9 @@ pub fn shift_level(
     requires by_bound { (nat_abs by ≤ 2) × (BoxInBounds balance_box.old) }
     ensures { CountsAdded m level.0 by counts.now m balance_box.old balance_box.new }
 {
-    let i = level.0 as usize;
-    let k = (m + 63) / 64;
-    let first = i * k;
-    let base = i * m;
-    let mut c = scan::begin(words, first, k, 0);
-    while c.rest != 0 {
-        let g = scan::guide(c).0 as usize;
+    let base = level.0 as usize * m;
+    for g in Occupied::of(level, m, words) {
+        let g = g.0 as usize;
         balance_box[g] = plus_times(balance_box[g], by, counts[base + g]);
-        c = scan::next(words, first, k, c);
     }
 }

@@ -21,10 +21,7 @@ pub fn raise_to(
     requires from_le_to { (from.0 ≤ to.0) × (to.0 < sizes.levels) × (balance_box.old ≡ box_in sizes counts.now from.0) }
     ensures { balance_box.new ≡ box_in sizes counts.now to.0 }
 {
-    let last = to.0;
-    let mut i = from.0;
-    while i < last {
-        i += 1;
+    for i in from.0 + 1..=to.0 {
         shift_level(Level(i), sizes.guides, 2, balance_box, counts, words);
     }
 }
@@ -42,11 +39,8 @@ pub fn lower_to(
     requires to_le_from { (to.0 ≤ from.0) × (from.0 < sizes.levels) × (balance_box.old ≡ box_in sizes counts.now from.0) }
     ensures { balance_box.new ≡ box_in sizes counts.now to.0 }
 {
-    let last = to.0;
-    let mut i = from.0;
-    while last < i {
+    for i in (to.0 + 1..=from.0).rev() {
         shift_level(Level(i), sizes.guides, -2, balance_box, counts, words);
-        i -= 1;
     }
 }
 
@@ -63,9 +57,9 @@ pub fn move_to(
     requires from_lt_levels { (from.0 < sizes.levels) × (to.0 < sizes.levels) × (balance_box.old ≡ box_in sizes counts.now from.0) }
     ensures { balance_box.new ≡ box_in sizes counts.now to.0 }
 {
-    if from.0 <= to.0 {
+    if from <= to {
         raise_to(sizes, from, to, balance_box, counts, words);
-        return;
+    } else {
+        lower_to(sizes, from, to, balance_box, counts, words);
     }
-    lower_to(sizes, from, to, balance_box, counts, words);
 }

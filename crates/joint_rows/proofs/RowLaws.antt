@@ -1,15 +1,15 @@
 -- Laws of the rows of weights: the table's row of the centre's guide, built-in or the file's own.
 -- Assumes nothing.
-use mathlib.Core.Path.{◌≡◌, refl, sym, ap, ap₂, ◌∙◌}
+use mathlib.Core.Path.{◌≡◌, sym, ap, ◌∙◌}
 use mathlib.Core.Bool.{false}
-use mathlib.Core.Logic.{⊎_elim}
-use mathlib.Core.List.{List}
+use mathlib.Core.List.{List, ◌++◌}
+use mir.Syntax.{w16}
+use Rattle.std.specs.Int.{swap_bytes}
 use Prim.Native.Nat.{ℕ, ◌+◌, ◌-◌, ◌*◌, ◌/◌, ◌%◌, ◌≤◌, ◌<◌}
 use native.Mathlib.Nat.{le-div_iff_mul-le}
 use native.Mathlib.Omega.{arith}
-use lib.Arith.{digits_div, digits_mod}
-use lib.ListN.{length, get_or, set, take, drop, length-set}
-use lib.Seq.{get_or-set_same, get_or-set_other}
+use lib.ListN.{length, get_or, take, drop}
+use Rattle.std.proofs.lemmas.List.{get_or_append_left, length-take-le, length-append}
 use lib.IntN.{pos}
 use Rattle.spec.specs.declared.Plan.{Plan}
 use Rattle.spec.specs.Base.{distance}
@@ -22,10 +22,9 @@ use Rattle.spec.proofs.Limits.{built-in-low, be16-low}
 use Rattle.spec.proofs.Plans.{facts, pixel-of, place-low, table-own, table-built}
 use Rattle.spec.proofs.Own.{own-table, table-weighs}
 use Rattle.window.proofs.PixelLaws.{guides-range}
-use Rattle.joint_pixel.proofs.BitLaws.{lt-or-le, eq-or-ne}
 use Rattle.joint_search.specs.Window.{RowOwn, RowWeighs}
 use Rattle.joint_search.proofs.WindowLaws.{own-weighs}
-use Rattle.big_endian_part.specs.Part.{Made}
+use Rattle.big_endian_part.specs.Part.{Made, exchanged}
 use Rattle.joint_rows.specs.Rows.{Mirror, TableRow}
 use Rattle.joint_rows.proofs.TableLaws.{weight-place}
 
@@ -33,6 +32,23 @@ use Rattle.joint_rows.proofs.TableLaws.{weight-place}
 mirror-built : (f h : ℕ) → f ≤ 255 → built_in 255 (255 - f + h) ≡ built_in f h
 unfolding built_in
 mirror-built f h l = let e : distance 255 (255 - f + h) ≡ distance f h = omega arith in ap (λ (d : ℕ). 4096 / (16 + d)) e
+
+-- the first 511 of a longer list
+pub mirror-long : (out : List ℕ) → 511 ≤ length out → length (take 511 out) ≡ 511
+mirror-long out h = length-take-le 511 out h
+
+pub mirror-whole : (out row : List ℕ) (k : ℕ) → k ≡ 511 → 511 ≤ length out → Made (built_in 255) 0 k (take 511 out) row → Mirror (row ++ drop 511 out)
+mirror-whole out row k e h r =
+    let l : length row ≡ 511 = r.long ∙ mirror-long out h in
+    record {
+      long = omega (arith, length-append row (drop 511 out));
+      is = λ g u. let inside : g < length row = omega arith in get_or_append_left row (drop 511 out) 0 g inside ∙ r.is g (omega arith) (omega arith);
+    }
+
+-- a number's two bytes exchanged
+pub swapped : (v : ℕ) → v < 65536 → swap_bytes w16 v ≡ exchanged v
+unfolding exchanged
+swapped v h = let e : v / 256 % 256 ≡ v / 256 = omega arith in ap (λ (q : ℕ). v % 256 * 256 + q) e
 
 -- the built-in weights are above 0
 built-in-weighs : (f g : ℕ) → f ≤ 255 → g ≤ 255 → 0 < built_in f g
@@ -119,6 +135,9 @@ module _ {b vs : List ℕ} {z : Plan} (pl : Pictured b vs z) {f : ℕ} (hf : f <
       let m : 1 ≤ z.guides = (guides-range pl).0 in
       let last = weight-place pl own f (z.guides - 1) hf (omega arith) in
       omega (arith, last.1, row-place (z.guides - 1))
+
+  pub row-small : f * z.guides < 65536
+  row-small = omega (arith, weight-place pl own f 0 hf (omega (arith, (guides-range pl).0)))
 
   pub row-own : {k : ℕ} {xs row : List ℕ} → AllBytes b → length xs ≡ 256 → z.guides ≤ k →
       Made (plane b (z.table + 2 * (f * z.guides))) 0 k xs row → TableRow (frame_of b) z.guides f row

@@ -43,3 +43,9 @@ module _ {b vs : List ℕ} {z : Plan} (pl : Pictured b vs z) where
   weight-place n f g hf hg =
       let h : f * z.guides + g < z.guides * z.guides = digits_lt hf hg in
       (omega (arith, count-within), omega (arith, (facts pl).table-last, weights-are n))
+
+  -- so also where the two guides change places
+  pub weight-places : (z.weights ≡ 0 → ⊥) → (f g : ℕ) → f < z.guides → g < z.guides →
+      ((f * z.guides + g < 65536) × (z.table + 2 * (f * z.guides + g) + 1 < length b))
+      × ((g * z.guides + f < 65536) × (z.table + 2 * (g * z.guides + f) + 1 < length b))
+  weight-places n f g hf hg = (weight-place n f g hf hg, weight-place n g f hg hf)

@@ -5,7 +5,7 @@ ghost use Rattle.spec.specs.Checks.{Planned};
 ghost use Rattle.big_endian_part.specs.Part.{Made};
 ghost use Rattle.joint_rows.specs.Rows.{Mirror, TableRow, WeightRows};
 
-use big_endian_part::{copy_low_first, exchanged};
+use big_endian_part::copy_low_first;
 use spec::{Guide, Plan};
 
 // The built-in weights from 255 guides below the centre's to 255 above: guide f's row begins at place 255 - f.
@@ -14,10 +14,8 @@ pub fn mirror(out: &mut [u16])
     ensures { Mirror out.new }
 {
     let built = frame_weights::constants();
-    let mut k: u16 = 0;
-    while k < 511 {
-        out[k as usize] = built[frame_weights::apart(Guide(255), Guide(k)) as usize];
-        k += 1;
+    for (k, weight) in out[..511].iter_mut().enumerate() {
+        *weight = built[k.abs_diff(255)];
     }
 }
 
@@ -37,12 +35,10 @@ fn fill_part(file: &[u8], first: usize, from: usize, n: usize, row: &mut [u16; 2
     requires { (n ≤ 64) × (from + n ≤ 256) × (first + 2 * (from + n) ≤ length file.now) × (length row.old ≡ 256) }
     ensures { Made (plane file.now first) from n row.old row.new }
 {
-    let mut part = [0u16; 64];
+    let mut part = [0; 64];
     copy_low_first(file, first + 2 * from, n, &mut part);
-    let mut k = 0;
-    while k < n {
-        row[from + k] = exchanged(part[k]);
-        k += 1;
+    for k in 0..n {
+        row[from + k] = part[k].swap_bytes();
     }
 }
 
@@ -52,11 +48,10 @@ pub fn own_row(file: &[u8], plan: Plan, f: Guide, row: &mut [u16; 256])
     ensures { TableRow (frame_of file.now) plan.guides f.0 row.new }
 {
     let m = plan.guides;
-    let first = plan.table + 2 * ((f.0 as usize) * m);
-    let mut from = 0;
-    while from + 64 <= m {
-        fill_part(file, first, from, 64, row);
-        from += 64;
+    let first = plan.table + 2 * (f.0 as usize * m);
+    let parts = m / 64;
+    for i in 0..parts {
+        fill_part(file, first, 64 * i, 64, row);
     }
-    fill_part(file, first, from, m - from, row);
+    fill_part(file, first, 64 * parts, m % 64, row);
 }

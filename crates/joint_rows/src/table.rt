@@ -13,8 +13,9 @@ pub fn weight_at(built: &[u16; 256], file: &[u8], plan: Plan, f: Guide, g: Guide
     ensures { (result ≡ table (frame_of file.now) f.0 g.0) × (result ≤ heaviest) }
 {
     if plan.weights == 0 {
-        return built[frame_weights::apart(f, g) as usize];
+        built[f.0.abs_diff(g.0) as usize]
+    } else {
+        let k = f.0 as usize * plan.guides + g.0 as usize;
+        be16(file, plan.table + 2 * k)
     }
-    let k = (f.0 as usize) * plan.guides + (g.0 as usize);
-    be16(file, plan.table + 2 * k)
 }

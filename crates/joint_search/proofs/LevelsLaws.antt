@@ -1,19 +1,19 @@
 -- Laws of numbers X i of l levels: their balance from level to level, how large it can be, sums of such numbers; where none is negative, that the
 -- balance never falls and is 0 where all are 0; and the level where a search ends.
 -- Assumes nothing.
-use mathlib.Core.Path.{◌≡◌, refl, sym, ap, ap₂, ◌∙◌, subst}
+use mathlib.Core.Path.{◌≡◌, refl, sym, ap, ap₂, ◌∙◌}
 use mathlib.Core.Bool.{true, false}
 use mathlib.Core.Logic.{⊎_elim}
-use Prim.Native.Nat.{ℕ, zero, suc, ◌+◌, ◌-◌, ◌*◌, ◌≤◌, ◌<◌}
+use Prim.Native.Nat.{ℕ, zero, suc, ◌+◌, ◌-◌, ◌≤◌, ◌<◌}
 use native.Mathlib.Nat.{zero-add}
 use native.Mathlib.Omega.{arith}
 use lib.IntN.{ℤ, pos, nat_abs, ◌+ℤ◌, ◌-ℤ◌, ◌*ℤ◌, +ℤ_idl}
 use lib.Signed.{◌≤ℤ◌, ◌<ℤ◌, le_z, ≤ℤ_refl, clash_ℤ}
 use Rattle.ints.specs.Polynomial.{◌⊕◌, ◌⊖◌, ◌⊗◌, #◌, ◌≐◌, solve2, solve3, solve4}
-use Rattle.ints.specs.Order.{add_parts, diff-parts, ≤-of-eq, ≤-antisymm, ≤-<-trans, <-≤-trans, sub-mono, mul-mono-l, litℤ≤}
+use Rattle.ints.specs.Order.{add_parts, diff-parts, ≤-of-eq, ≤-<-trans, <-≤-trans, sub-mono, mul-mono-l, litℤ≤}
 use Rattle.ints.specs.Linear.{ints}
 use Rattle.ints.specs.Bound.{abs-sub-le}
-use Rattle.spec.specs.Base.{fold, sum, sumℤ, distance}
+use Rattle.spec.specs.Base.{fold, sum, sumℤ}
 use Rattle.spec.proofs.First.{first-unique}
 use Rattle.spec.proofs.Ranges.{fold-parts, fold-both, fold_same, int_sums, nat_sums}
 use Rattle.spec.proofs.Sums.{sum-scale, sum_zeros, sum_nonneg, sum-abs, sum-termℤ}
@@ -135,19 +135,6 @@ module _ {X : ℕ → ℤ} {l : ℕ} (low : (i : ℕ) → i < l → pos 0 ≤ℤ
       let part : X i ≤ℤ sumℤ X 0 l = sum-termℤ X 0 l i (λ j x y. low j (omega arith)) (omega arith) (omega arith) in
       sym (not-zero (sumℤ X 0 l) (λ e. clash_ℤ (<-≤-trans p part) (≤-of-eq e)))
 
-  -- a balance that is not 0
-  pub weightless-off : (c : ℕ) → c < l → (balance_of X l c ≡ pos 0 → ⊥) → false ≡ weightless_of X l
-  unfolding weightless_of balance_of
-  weightless-off c h n = sym (not-zero (total_of X l) (λ e. n (zero e)))
-    where
-      up : cumulative_of X c ≤ℤ total_of X l
-      up = subst (λ (q : ℤ). cumulative_of X c ≤ℤ q) (cumulative-last X l (omega arith)) (cumulative-mono c (l - 1) (omega arith) (omega arith))
-
-      zero : total_of X l ≡ pos 0 → pos 2 *ℤ cumulative_of X c -ℤ total_of X l ≡ pos 0
-      zero e =
-          let none : cumulative_of X c ≡ pos 0 = ≤-antisymm (subst (λ (q : ℤ). cumulative_of X c ≤ℤ q) e up) (cumulative-low c h) in
-          ap₂ (λ (u v : ℤ). pos 2 *ℤ u -ℤ v) none e
-
 -- ---- where a search ends
 module _ (X : ℕ → ℤ) (l : ℕ) where
   half-reached : (i : ℕ) → pos 0 ≤ℤ balance_of X l i → total_of X l ≤ℤ (pos 2 *ℤ cumulative_of X i)
@@ -177,10 +164,3 @@ module _ {X : ℕ → ℤ} {l : ℕ} (low : (i : ℕ) → i < l → pos 0 ≤ℤ
       let inside : r < l = omega (arith, k.upto) in
       median-is X l r inside k.here
       (λ i u. ≤-<-trans (balance-mono low i (r - 1) (omega arith) (omega arith)) (k.below (r - 1) (omega arith)))
-
--- one shift for each level is the distance
-pub climbed-shifts : (n : ℕ) {B : ℕ → ℤ} {l c r n' : ℕ} → Climbed B l c r → n' + c ≡ n + r → n' ≡ n + distance r c
-climbed-shifts n k e = omega (arith, k.from)
-
-pub descended-shifts : (n : ℕ) {B : ℕ → ℤ} {c r n' : ℕ} → Descended B c r → n' + r ≡ n + c → n' ≡ n + distance r c
-descended-shifts n k e = omega (arith, k.upto)

@@ -1,3 +1,4 @@
 pub mod LevelsLaws
 pub mod SearchLaws
 pub mod WindowLaws
+pub mod EmptyLaws

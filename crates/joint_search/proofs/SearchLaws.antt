@@ -26,7 +26,7 @@ use Rattle.spec.proofs.Sums.{sum-pos, sum-le, sum-term}
 use Rattle.joint_pixel.specs.Store.{cell_at, count_in}
 use Rattle.joint_pixel.proofs.BitLaws.{lt-or-le}
 use Rattle.joint_pixel.proofs.RepLaws.{count-in, count-out}
-use Rattle.joint_cells.specs.Scan.{Marked, RowFits, cell_sum, cell_dot}
+use Rattle.joint_cells.specs.Scan.{RowFits, cell_sum, cell_dot}
 use Rattle.joint_cells.specs.Box.{BoxInBounds, CountsAdded, box_size}
 use Rattle.joint_box.specs.Products.{box_part, box_dot}
 use Rattle.joint_search.specs.declared.Sizes.{Sizes}
@@ -147,9 +147,6 @@ sum-times g zero = omega arith
 sum-times g (suc n) = omega (arith, sum-times g n)
 
 module _ {sizes : Sizes} {cs ws row : List ℕ} (st : Searchable sizes cs ws) (fits : RowFits sizes.guides row) where
-  pub level-asks : (i : ℕ) → i < sizes.levels → Marked sizes.guides i cs ws × RowFits sizes.guides row
-  level-asks i h = (st.marked i h, fits)
-
   level-size : (i : ℕ) → i < sizes.levels →
       nat_abs (level_weight_in sizes.guides cs row i) ≤ cell_sum sizes.guides i cs sizes.guides * 65535
   unfolding cell_sum cell_dot

@@ -1,10 +1,11 @@
 -- What a search reads, counts and words of so many levels and guides and a row of weights; what these say of each level; what it finds. No frame is
 -- named here: proofs/WindowLaws.antt says that the stores of a window give the frame's own weights, balances and box.
 -- Assumes nothing.
-use Rattle.std.specs.Prelude.{◌≡◌, Bool, List, ℕ, ◌+◌, ◌≤◌, ◌<◌, ℤ, pos, ◌≤ℤ◌, ◌<ℤ◌}
+use Rattle.std.specs.Prelude.{◌≡◌, Bool, List, ℕ, ◌+◌, ◌*◌, ◌≤◌, ◌<◌, ℤ, pos, ◌≤ℤ◌, ◌<ℤ◌}
 use Rattle.spec.specs.Base.{sum, tabulate}
-use Rattle.joint_pixel.specs.Store.{count_in}
+use Rattle.joint_pixel.specs.Store.{count_in, words_per}
 use Rattle.joint_cells.specs.Scan.{Marked, cell_sum, cell_dot}
+use Rattle.joint_cells.specs.Vacant.{Clear}
 use Rattle.joint_search.specs.declared.Sizes.{Sizes}
 use Rattle.joint_search.specs.Levels.{balance_of, total_of, weightless_of, median_of}
 
@@ -41,6 +42,11 @@ pub record Searchable (sizes : Sizes) (cs ws : List ℕ) : Type 0 where
   pub levels : sizes.levels ≤ 1024
   pub marked : (i : ℕ) → i < sizes.levels → Marked sizes.guides i cs ws
   pub few : pixels_in sizes cs ≤ 961
+
+-- the n levels from i on are there, and their words are 0
+pub record NoPixel (sizes : Sizes) (i n : ℕ) (ws : List ℕ) : Type 0 where
+  pub whole : i + n ≤ sizes.levels
+  pub clear : Clear ws (i * words_per sizes.guides) (n * words_per sizes.guides)
 
 -- ---- what it finds, by the balance B c of each of l levels
 

@@ -6,6 +6,7 @@ ghost use Rattle.spec.specs.Base.{distance};
 ghost use Rattle.joint_search.specs.Search.{balance_in, median_in, box_in, Searchable, Climbed, Descended};
 
 use crate::Sizes;
+use crate::pass::{OneByOne, Passing};
 use joint_cells::level::level_weight;
 use joint_cells::raise::raise_level;
 use joint_cells::shift::shift_level;
@@ -26,82 +27,79 @@ pub fn step_balance(x: i32, by: i32, y: i32) -> i32
     x + by * y
 }
 
-// Up to the first level from the given one on whose balance is not negative; bal is the balance at the given one.
-pub fn climb(
+// Up to the first level from the given one on whose balance is not negative; bal is the balance at the given one. Where there is no pixel, neither
+// balance nor box changes.
+pub fn climb<P: Passing>(
     sizes: Sizes,
     row: &[u16],
     from: Level,
     bal: i32,
-    shifts: u64,
     balance_box: &mut [i16; 256],
     counts: &[u16],
     words: &[u64],
-) -> SearchEnd
+) -> Level
     requires searchable { (Searchable sizes counts.now words.now) × (RowFits sizes.guides row.now) }
-    requires from_lt_levels { (from.0 < sizes.levels) × (bal ≡ balance_in sizes counts.now row.now from.0) × (shifts < 1099511627776)
+    requires from_lt_levels { (from.0 < sizes.levels) × (bal ≡ balance_in sizes counts.now row.now from.0)
         × (balance_box.old ≡ box_in sizes counts.now from.0) }
-    ensures { (Climbed (balance_in sizes counts.now row.now) sizes.levels from.0 result.level.0)
-        × (result.shifts + from.0 ≡ shifts + result.level.0) × (balance_box.new ≡ box_in sizes counts.now result.level.0) }
+    ensures { (Climbed (balance_in sizes counts.now row.now) sizes.levels from.0 result.0)
+        × (balance_box.new ≡ box_in sizes counts.now result.0) }
 {
     let mut i = from.0;
     let mut b = bal;
-    let mut n = shifts;
+    // no `for`, since the step is what may be passed at once, or a level
     while b < 0 {
-        i += 1;
-        n += 1;
-        b = step_balance(
-            b,
-            2,
-            raise_level(row, Level(i), sizes.guides, balance_box, counts, words),
-        );
+        if let Some(n) = P::above(sizes, Level(i), words) {
+            i += n;
+        } else {
+            i += 1;
+            b = step_balance(
+                b,
+                2,
+                raise_level(row, Level(i), sizes.guides, balance_box, counts, words),
+            );
+        }
     }
-    SearchEnd {
-        level: Level(i),
-        shifts: n,
-    }
+    Level(i)
 }
 
 // Down from the given level while the balance below is not negative.
-pub fn descend(
+pub fn descend<P: Passing>(
     sizes: Sizes,
     row: &[u16],
     from: Level,
     bal: i32,
-    shifts: u64,
     balance_box: &mut [i16; 256],
     counts: &[u16],
     words: &[u64],
-) -> SearchEnd
+) -> Level
     requires searchable { (Searchable sizes counts.now words.now) × (RowFits sizes.guides row.now) }
-    requires from_lt_levels { (from.0 < sizes.levels) × (bal ≡ balance_in sizes counts.now row.now from.0) × (shifts < 1099511627776)
+    requires from_lt_levels { (from.0 < sizes.levels) × (bal ≡ balance_in sizes counts.now row.now from.0)
         × (pos 0 ≤ℤ bal) × (balance_box.old ≡ box_in sizes counts.now from.0) }
-    ensures { (Descended (balance_in sizes counts.now row.now) from.0 result.level.0)
-        × (result.shifts + result.level.0 ≡ shifts + from.0) × (balance_box.new ≡ box_in sizes counts.now result.level.0) }
+    ensures { (Descended (balance_in sizes counts.now row.now) from.0 result.0)
+        × (balance_box.new ≡ box_in sizes counts.now result.0) }
 {
     let mut i = from.0;
     let mut b = bal;
-    let mut counted = shifts;
+    // no `for`, since the step is what may be passed at once, or a level
     while 0 < i {
         let here = Level(i);
-        let lower = step_balance(b, -2, level_weight(row, here, sizes.guides, counts, words));
-        if lower < 0 {
-            return SearchEnd {
-                level: here,
-                shifts: counted,
-            };
+        if let Some(n) = P::below(sizes, here, words) {
+            i -= n;
+        } else {
+            let lower = step_balance(b, -2, level_weight(row, here, sizes.guides, counts, words));
+            let short = lower < 0;
+            if short {
+                return here;
+            }
+            shift_level(here, sizes.guides, -2, balance_box, counts, words);
+            b = lower;
+            i -= 1;
         }
-        shift_level(here, sizes.guides, -2, balance_box, counts, words);
-        b = lower;
-        i -= 1;
-        counted += 1;
     }
-    SearchEnd {
-        level: Level(0),
-        shifts: counted,
-    }
+    Level(0)
 }
 
-// From the cut point, where the balance is bal, up or down.
+// From the cut point, where the balance is bal, up or down. A shift for each level.
 pub fn from_cut(
     sizes: Sizes,
     row: &[u16],
@@ -118,8 +116,14 @@ pub fn from_cut(
     ensures { (result.level.0 ≡ median_in sizes counts.now row.now) × (result.shifts ≡ shifts + distance result.level.0 cut.0)
         × (balance_box.new ≡ box_in sizes counts.now result.level.0) }
 {
-    if bal < 0 {
-        return climb(sizes, row, cut, bal, shifts, balance_box, counts, words);
+    let short = bal < 0;
+    let level = if short {
+        climb::<OneByOne>(sizes, row, cut, bal, balance_box, counts, words)
+    } else {
+        descend::<OneByOne>(sizes, row, cut, bal, balance_box, counts, words)
+    };
+    SearchEnd {
+        level,
+        shifts: shifts + level.0.abs_diff(cut.0) as u64,
     }
-    descend(sizes, row, cut, bal, shifts, balance_box, counts, words)
 }

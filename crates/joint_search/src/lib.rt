@@ -3,6 +3,7 @@
 #![tactic(auto)]
 
 pub mod find;
+pub mod pass;
 
 // How many levels and guides the counts are for.
 #[derive(Clone, Copy)]

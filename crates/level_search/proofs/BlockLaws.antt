@@ -17,6 +17,7 @@ use Rattle.ints.specs.Machine.{read_back, read-bounded}
 use Rattle.ints.specs.Polynomial.{◌⊕◌, ◌⊗◌, ◌≐◌, solve3, solve6}
 use Rattle.spec.proofs.Totals.{lt-le_z}
 use Rattle.window_weights.specs.declared.coefficients.Coefficients.{Coefficients}
+use Rattle.level_search.specs.declared.Tally.{Tally}
 use Rattle.window_weights.specs.Coefficients.{weight_of, reaches_half}
 use Rattle.level_search.specs.Search.{sum_to, passes, TallyTo, FailTo}
 use Rattle.level_search.specs.Block.{Heaviest, Light}
@@ -30,16 +31,10 @@ sum_to-add xs i (suc n) = omega (arith, sum_to-add xs i n, sum_to-more xs (i + n
 pub sum_to-le : (xs : List ℕ) {i n : ℕ} → i ≤ n → sum_to xs i ≤ sum_to xs n
 sum_to-le xs {i} {n} h = let e : i + (n - i) ≡ n = omega arith in omega (arith, sum_to-add xs i (n - i), ap (sum_to xs) e)
 
-pub total-none : (xs : List ℕ) (at : ℕ) → 0 + sum_to xs at ≡ sum_to xs (at + 0)
-total-none xs at = omega (arith, ap (sum_to xs) (add-zero at))
-
-pub total-next : (xs : List ℕ) (at j s : ℕ) → s + sum_to xs at ≡ sum_to xs (at + j) → s + get_or xs (at + j) 0 + sum_to xs at ≡ sum_to xs (at + (j + 1))
-total-next xs at j s e = let d : at + j + 1 ≡ at + (j + 1) = omega arith in omega (arith, sum_to-more xs (at + j), ap (sum_to xs) d)
-
-pub tally-block : {counts sums : List ℕ} {i n s : ℕ} (x y : ℕ) → TallyTo counts sums i (tally n s) → x + sum_to counts i ≡ sum_to counts (i + 16) →
+pub tally-block : {counts sums : List ℕ} {i : ℕ} {a : Tally} (x y : ℕ) → TallyTo counts sums i a → x + sum_to counts i ≡ sum_to counts (i + 16) →
     y + sum_to sums i ≡ sum_to sums (i + 16)
-    → TallyTo counts sums (i + 16) (tally (n + x) (s + y))
-tally-block x y a e d = record { count = omega (arith, a.count); sum = omega (arith, a.sum) }
+    → TallyTo counts sums (i + 16) (tally (a.count + x) (a.sum + y))
+tally-block x y t e d = record { count = omega (arith, t.count); sum = omega (arith, t.sum) }
 
 -- ---- no level of a light block reaches half
 weigh-more : (k : Coefficients) (n s x y : ℕ) → weight_of k (n + x) (s + y) ≡ weight_of k n s +ℤ weight_of k x y
@@ -79,10 +74,10 @@ module _ {k : Coefficients} {counts sums : List ℕ} {w : ℤ} (v : Heaviest k c
       (subst₂ (λ (x y : ℤ). (x +ℤ most i) ≤ℤ (at i +ℤ y)) (sym (at_more (i + d))) (sym (most-more (i + d)))
       (grow (at i) (at (i + d)) (most i) (most (i + d)) _ _ (range i d (omega arith)) (v.level (i + d) (omega arith))))
 
-  pub light-fails : {i n s : ℕ} → TallyTo counts sums i (tally n s) → Light k w counts i n s → (j : ℕ) → i ≤ j → j < i + 16 →
+  pub light-fails : {i : ℕ} {a : Tally} → TallyTo counts sums i a → Light k w counts i a.count a.sum → (j : ℕ) → i ≤ j → j < i + 16 →
       passes k counts sums j ≡ false
   unfolding passes reaches_half
-  light-fails {i} {n} {s} a l j h m =
+  light-fails {i} {a} t l j h m =
       let e : i + (suc j - i) ≡ suc j = omega arith in
       let d : sum_to counts (i + 16) ≡ (sum_to counts (i + 16) - sum_to counts i) + sum_to counts i =
       omega (arith, sum_to-le counts {i = i} {n = i + 16} (omega arith)) in
@@ -93,14 +88,14 @@ module _ {k : Coefficients} {counts sums : List ℕ} {w : ℤ} (v : Heaviest k c
       (≤-of-eq (ap (λ (q : ℕ). w *ℤ pos q) d ∙ most-both (sum_to counts (i + 16) - sum_to counts i) (sum_to counts i))) in
       lt-le_z
       (still-short (at (suc j)) (at i) (most i) (most (suc j)) (w *ℤ pos (sum_to counts (i + 16) - sum_to counts i)) k.total r y
-      (rw (a.count, a.sum) at l.short))
+      (rw (t.count, t.sum) at l.short))
 
-  pub fail-block : {i n s : ℕ} → TallyTo counts sums i (tally n s) → Light k w counts i n s → FailTo k counts sums i → FailTo k counts sums (i + 16)
-  fail-block {i} a l f = record { fails = λ j h. go j h (native.Mathlib.Decide.dec_lt j i) }
+  pub fail-block : {i : ℕ} {a : Tally} → TallyTo counts sums i a → Light k w counts i a.count a.sum → FailTo k counts sums i → FailTo k counts sums (i + 16)
+  fail-block {i} t l f = record { fails = λ j h. go j h (native.Mathlib.Decide.dec_lt j i) }
     where
       go : (j : ℕ) → j < i + 16 → Dec (j < i) → passes k counts sums j ≡ false
       go j h (yes b) = f.fails j b
-      go j h (no b) = light-fails a l j (omega arith) h
+      go j h (no b) = light-fails t l j (omega arith) h
 
 -- ---- between its ends the formula gives no more than at the larger one
 pub formula-below : (c d w : ℤ) {g m : ℕ} → g ≤ m → d ≤ℤ w → (c *ℤ pos m +ℤ d) ≤ℤ w → (c *ℤ pos g +ℤ d) ≤ℤ w
@@ -109,4 +104,4 @@ formula-below (negsuc a) d w {g} {m} h u v = omega (arith, ints, mul-parts (negs
 
 -- ---- as a call hands it on
 pub handed-on : {k : Coefficients} {counts sums : List ℕ} {w : ℤ} → Heaviest k counts sums w → Heaviest k counts sums (read_back w64 w)
-handed-on {k} {counts} {sums} v = subst (Heaviest k counts sums) (sym (read-bounded w64 240207812100 v.small tt)) v
+handed-on v = rw (read-bounded w64 240207812100 v.small tt) v

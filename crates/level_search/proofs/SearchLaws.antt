@@ -3,19 +3,20 @@
 use mathlib.Core.Path.{◌≡◌, refl, sym, ap, ap₂, ◌∙◌, subst}
 use mathlib.Core.Bool.{Bool, true, false, true≢false}
 use mathlib.Core.List.{List}
-use Prim.Native.Nat.{ℕ, ◌+◌, ◌-◌, ◌≤◌, ◌<◌}
-use native.Mathlib.Nat.{zero-add, le_antisymm}
+use Prim.Native.Nat.{ℕ, zero, suc, ◌+◌, ◌-◌, ◌≤◌, ◌<◌}
+use native.Mathlib.Nat.{zero-add}
 use native.Mathlib.Numerals.{add-one}
 use native.Mathlib.Omega.{arith}
-use lib.ListN.{length, get_or}
-use Rattle.spec.specs.Base.{sum, distance}
+use lib.ListN.{length, get_or, take, drop}
+use Rattle.std.specs.List.{sum}
+use Rattle.std.proofs.Math.Seq.{take-add}
+use Rattle.std.proofs.lemmas.List.Sums.{sum_by_more, sum_by-append}
 use Rattle.spec.proofs.First.{first-is, first-unique}
 use Rattle.window_weights.specs.declared.coefficients.Coefficients.{Coefficients}
 use Rattle.window_weights.specs.Coefficients.{reaches_half}
 use Rattle.window.proofs.LineLaws.{fold-none, fold_more}
 use Rattle.level_search.specs.declared.Tally.{Tally}
-use Rattle.level_search.specs.declared.search.Found.{Found}
-use Rattle.level_search.specs.Search.{found_at, sum_to, TallyTo, passes, first_level, ListsSearchable, Rising, FoundAt, FailTo}
+use Rattle.level_search.specs.Search.{sum_to, TallyTo, passes, first_level, LevelCells, ListsSearchable, Rising, FailTo}
 
 abbrev pub tally : ℕ → ℕ → Tally
 tally n s = record { count = n; sum = s }
@@ -29,28 +30,51 @@ pub sum_to-more : (xs : List ℕ) (i : ℕ) → sum_to xs (i + 1) ≡ sum_to xs 
 unfolding sum_to
 sum_to-more xs i = fold_more ◌+◌ 0 _ 0 i ∙ ap (λ (j : ℕ). sum_to xs i + get_or xs j 0) (zero-add i)
 
+-- the sum of the first n numbers of a list, and of n numbers from one on
+pub sum-take : (xs : List ℕ) (n : ℕ) → n ≤ length xs → sum (take n xs) ≡ sum_to xs n
+sum-take xs zero h = sym (sum_to-none xs)
+sum-take xs (suc n) h =
+    subst (λ (m : ℕ). sum (take m xs) ≡ sum_to xs m) (add-one n)
+    (omega (arith, sum_by_more (λ (x : ℕ). x) xs n 0 (omega arith), sum-take xs n (omega arith), sum_to-more xs n))
+
+pub sum-part : (xs : List ℕ) (i n : ℕ) → i + n ≤ length xs → sum (take n (drop i xs)) + sum_to xs i ≡ sum_to xs (i + n)
+sum-part xs i n h =
+    omega (
+      arith,
+      ap sum (take-add i n xs),
+      sum_by-append (λ (x : ℕ). x) (take i xs) (take n (drop i xs)),
+      sum-take xs i (omega arith),
+      sum-take xs (i + n) h,
+    )
+
 module _ {counts sums : List ℕ} where
-  pub tally-none : TallyTo counts sums 0 (tally 0 0)
-  tally-none = record { count = sym (sum_to-none counts); sum = sym (sum_to-none sums) }
+  pub tally_none : TallyTo counts sums 0 (tally 0 0)
+  tally_none = record { count = sym (sum_to-none counts); sum = sym (sum_to-none sums) }
 
-  pub tally-next : {n s i : ℕ} → TallyTo counts sums i (tally n s) → TallyTo counts sums (i + 1) (tally (n + get_or counts i 0) (s + get_or sums i 0))
-  tally-next {n} {s} {i} a = record { count = omega (arith, a.count, sum_to-more counts i); sum = omega (arith, a.sum, sum_to-more sums i) }
+  pub tally-next : {a : Tally} {i : ℕ} → TallyTo counts sums i a → TallyTo counts sums (i + 1) (tally (a.count + get_or counts i 0) (a.sum + get_or sums i 0))
+  tally-next {a} {i} t = record { count = omega (arith, t.count, sum_to-more counts i); sum = omega (arith, t.sum, sum_to-more sums i) }
 
-  pub tally-back : {n s : ℕ} (c : ℕ) → TallyTo counts sums (c + 1) (tally n s) →
-      TallyTo counts sums c (tally (n - get_or counts c 0) (s - get_or sums c 0))
-  tally-back {n} {s} c a = record { count = omega (arith, a.count, sum_to-more counts c); sum = omega (arith, a.sum, sum_to-more sums c) }
+  -- without the last level, of which there is one below
+  pub tally-back : {a : Tally} {c : ℕ} → 0 < c → TallyTo counts sums (c + 1) a → TallyTo counts sums (c - 1 + 1) (tally (a.count - get_or counts c 0) (a.sum - get_or sums c 0))
+  tally-back {a} {c} h t =
+      let e : c - 1 + 1 ≡ c = omega arith in
+      rw e (record { count = omega (arith, t.count, sum_to-more counts c); sum = omega (arith, t.sum, sum_to-more sums c) })
 
-  pub tally-enough : {n s : ℕ} (c : ℕ) → TallyTo counts sums (c + 1) (tally n s) → (get_or counts c 0 ≤ n) × (get_or sums c 0 ≤ s)
-  tally-enough {n} {s} c a = (omega (arith, a.count, sum_to-more counts c), omega (arith, a.sum, sum_to-more sums c))
+  pub tally-enough : {a : Tally} (c : ℕ) → TallyTo counts sums (c + 1) a → (get_or counts c 0 ≤ a.count) × (get_or sums c 0 ≤ a.sum)
+  tally-enough {a} c t = (omega (arith, t.count, sum_to-more counts c), omega (arith, t.sum, sum_to-more sums c))
 
-  pub half_at : (k : Coefficients) {n s : ℕ} (i : ℕ) → TallyTo counts sums (i + 1) (tally n s) → reaches_half k n s ≡ passes k counts sums i
+  -- a tally is small
+  pub tally-small : LevelCells counts sums → {a : Tally} (n : ℕ) → n ≤ length counts → TallyTo counts sums n a → (a.count ≤ 961) × (a.sum ≤ 245055)
+  tally-small q {a} n h t = (omega (arith, t.count, q.count_high n h), omega (arith, t.sum, q.sum_high n h))
+
+  pub half_at : (k : Coefficients) {a : Tally} (i : ℕ) → TallyTo counts sums (i + 1) a → reaches_half k a.count a.sum ≡ passes k counts sums i
   unfolding passes
-  half_at k {n} {s} i a = ap₂ (reaches_half k) (a.count ∙ ap (sum_to counts) (add-one i)) (a.sum ∙ ap (sum_to sums) (add-one i))
+  half_at k {a} i t = ap₂ (reaches_half k) (t.count ∙ ap (sum_to counts) (add-one i)) (t.sum ∙ ap (sum_to sums) (add-one i))
 
   -- ---- where the first one is
   module _ {k : Coefficients} where
-    pub fail-none : FailTo k counts sums 0
-    fail-none = record { fails = λ j h. absurd (omega arith) }
+    pub fail_none : FailTo k counts sums 0
+    fail_none = record { fails = λ j h. absurd (omega arith) }
 
     pub fail-next : {i : ℕ} → FailTo k counts sums i → passes k counts sums i ≡ false → FailTo k counts sums (i + 1)
     fail-next {i} f e = record { fails = λ j h. go j h (native.Mathlib.Decide.ℕ_discrete j i) }
@@ -90,44 +114,14 @@ module _ {counts sums : List ℕ} where
         go j h true d = absurd (true≢false (sym (r.rises j c (omega arith) l d) ∙ e))
         go j h false d = d
 
-    pub found-at : {f : Found} {i n s shifts : ℕ} → f ≡ found_at i n s shifts → FailTo k counts sums i → i < length counts →
-        passes k counts sums i ≡ true
-        → TallyTo counts sums (i + 1) (tally n s) → FoundAt k counts sums f
-    found-at {f} {i} {n} {s} {shifts} e fail h p a =
-        subst (FoundAt k counts sums) (sym e) (record { level = first-here fail h p; tally = a })
-
--- the shifts of what is found
-pub shifted : (shifts from : ℕ) {f : Found} {i n s m : ℕ} → f ≡ found_at i n s m → m + from ≡ shifts + i → from ≤ i →
-    (f.shifts + from ≡ shifts + f.level.0) × (from ≤ f.level.0)
-shifted shifts from e h l = rw e (h, l)
-
-pub shifted_back : (shifts cut : ℕ) {f : Found} {i n s m : ℕ} → f ≡ found_at i n s m → m + i ≡ shifts + cut → i ≤ cut →
-    (f.shifts + f.level.0 ≡ shifts + cut) × (f.level.0 ≤ cut)
-shifted_back shifts cut e h l = rw e (h, l)
-
 -- ---- upward: the levels below i fall short
-pub record Ascending (k : Coefficients) (counts sums : List ℕ) (from n s i : ℕ) : Type 0 where
+pub record Ascending (k : Coefficients) (counts sums : List ℕ) (from : ℕ) (a : Tally) (i : ℕ) : Type 0 where
   pub from_low : from ≤ i
   pub to : i < length counts
-  pub tally : TallyTo counts sums i (tally n s)
+  pub tally : TallyTo counts sums i a
   pub fails : FailTo k counts sums i
 
 -- ---- downward: the level passes
-pub record Descending (k : Coefficients) (counts sums : List ℕ) (shifts cut n s m c : ℕ) : Type 0 where
-  pub to : c ≤ cut
-  pub tally : TallyTo counts sums (c + 1) (tally n s)
+pub record Descending (k : Coefficients) (counts sums : List ℕ) (a : Tally) (c : ℕ) : Type 0 where
+  pub tally : TallyTo counts sums (c + 1) a
   pub pass : passes k counts sums c ≡ true
-  pub counted : m + c ≡ shifts + cut
-
-pub tally-end : {counts sums : List ℕ} {i n : ℕ} {a : Tally} → i ≤ n → n ≤ i → TallyTo counts sums i a → TallyTo counts sums n a
-tally-end {counts} {sums} {i} {n} {a} h l v = subst (λ (m : ℕ). TallyTo counts sums m a) (le_antisymm h l) v
-
-pub fail-to : {k : Coefficients} {counts sums : List ℕ} {c : ℕ} → c ≤ 0 → FailTo k counts sums c
-fail-to h = record { fails = λ j l. absurd (omega arith) }
-
--- ---- shifts as a distance
-pub distance-down : (shifts cut m n : ℕ) → n + m ≡ shifts + cut → m ≤ cut → n ≡ shifts + distance m cut
-distance-down shifts cut m n e h = omega arith
-
-pub distance-up : (shifts cut m n : ℕ) → n + (cut + 1) ≡ shifts + 1 + m → cut + 1 ≤ m → n ≡ shifts + distance m cut
-distance-up shifts cut m n e h = omega arith

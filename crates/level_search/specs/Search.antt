@@ -7,9 +7,6 @@ use Rattle.window_weights.specs.Coefficients.{CoefficientsSmall, reaches_half}
 use Rattle.level_search.specs.declared.Tally.{Tally}
 use Rattle.level_search.specs.declared.search.Found.{Found}
 
-abbrev pub found_at : ℕ → ℕ → ℕ → ℕ → Found
-found_at level count sum shifts = record { level = record { 0 = level }; tally = record { count = count; sum = sum }; shifts = shifts }
-
 -- the sum of the first n numbers
 unfoldable pub sum_to : List ℕ → ℕ → ℕ
 sum_to xs n = sum (λ i. get_or xs i 0) 0 n

@@ -2,7 +2,7 @@
 ghost use Rattle.std.specs.Prelude.{◌≡◌, true, ◌+◌, ◌<◌, ◌≤◌, length};
 ghost use Rattle.spec.specs.Base.{distance};
 ghost use Rattle.level_search.specs.Block.{Heaviest};
-ghost use Rattle.level_search.specs.Search.{found_at, TallyTo, passes, LevelCells, ListsSearchable, Rising, FoundAt, FailTo};
+ghost use Rattle.level_search.specs.Search.{TallyTo, passes, LevelCells, ListsSearchable, Rising, FoundAt, FailTo};
 
 use crate::block::BLOCK;
 use crate::{Tally, block};
@@ -17,37 +17,15 @@ pub struct Found {
     pub shifts: u64,
 }
 
-pub fn ended(level: Level, count: usize, sum: usize, shifts: u64) -> Found
-    ensures { result ≡ found_at level.0 count sum shifts }
-{
-    let tally = Tally {
-        count: count,
-        sum: sum,
-    };
-    Found {
-        level: level,
-        tally: tally,
-        shifts: shifts,
-    }
-}
-
 // The tally of the levels below the end.
 pub fn gather(counts: &[u32], sums: &[u32], end: usize) -> Tally
     requires level_cells { LevelCells counts.now sums.now }
     requires end_in_bounds { end ≤ length counts.now }
     ensures { TallyTo counts.now sums.now end result }
 {
-    let mut count: usize = 0;
-    let mut sum: usize = 0;
-    let mut i: usize = 0;
-    while i < end {
-        count += counts[i] as usize;
-        sum += sums[i] as usize;
-        i += 1;
-    }
     Tally {
-        count: count,
-        sum: sum,
+        count: block::sum_of(&counts[..end]),
+        sum: block::sum_of(&sums[..end]),
     }
 }
 
@@ -71,27 +49,35 @@ pub fn ascend(
 {
     let last = counts.len() - 1;
     let first = from.0 as usize;
-    let mut count = a.count;
-    let mut sum = a.sum;
+    let mut tally = a;
     let mut i = first;
+    // no `for`, since the step is a block or a level
     while i < last {
         let level = Level(i as u16);
-        if i % BLOCK == 0 && block::light(counts, coefficients, heaviest, level, count, sum) {
-            count += block::total(counts, level);
-            sum += block::total(sums, level);
+        if i.is_multiple_of(BLOCK) && block::light(counts, coefficients, heaviest, level, tally) {
+            tally.count += block::total(counts, level);
+            tally.sum += block::total(sums, level);
             i += BLOCK;
         } else {
-            count += counts[i] as usize;
-            sum += sums[i] as usize;
-            if reached(coefficients, count, sum) {
-                return ended(level, count, sum, shifts + (i - first) as u64);
+            tally.count += counts[i] as usize;
+            tally.sum += sums[i] as usize;
+            if reached(coefficients, tally.count, tally.sum) {
+                return Found {
+                    level,
+                    tally,
+                    shifts: shifts + (i - first) as u64,
+                };
             }
             i += 1;
         }
     }
-    count += counts[i] as usize;
-    sum += sums[i] as usize;
-    ended(Level(i as u16), count, sum, shifts + (i - first) as u64)
+    tally.count += counts[i] as usize;
+    tally.sum += sums[i] as usize;
+    Found {
+        level: Level(i as u16),
+        tally,
+        shifts: shifts + (i - first) as u64,
+    }
 }
 
 // Downward from a cut point that passes, where the cumulative weight never falls; a is the tally of the levels up to it. Each level that still passes
@@ -112,22 +98,27 @@ pub fn descend(
     ensures { (FoundAt coefficients counts.now sums.now result) × (result.shifts + result.level.0 ≡ shifts + cut.0)
         × (result.level.0 ≤ cut.0) }
 {
-    let mut count = a.count;
-    let mut sum = a.sum;
-    let mut n = shifts;
-    let mut c = cut.0 as usize;
-    while 0 < c {
-        let count2 = count - counts[c] as usize;
-        let sum2 = sum - sums[c] as usize;
-        if !reached(coefficients, count2, sum2) {
-            return ended(Level(c as u16), count, sum, n);
+    let top = cut.0 as usize;
+    let mut tally = a;
+    for c in (1..=top).rev() {
+        let below = Tally {
+            count: tally.count - counts[c] as usize,
+            sum: tally.sum - sums[c] as usize,
+        };
+        if !reached(coefficients, below.count, below.sum) {
+            return Found {
+                level: Level(c as u16),
+                tally,
+                shifts: shifts + (top - c) as u64,
+            };
         }
-        count = count2;
-        sum = sum2;
-        c -= 1;
-        n += 1;
+        tally = below;
     }
-    ended(Level(c as u16), count, sum, n)
+    Found {
+        level: Level(0),
+        tally,
+        shifts: shifts + top as u64,
+    }
 }
 
 // From the cut point, where the cumulative weight never falls: one level a shift.
@@ -158,4 +149,21 @@ pub fn from_cut(
         a,
         shifts + 1,
     )
+}
+
+// From level 0, where no tally is asked for.
+#[tactic(auto, using(crate::proofs::SearchLaws::tally_none))]
+pub fn from_lowest(
+    counts: &[u32],
+    sums: &[u32],
+    coefficients: Coefficients,
+    heaviest: i64,
+    shifts: u64,
+) -> Found
+    requires lists_searchable { (ListsSearchable coefficients counts.now sums.now) × (Heaviest coefficients counts.now sums.now heaviest) }
+    requires shifts_bound { shifts ≤ 8589934592 }
+    ensures { (FoundAt coefficients counts.now sums.now result) × (result.shifts ≡ shifts + result.level.0) }
+{
+    let none = Tally { count: 0, sum: 0 };
+    ascend(counts, sums, coefficients, heaviest, Level(0), none, shifts)
 }

@@ -1,6 +1,5 @@
 // The window's answer from its counts and guide sums of each level. The two lists are the window's: how they are kept is the way's own.
-ghost use Rattle.std.specs.Prelude.{◌≡◌, ◌+◌};
-ghost use Rattle.std.specs.Prelude.{if◌then◌else◌};
+ghost use Rattle.std.specs.Prelude.{◌≡◌, ◌+◌, if◌then◌else◌};
 ghost use Rattle.spec.specs.Base.{distance};
 ghost use Rattle.level_search.specs.Search.{FoundAt};
 ghost use Rattle.levels.specs.Answer.{Answerable, FromCut};
@@ -11,7 +10,7 @@ use spec::Level;
 use window_weights::coefficients::Coefficients;
 
 // By the coefficients over so many guides: from the cut point where the window is monotone, with the tally of the levels up to it; else, and that
-// is often, from level 0, where no tally is asked for.
+// is often, from level 0.
 pub fn answer(
     counts: &[u32],
     sums: &[u32],
@@ -31,6 +30,5 @@ pub fn answer(
     if monotone {
         return search::from_cut(counts, sums, coefficients, heaviest, cut, below, shifts);
     }
-    let none = Tally { count: 0, sum: 0 };
-    search::ascend(counts, sums, coefficients, heaviest, Level(0), none, shifts)
+    search::from_lowest(counts, sums, coefficients, heaviest, shifts)
 }

@@ -1,7 +1,6 @@
 // The answer by blocks of 16 levels: where the window is monotone, the cumulative weight never falls, so that the first block whose end reaches half
 // has the answer. No cut point enters the search.
-ghost use Rattle.std.specs.Prelude.{◌≡◌, true, ◌+◌};
-ghost use Rattle.std.specs.Prelude.{if◌then◌else◌};
+ghost use Rattle.std.specs.Prelude.{◌≡◌, true, ◌+◌, if◌then◌else◌};
 ghost use Rattle.spec.specs.Walk.{shifts_to};
 ghost use Rattle.level_search.specs.Search.{ListsSearchable, Rising, FoundAt};
 ghost use Rattle.levels.specs.Answer.{Answerable};
@@ -13,30 +12,34 @@ use level_search::{Tally, block, search};
 use spec::{Level, shifts_to};
 use window_weights::coefficients::{Coefficients, reached};
 
-// The first level of the first block whose end reaches half, and the tally of the levels below it. A short last block is not tested: where no other's
-// end reaches half, the answer is in it.
+// The first level of the first block whose end reaches half, and the tally of the levels below it. The last block, which may be short, is not tested:
+// where no other's end reaches half, the answer is in it.
 pub fn first_block(counts: &[u32], sums: &[u32], coefficients: Coefficients) -> Found
     requires { (ListsSearchable coefficients counts.now sums.now) × (Rising coefficients counts.now sums.now) }
     ensures { FirstBlock coefficients counts.now sums.now result }
 {
-    let levels = counts.len();
-    let mut count: usize = 0;
-    let mut sum: usize = 0;
-    let mut i: usize = 0;
-    while i + BLOCK < levels {
-        let at = i as u16;
-        let level = Level(at);
-        let count2 = count + block::total(counts, level);
-        let sum2 = sum + block::total(sums, level);
-        if reached(coefficients, count2, sum2) {
-            return search::ended(level, count, sum, 0);
+    let mut tally = Tally { count: 0, sum: 0 };
+    let last = (counts.len() - 1) / BLOCK;
+    for b in 0..last {
+        let level = Level((b * BLOCK) as u16);
+        let through = Tally {
+            count: tally.count + block::total(counts, level),
+            sum: tally.sum + block::total(sums, level),
+        };
+        if reached(coefficients, through.count, through.sum) {
+            return Found {
+                level,
+                tally,
+                shifts: 0,
+            };
         }
-        count = count2;
-        sum = sum2;
-        i += BLOCK;
+        tally = through;
     }
-    let last = i as u16;
-    search::ended(Level(last), count, sum, 0)
+    Found {
+        level: Level((last * BLOCK) as u16),
+        tally,
+        shifts: 0,
+    }
 }
 
 // By the coefficients over so many guides; a window that is not monotone is climbed from level 0.
@@ -53,20 +56,21 @@ pub fn answer(
         × (result.shifts ≡ shifts + (if monotone then shifts_to true result.level.0 0 else result.level.0)) }
 {
     let heaviest = block::heaviest(coefficients, guides);
-    if monotone {
-        let near = first_block(counts, sums, coefficients);
-        let first = near.level;
-        let below = near.tally;
-        let found = search::ascend(counts, sums, coefficients, heaviest, first, below, 0);
-        let level = found.level;
-        let tally = found.tally;
-        let total = shifts + shifts_to(true, level, Level(0));
-        return Found {
-            level: level,
-            tally: tally,
-            shifts: total,
-        };
+    if !monotone {
+        return search::from_lowest(counts, sums, coefficients, heaviest, shifts);
     }
-    let none = Tally { count: 0, sum: 0 };
-    search::ascend(counts, sums, coefficients, heaviest, Level(0), none, shifts)
+    let near = first_block(counts, sums, coefficients);
+    let found = search::ascend(
+        counts,
+        sums,
+        coefficients,
+        heaviest,
+        near.level,
+        near.tally,
+        0,
+    );
+    Found {
+        shifts: shifts + shifts_to(true, found.level, Level(0)),
+        ..found
+    }
 }

@@ -1,7 +1,7 @@
 -- A walk's first window of kind 2: from cut point 0 the shift count is the answer whether the window is monotone or not, so that it is searched from
 -- level 0 and asks for no tally.
 -- Assumes nothing.
-use Prim.Native.Nat.{ℕ, ◌+◌, ◌≤◌, ◌<◌}
+use Prim.Native.Nat.{ℕ, ◌+◌, ◌<◌}
 use mathlib.Core.Path.{◌≡◌, refl, sym, ap, subst, ◌∙◌}
 use mathlib.Core.Bool.{Bool, true, false, true≢false}
 use mathlib.Core.List.{List}

@@ -34,13 +34,12 @@ pub struct Visit {
 pub fn answered(column: usize, row: usize, level: Level, shifts: u64, running: Running) -> Visit
     ensures { result ≡ answered column row level shifts running }
 {
-    let answer = Answer::Level(level);
     Visit {
         column,
         row,
         cut: level,
         shifts,
-        answer,
+        answer: Answer::Level(level),
         running,
     }
 }
@@ -59,11 +58,7 @@ pub fn unread(
     let below = Tally { count: 0, sum: 0 };
     let running = Running { sums, below, free };
     Visit {
-        column: column,
-        row: row,
-        cut: cut,
-        shifts: shifts,
         answer: Answer::NoReading,
-        running: running,
+        ..answered(column, row, cut, shifts, running)
     }
 }

@@ -1,6 +1,0 @@
--- `visit::unread` meets its contract. Assumes nothing.
-use mathlib.Core.Path.{refl}
-use Rattle.visit.proofs.unread.Goals as goal
-
-pub returns : goal.returns
-returns c = refl
