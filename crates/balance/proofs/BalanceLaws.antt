@@ -4,24 +4,19 @@ use mathlib.Core.Path.{◌≡◌, refl, sym, ap, ap₂, ◌∙◌, subst}
 use mathlib.Core.Logic.{⊎_elim}
 use mathlib.Core.Bool.{Bool, true, false}
 use mathlib.Core.List.{List, []}
-use Prim.Native.Nat.{ℕ, ◌+◌, ◌-◌, ◌*◌, ◌^◌, ◌≤◌, ◌<◌}
+use Prim.Native.Nat.{ℕ, ◌+◌, ◌-◌, ◌*◌, ◌≤◌, ◌<◌}
 use native.Mathlib.Nat.{le_trans}
 use native.Mathlib.Omega.{arith}
 use lib.Dec.{leb, eqb}
 use lib.ListN.{get_or}
 use lib.IntN.{ℤ, pos, negsuc, nat_abs, ◌+ℤ◌, ◌-ℤ◌, ◌*ℤ◌, +ℤ_idr, *ℤ-zero}
-use lib.Signed.{mag}
-use mir.Syntax.{w64}
-use mir.Val.{hbits, to_z, of_z}
-use mir.Facts.{to_z-of_z, to_z_pos}
-use Rattle.ints.specs.Bound.{abs-add, abs-mul-le}
-use Rattle.ints.specs.Order.{lt-or-le, eq-or-ne}
-use Rattle.ints.specs.Machine.{read-bounded}
-use Rattle.ints.specs.Polynomial.{◌⊕◌, ◌⊖◌, ◌⊗◌, opposite, #◌, ◌≐◌, solve2}
+use Rattle.ints.specs.Bound.{abs-mul-le}
+use Rattle.ints.specs.Order.{lt-or-le}
+use Rattle.std.proofs.lemmas.Int.{ints}
 use Rattle.ints.specs.Ring.{one-mul}
 use Rattle.spec.specs.declared.Plan.{Plan}
 use Rattle.std.specs.Prelude.{if◌then◌else◌}
-use Rattle.spec.specs.Frame.{Frame, level, guide, heaviest, frame_of}
+use Rattle.spec.specs.Frame.{Frame, level, guide, frame_of}
 use Rattle.spec.specs.Checks.{Planned}
 use Rattle.spec.specs.Window.{span, pixel_count, empty, InWindow}
 use Rattle.spec.specs.Weight.{own_weight, own_total, weightless, weight}
@@ -29,16 +24,19 @@ use Rattle.spec.specs.Median.{balance}
 use Rattle.spec.proofs.Plans.{facts, pixel-of}
 use Rattle.spec.proofs.Ranges.{int_sums}
 use Rattle.spec.proofs.Sums.{over-in_window, over-constantℤ}
-use Rattle.spec.proofs.Limits.{FrameLimits, Pixel}
+use Rattle.spec.proofs.Limits.{Pixel}
 use Rattle.spec.proofs.Own.{weight-own, table-light, weightless-zero, weight-linear}
 use Rattle.spec.proofs.Levels.{balance-signed}
 use Rattle.spec.proofs.Bounds.{guided-abs}
 use Rattle.window.specs.declared.line.Line.{Line}
-use Rattle.window.specs.Line.{column_line}
+use Rattle.window.specs.Line.{column_line, InPlanes}
+use Rattle.window.proofs.PixelLaws.{plan-limits}
+use Rattle.window.proofs.LineLaws.{column-in, span-in, span-high}
 use Rattle.window.specs.declared.sums.Sums.{Sums}
 use Rattle.window.specs.Sums.{SumsAt}
 use Rattle.window_weights.specs.declared.coefficients.Coefficients.{Coefficients}
 use Rattle.window_weights.specs.Coefficients.{WeighsAt, CoefficientsSmall}
+use Rattle.pixels.specs.declared.Pixel.{Pixel as LinePixel}
 use Rattle.pixels.specs.Pixels.{count_of, level_in, guide_in, pixel_fold_to, pixel_fold, columns_fold, LinePixels}
 use Rattle.pixels.proofs.AdditiveLaws.{pixels-more, high-abs, columns-more, columns-window}
 use Rattle.joint_pixel.specs.Side.{side}
@@ -56,14 +54,8 @@ empty-is v e = e ∙ ap (λ (n : ℕ). eqb n 0) v.count
 side-abs : (c i : ℕ) → nat_abs (side c i) ≤ 1
 side-abs c i = ⊎_elim (λ h. rw (side-high c i h) (omega arith)) (λ h. rw (side-low c i h) (omega arith)) (lt-or-le c i)
 
-pub signed_up : (c i : ℕ) (x y : ℤ) → i ≤ c → x +ℤ y ≡ x +ℤ side c i *ℤ y
-signed_up c i x y h = rw (side-low c i h) (solve2 (λ x y. x ⊕ y ≐ x ⊕ # 1 ⊗ y) refl x y)
-
-pub signed-down : (c i : ℕ) (x y : ℤ) → c < i → x -ℤ y ≡ x +ℤ side c i *ℤ y
-signed-down c i x y h = rw (side-high c i h) (solve2 (λ x y. x ⊖ y ≐ x ⊕ opposite (# 1) ⊗ y) refl x y)
-
 -- ---- along a list
-module _ {p row : List ℕ} {w : Formula} (v : PixelsWeighed p row w) (c : ℕ) where
+module _ {p : List LinePixel} {row : List ℕ} {w : Formula} (v : PixelsWeighed p row w) (c : ℕ) where
   abbrev added : ℕ → ℤ
   added k = pixel_fold_to ◌+ℤ◌ (pos 0) p (signed_by row w c) k
 
@@ -71,51 +63,25 @@ module _ {p row : List ℕ} {w : Formula} (v : PixelsWeighed p row w) (c : ℕ) 
   unfolding signed_by
   by-abs k h = le_trans (abs-mul-le (side c (level_in p k)) (weight_by row w (guide_in p k)) (side-abs c (level_in p k)) (v.low k h)) (omega arith)
 
-  list-abs : (k : ℕ) → k ≤ count_of p → nat_abs (added k) ≤ k * 180155859075
+  pub list-abs : (k : ℕ) → k ≤ count_of p → nat_abs (added k) ≤ k * 180155859075
   list-abs k h = high-abs p (signed_by row w c) 180155859075 k (λ j l. by-abs j (omega arith))
 
   pub list-small : nat_abs (added (count_of p)) ≤ 5584831631325
   list-small = omega (arith, list-abs (count_of p) (omega arith), v.few)
 
-  -- the pixel's weight, and the sum with it
-  slope-back : to_z w64 (of_z w64 w.slope) ≡ w.slope
-  slope-back = read-bounded w64 {z = w.slope} 235497855 v.small.slope tt
-
-  offset-back : to_z w64 (of_z w64 w.offset) ≡ w.offset
-  offset-back = read-bounded w64 {z = w.offset} 180155859075 v.small.offset tt
-
+  -- with a pixel's weight more, or less where its level is above
   module _ {k : ℕ} (h : k < count_of p) where
-    abbrev number : ℕ
-    number = get_or row (guide_in p k) 0
+    pub added-up : level_in p k ≤ c → added (k + 1) ≡ added k +ℤ weight_by row w (guide_in p k)
+    unfolding signed_by
+    added-up l = pixels-more ◌+ℤ◌ (pos 0) p (signed_by row w c) k ∙ rw (side-low c (level_in p k) l) (omega (arith, ints))
 
-    module _ (l : number ≤ 65535) where
-      natural : to_z w64 number ≡ pos number
-      natural = to_z_pos w64 (omega arith)
-
-      pub weight-asks : (nat_abs (to_z w64 (of_z w64 w.slope)) ≤ 235497855) × (nat_abs (to_z w64 (of_z w64 w.offset)) ≤ 180155859075) ×
-          (nat_abs (to_z w64 number) ≤ 65535)
-      weight-asks = (rw slope-back v.small.slope, rw offset-back v.small.offset, rw natural l)
-
-      pub weight_is : (r : ℤ) → r ≡ to_z w64 (of_z w64 w.slope) *ℤ to_z w64 number +ℤ to_z w64 (of_z w64 w.offset) →
-          r ≡ weight_by row w (guide_in p k)
-      weight_is r e = rw (slope-back, offset-back, natural) at e
-
-    module _ (x y : ℤ) (ex : x ≡ added k) (ey : y ≡ weight_by row w (guide_in p k)) where
-      back : to_z w64 (of_z w64 y) ≡ weight_by row w (guide_in p k)
-      back = ap (λ (q : ℤ). to_z w64 (of_z w64 q)) ey ∙ read-bounded w64 {z = weight_by row w (guide_in p k)} 180155859075 (v.low k h) tt
-
-      pub sum-asks : (nat_abs x ≤ 173129780571075) × (nat_abs (to_z w64 (of_z w64 y)) ≤ 180155859075)
-      sum-asks = (rw ex (omega (arith, list-abs k (omega arith), v.few)), rw back (v.low k h))
-
-      pub sum-again : (r : ℤ) → mag r < 2 ^ hbits w64 → r ≡ x +ℤ side c (level_in p k) *ℤ to_z w64 (of_z w64 y) → to_z w64 (of_z w64 r) ≡ added (k + 1)
-      unfolding signed_by
-      sum-again r m e =
-          to_z-of_z {w = w64} (record { sfits = m }) ∙ e ∙ ap₂ (λ (u q : ℤ). u +ℤ side c (level_in p k) *ℤ q) ex back
-          ∙ sym (pixels-more ◌+ℤ◌ (pos 0) p (signed_by row w c) k)
+    pub added-down : c < level_in p k → added (k + 1) ≡ added k -ℤ weight_by row w (guide_in p k)
+    unfolding signed_by
+    added-down l = pixels-more ◌+ℤ◌ (pos 0) p (signed_by row w c) k ∙ rw (side-high c (level_in p k) l) (omega (arith, ints))
 
 module _ {b : List ℕ} {z : Plan} {s t : ℕ} {row : List ℕ} {w : Formula} (wd : Weighed b z s t row w) where
   -- ---- a line's list is weighed by the row
-  module _ {d : Line} {p : List ℕ} (v : LinePixels b [] z d p) where
+  module _ {d : Line} {p : List LinePixel} (v : LinePixels b [] z d p) where
     row_in : (k : ℕ) → k < count_of p → guide_in p k < (frame_of b).set.guides
     row_in k h = let l = v.below.guide k h in rw (facts wd.planned).guides at l
 
@@ -127,30 +93,25 @@ module _ {b : List ℕ} {z : Plan} {s t : ℕ} {row : List ℕ} {w : Formula} (w
       low = λ k h. wd.fits.low (guide_in p k) (row_in k h);
     }
 
-    -- ---- one column more, whose list adds y
-    module _ (c : ℕ) {y : ℤ} (ey : y ≡ pixel_fold ◌+ℤ◌ (pos 0) p (signed_by row w c)) where
-      small : nat_abs (pixel_fold ◌+ℤ◌ (pos 0) p (signed_by row w c)) ≤ 5584831631325
-      small = list-small pixels-weighed c
+    -- ---- one column more
+    pub column-next : (c x k : ℕ) → d ≡ column_line z (x + k) t
+        → columns_fold ◌+ℤ◌ (pos 0) b [] z x t (signed_by row w c) (k + 1)
+        ≡ columns_fold ◌+ℤ◌ (pos 0) b [] z x t (signed_by row w c) k +ℤ pixel_fold ◌+ℤ◌ (pos 0) p (signed_by row w c)
+    column-next c x k ed = let h = signed_by row w c in columns-more ◌+ℤ◌ (pos 0) b [] z x t h k p ed (v.sumℤ h)
 
-      handed-on : to_z w64 (of_z w64 y) ≡ pixel_fold ◌+ℤ◌ (pos 0) p (signed_by row w c)
-      handed-on = ap (λ (q : ℤ). to_z w64 (of_z w64 q)) ey ∙ read-bounded w64 {z = pixel_fold ◌+ℤ◌ (pos 0) p (signed_by row w c)} 5584831631325 small tt
+  -- the column that a turn adds is in the picture, and the columns are few
+  module _ {x n k : ℕ} (ex : x ≡ s - z.radius) (en : n ≡ span z.radius s z.width) (h : k < n) where
+    wide : x + k < z.width
+    wide = omega (arith, span-in z.radius s z.width k (rw en at h))
 
-      module _ (k : ℕ) (a : ℤ) (low : nat_abs a ≤ k * 5584831631325) where
-        pub column-asks : k < 31 → (nat_abs a ≤ 173129780571075) × (nat_abs (to_z w64 (of_z w64 y)) ≤ 173129780571075)
-        column-asks h = (omega (arith, low), rw handed-on (omega (arith, small)))
+    pub column-in-picture : (x + k ≤ 1024) × (t < z.height)
+    column-in-picture = let l = plan-limits wd.planned in (omega (arith, wide, l.width), wd.row)
 
-        pub column_again : (x : ℕ) → d ≡ column_line z (x + k) t → a ≡ columns_fold ◌+ℤ◌ (pos 0) b [] z x t (signed_by row w c) k
-            → {r : ℤ} → mag r < 2 ^ hbits w64 → r ≡ a +ℤ to_z w64 (of_z w64 y)
-            →
-            (to_z w64 (of_z w64 r) ≡ columns_fold ◌+ℤ◌ (pos 0) b [] z x t (signed_by row w c) (k + 1)) ×
-            (nat_abs (to_z w64 (of_z w64 r)) ≤ (k + 1) * 5584831631325)
-        column_again x ed ea m e =
-            let h = signed_by row w c in
-            let q = to_z-of_z {w = w64} (record { sfits = m }) ∙ e ∙ ap (λ (u : ℤ). a +ℤ u) handed-on in (
-              q ∙ ap (λ (u : ℤ). u +ℤ pixel_fold ◌+ℤ◌ (pos 0) p h) ea ∙ sym (columns-more ◌+ℤ◌ (pos 0) b [] z x t h k p ed (v.sumℤ h)),
-              rw q
-                  (omega (arith, abs-add a (pixel_fold ◌+ℤ◌ (pos 0) p (signed_by row w c)), low, small)),
-            )
+    pub column-in-planes : {d : Line} → d ≡ column_line z (x + k) t → InPlanes z d
+    column-in-planes e = rw e (column-in (plan-limits wd.planned) (x + k) t wide)
+
+    pub few-columns : k < 31
+    few-columns = omega (arith, span-high z.radius s z.width (plan-limits wd.planned).radius)
 
   -- all columns
   pub columns-by : (c : ℕ) {x n : ℕ} → x ≡ s - z.radius → n ≡ span z.radius s z.width
@@ -199,11 +160,6 @@ module _ {p : Frame} {s t : ℕ} (k : Pixel p s t) {row : List ℕ} {w : Formula
 
     pub by-own : weightless p s t ≡ false → (c : ℕ) → balance_by p s t row w c ≡ balance p s t c
     by-own e c = by-balance (record { fits = g.fits; is = λ f h. weight-own p s t f e ∙ g.is f h }) c
-
--- ---- one weight more that is not too large
-pub low-next : {rule : ℕ → ℕ} {k v : ℕ} → v ≡ rule k → v ≤ heaviest → ((g : ℕ) → g < k → rule g ≤ heaviest) →
-    (g : ℕ) → g < k + 1 → rule g ≤ heaviest
-low-next {rule} {k} {v} e u low g h = ⊎_elim (λ q. rw q (subst (λ (n : ℕ). n ≤ heaviest) e u)) (λ n. low g (omega arith)) (eq-or-ne g k)
 
 -- ---- kind 1: a row of weights with slope 1 and offset 0
 pub row-formula : {weigh : ℕ → ℤ} {m : ℕ} {row : List ℕ} → RowGives weigh m row → Gives weigh m row (record { slope = pos 1; offset = pos 0 })

@@ -5,6 +5,7 @@ use Rattle.spec.specs.declared.Plan.{Plan}
 use Rattle.spec.specs.Frame.{Frame, level, guide, frame_of}
 use Rattle.spec.specs.Checks.{Planned}
 use Rattle.spec.specs.Window.{Σℤ}
+use Rattle.pixels.specs.declared.Pixel.{Pixel}
 use Rattle.pixels.specs.Pixels.{count_of, guide_in}
 use Rattle.joint_pixel.specs.Side.{side}
 use Rattle.balance.specs.declared.formula.Formula.{Formula}
@@ -18,7 +19,7 @@ unfoldable pub balance_by : Frame → ℕ → ℕ → List ℕ → Formula → �
 balance_by p s t ns formula c = Σℤ p s t (λ x y. signed_by ns formula c (level p x y) (guide p x y))
 
 -- few pixels, each of whose guides has its weight in the row, and a small one
-pub record PixelsWeighed (p ns : List ℕ) (formula : Formula) : Type 0 where
+pub record PixelsWeighed (p : List Pixel) (ns : List ℕ) (formula : Formula) : Type 0 where
   pub few : count_of p ≤ 31
   pub small : FormulaInBounds formula
   pub inside : (k : ℕ) → k < count_of p → guide_in p k < length ns

@@ -3,7 +3,7 @@
 
 pub mod formula;
 
-ghost use Rattle.std.specs.Prelude.{◌≡◌, false, ◌<◌, ◌≤◌, eqb, pos, nat_abs, ◌+ℤ◌, ◌*ℤ◌, length};
+ghost use Rattle.std.specs.Prelude.{◌≡◌, false, ◌<◌, eqb, pos, ◌+ℤ◌, length};
 ghost use Rattle.spec.specs.Frame.{frame_of};
 ghost use Rattle.spec.specs.Checks.{Planned};
 ghost use Rattle.spec.specs.Window.{empty};
@@ -11,7 +11,6 @@ ghost use Rattle.spec.specs.Weight.{weightless};
 ghost use Rattle.spec.specs.Median.{balance};
 ghost use Rattle.window.specs.Sums.{SumsAt};
 ghost use Rattle.pixels.specs.Pixels.{pixel_fold};
-ghost use Rattle.joint_pixel.specs.Side.{side};
 ghost use Rattle.joint_search.specs.Window.{RowOwn, RowWeighs};
 ghost use Rattle.joint_rows.specs.Rows.{TableRow};
 ghost use Rattle.balance.specs.Formula.{Weighs};
@@ -19,9 +18,9 @@ ghost use Rattle.balance.specs.Balance.{signed_by, balance_by, PixelsWeighed, We
 
 use formula::Formula;
 use joint_rows::table;
-use pixels::sums;
+use pixels::{Pixel, sums};
 use spec::{Guide, Level, Plan};
-use window::line::{column_line, low, span_of};
+use window::line::{column_line, span_of};
 use window::pixel;
 use window::sums::Sums;
 use window_weights::coefficients;
@@ -33,45 +32,19 @@ pub fn is_empty(a: Sums) -> bool
     a.count == 0
 }
 
-// A sum with a pixel's weight more, or less where the pixel's level is above the given one.
-pub fn add_signed(sum: i64, weight: i64, level: Level, top: Level) -> i64
-    requires { (nat_abs sum ≤ 173129780571075) × (nat_abs weight ≤ 180155859075) }
-    ensures { result ≡ sum +ℤ side top.0 level.0 *ℤ weight }
+// What a list's pixels add: each its weight, taken off where its level is above the given one.
+pub fn line_balance(pixels: &[Pixel], weights: &[u16], formula: Formula, top: Level) -> i64
+    requires { PixelsWeighed pixels.now weights.now formula }
+    ensures { result ≡ pixel_fold ◌+ℤ◌ (pos 0) pixels.now (signed_by weights.now formula top.0) }
 {
-    if level.0 <= top.0 {
-        return sum + weight;
-    }
-    sum - weight
-}
-
-pub fn add(a: i64, b: i64) -> i64
-    requires { (nat_abs a ≤ 173129780571075) × (nat_abs b ≤ 173129780571075) }
-    ensures { result ≡ a +ℤ b }
-{
-    a + b
-}
-
-// What a list's pixels add.
-pub fn line_balance(p: &[u16], weights: &[u16], formula: Formula, top: Level) -> i64
-    requires { PixelsWeighed p.now weights.now formula }
-    ensures { result ≡ pixel_fold ◌+ℤ◌ (pos 0) p.now (signed_by weights.now formula top.0) }
-{
-    let n = p.len() / 2;
-    let mut sum: i64 = 0;
-    let mut k = 0;
-    while k < n {
-        let at = 2 * k;
-        let next = at + 1;
-        let level = Level(p[at]);
-        let g = Guide(p[next]);
-        let x = weights[g.0 as usize] as i64;
-        sum = add_signed(
-            sum,
-            formula::weigh(formula.slope, formula.offset, x),
-            level,
-            top,
-        );
-        k += 1;
+    let mut sum = 0;
+    for pixel in pixels {
+        let weight = formula.weigh(weights[pixel.guide.0 as usize]);
+        if pixel.level() <= top {
+            sum += weight;
+        } else {
+            sum -= weight;
+        }
     }
     sum
 }
@@ -89,31 +62,26 @@ pub fn window_balance(
     requires { Weighed file.now plan s t weights.now formula }
     ensures { result ≡ balance_by (frame_of file.now) s t weights.now formula top.0 }
 {
-    let x = low(s, plan.radius);
+    let x = s.saturating_sub(plan.radius);
     let n = span_of(s, plan.radius, plan.width);
-    let mut sum: i64 = 0;
-    let mut k = 0;
-    while k < n {
-        let mut places = [0u16; 62];
+    let mut sum = 0;
+    for k in 0..n {
+        let mut pixels = [Pixel::NONE; 31];
         let line = column_line(plan, x + k, t);
-        let e = pixels::read(file, plan, line, &mut places);
-        sum = add(sum, line_balance(&places[0..e], weights, formula, top));
-        k += 1;
+        let m = pixels::read(file, plan, line, &mut pixels);
+        sum += line_balance(&pixels[..m], weights, formula, top);
     }
     sum
 }
 
 // The table's row of the centre's guide.
 pub fn table_row(file: &[u8], plan: Plan, f: Guide, row: &mut [u16; 256])
-    requires { (Planned file.now plan) × (f.0 < plan.guides) × (length row.old ≡ 256) }
+    requires { (Planned file.now plan) × (f.0 < plan.guides) }
     ensures { TableRow (frame_of file.now) plan.guides f.0 row.new }
 {
     let built = frame_weights::constants();
-    let m = plan.guides;
-    let mut k = 0;
-    while k < m {
-        row[k] = table::weight_at(&built, file, plan, f, Guide(k as u16));
-        k += 1;
+    for (k, weight) in row[..plan.guides].iter_mut().enumerate() {
+        *weight = table::weight_at(&built, file, plan, f, Guide(k as u16));
     }
 }
 
@@ -121,23 +89,19 @@ pub fn table_row(file: &[u8], plan: Plan, f: Guide, row: &mut [u16; 256])
 // there (document 02); and whether it is. There is a reading: without one that sum is 0 too. The built-in weights are above 0.
 pub fn ones_if_hollow(file: &[u8], plan: Plan, s: usize, t: usize, row: &mut [u16; 256]) -> bool
     requires planned { (Planned file.now plan) × (plan.kind ≡ 1) × (s < plan.width) × (t < plan.height) }
-    requires row_own { (RowOwn (frame_of file.now) s t row.old) × (length row.old ≡ 256) × (empty (frame_of file.now) s t ≡ false) }
+    requires row_own { (RowOwn (frame_of file.now) s t row.old) × (empty (frame_of file.now) s t ≡ false) }
     ensures { (result ≡ weightless (frame_of file.now) s t)
         × (RowWeighs (frame_of file.now) s t row.new) × (length row.new ≡ 256) }
 {
     if plan.weights == 0 {
         return false;
     }
-    let w = Formula {
-        slope: 1,
-        offset: 0,
-    };
     let last = Level((plan.levels - 1) as u16);
-    let total = window_balance(file, plan, row, w, s, t, last);
+    let total = window_balance(file, plan, row, Formula::TABLE, s, t, last);
     if total != 0 {
         return false;
     }
-    *row = [1u16; 256];
+    *row = [1; 256];
     true
 }
 
@@ -148,18 +112,11 @@ pub fn table_balance(file: &[u8], plan: Plan, s: usize, t: usize, top: Level) ->
     ensures { result ≡ balance (frame_of file.now) s t top.0 }
 {
     let centre = pixel::guide_at(file, plan, t * plan.width + s);
-    let mut row = [0u16; 256];
+    let mut row = [0; 256];
     table_row(file, plan, centre, &mut row);
-    let w = Formula {
-        slope: 1,
-        offset: 0,
-    };
-    let own = window_balance(file, plan, &row, w, s, t, top);
-    if own != 0 {
-        return own;
-    }
-    if ones_if_hollow(file, plan, s, t, &mut row) {
-        return window_balance(file, plan, &row, w, s, t, top);
+    let own = window_balance(file, plan, &row, Formula::TABLE, s, t, top);
+    if own == 0 && ones_if_hollow(file, plan, s, t, &mut row) {
+        return window_balance(file, plan, &row, Formula::TABLE, s, t, top);
     }
     own
 }
@@ -174,12 +131,11 @@ pub fn guided_formula(
     row: &mut [u16; 256],
 ) -> Formula
     requires planned { (Planned file.now plan) × (plan.kind ≡ 2) × (s < plan.width) × (t < plan.height) }
-    requires sums_at { (SumsAt (frame_of file.now) s t a) × (length row.old ≡ 256) }
+    requires sums_at { SumsAt (frame_of file.now) s t a }
     ensures { (Weighs (frame_of file.now) s t row.new result) × (length row.new ≡ 256) }
 {
     let coefficients = coefficients::of_window(file, plan, a, s, t);
-    let m = plan.guides;
-    formula::ramp(row, m);
+    formula::ramp(row, plan.guides);
     Formula {
         slope: coefficients.slope,
         offset: coefficients.offset,
@@ -191,9 +147,9 @@ pub fn guided_balance(file: &[u8], plan: Plan, a: Sums, s: usize, t: usize, top:
     requires sums_at { SumsAt (frame_of file.now) s t a }
     ensures { result ≡ balance (frame_of file.now) s t top.0 }
 {
-    let mut row = [0u16; 256];
-    let w = guided_formula(file, plan, a, s, t, &mut row);
-    window_balance(file, plan, &row, w, s, t, top)
+    let mut row = [0; 256];
+    let formula = guided_formula(file, plan, a, s, t, &mut row);
+    window_balance(file, plan, &row, formula, s, t, top)
 }
 
 // The balance of the window at (s, t), at a level: 0 where it has no reading.

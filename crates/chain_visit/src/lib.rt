@@ -1,8 +1,7 @@
 // Way 3 at a window of a walk: its list and its sums made or moved, its answer, the cut point after it, and the shift count.
 #![tactic(auto)]
 
-ghost use Rattle.std.specs.Prelude.{◌≡◌, ◌<◌, ◌≤◌, length};
-ghost use Rattle.std.specs.Prelude.{if◌then◌else◌};
+ghost use Rattle.std.specs.Prelude.{◌≡◌, ◌<◌, ◌≤◌, length, if◌then◌else◌};
 ghost use Rattle.spec.specs.Base.{distance};
 ghost use Rattle.spec.specs.Checks.{Planned};
 ghost use Rattle.spec.specs.Frame.{frame_of};
@@ -17,7 +16,7 @@ ghost use Rattle.chain_visit.specs.Visit.{ChainAt, ChainVisited};
 use chain::moves;
 use chain_search::climb;
 use level_search::Tally;
-use pixels::sums;
+use pixels::{Pixel, sums};
 use spec::{Level, Plan};
 use visit::{Running, Visit};
 use window::line;
@@ -29,12 +28,10 @@ pub fn added(monotone: bool, cut: Level, answer: Level) -> u64
     ensures { (result ≡ (if monotone then distance answer.0 cut.0 else answer.0)) × (result ≤ 65535) }
 {
     if monotone {
-        if answer.0 < cut.0 {
-            return (cut.0 - answer.0) as u64;
-        }
-        return (answer.0 - cut.0) as u64;
+        u64::from(answer.0.abs_diff(cut.0))
+    } else {
+        u64::from(answer.0)
     }
-    answer.0 as u64
 }
 
 // The answer at the window at (column, row), whose sums run along and whose list is in the numbers. One of no pixels has no reading.
@@ -56,14 +53,13 @@ pub fn answer_at(
 {
     let sums = running.sums;
     if sums.count == 0 {
-        let free = running.free;
-        return visit::unread(column, row, cut, shifts, sums, free);
+        return visit::unread(column, row, cut, shifts, sums, running.free);
     }
     let coefficients = coefficients::of_window(file, plan, sums, column, row);
     let level = climb::climb(numbers, coefficients);
     let monotone = coefficients::monotone(plan, coefficients);
-    let more = added(monotone, cut, level);
-    visit::answered(column, row, level, shifts + more, running)
+    let shifts = shifts + added(monotone, cut, level);
+    visit::answered(column, row, level, shifts, running)
 }
 
 // A walk comes to its first window, whatever the store held.
@@ -97,17 +93,22 @@ pub fn slide(
         numbers.old result numbers.new }
 {
     let step = line::step_to(plan, from.column, from.row, column, row);
-    let mut entering = [0u16; 62];
-    let mut leaving = [0u16; 62];
+    let mut entering = [Pixel::NONE; 31];
+    let mut leaving = [Pixel::NONE; 31];
     let n = pixels::read(file, plan, step.entering, &mut entering);
     let k = pixels::read(file, plan, step.leaving, &mut leaving);
-    let known = from.running;
-    let former = known.sums;
-    let nodes = known.free;
-    let cut = from.cut;
-    let sums = sums::moved(former, &entering[0..n], &leaving[0..k]);
-    let free = moves::slide(&entering[0..n], &leaving[0..k], nodes, numbers);
+    let sums = sums::moved(from.running.sums, &entering[..n], &leaving[..k]);
+    let free = moves::slide(&entering[..n], &leaving[..k], from.running.free, numbers);
     let below = Tally { count: 0, sum: 0 };
     let running = Running { sums, below, free };
-    answer_at(file, plan, column, row, cut, from.shifts, running, numbers)
+    answer_at(
+        file,
+        plan,
+        column,
+        row,
+        from.cut,
+        from.shifts,
+        running,
+        numbers,
+    )
 }

@@ -3,10 +3,10 @@
 use mathlib.Core.Path.{◌≡◌, refl, sym, ap, ap₂, subst, ◌∙◌}
 use mathlib.Core.Bool.{false}
 use mathlib.Core.List.{List, ◌++◌}
-use Prim.Native.Nat.{ℕ, ◌+◌, ◌-◌, ◌*◌, ◌≤◌, ◌<◌}
-use native.Mathlib.Nat.{add-mul, mul_assoc, mul-le-mul}
+use Prim.Native.Nat.{ℕ, ◌+◌, ◌*◌, ◌≤◌}
+use native.Mathlib.Nat.{add-mul, mul_assoc}
 use native.Mathlib.Omega.{arith}
-use lib.ListN.{length, get_or, take, drop}
+use lib.ListN.{length, get_or, drop}
 use Rattle.spec.specs.declared.Level.{Level}
 use Rattle.spec.specs.declared.Plan.{Plan}
 use Rattle.spec.specs.declared.Way.TheVariants.{Columns}
@@ -14,7 +14,6 @@ use Rattle.spec.specs.Frame.{Frame, frame_of}
 use Rattle.spec.specs.Checks.{Planned}
 use Rattle.spec.specs.Calls.{room_of}
 use Rattle.spec.specs.Columns.{column_store}
-use Rattle.spec.specs.declared.Way.TheVariants.{Columns}
 use Rattle.spec.specs.Window.{empty}
 use Rattle.spec.specs.Walk.{arrive}
 use Rattle.spec.proofs.Lists.{part-long, part-cell}
@@ -36,26 +35,9 @@ use Rattle.visit.specs.Visit.{answered, unread}
 use Rattle.visit.proofs.Laws.{state-is, unread-state}
 use Rattle.columns_visit.specs.Visit.{window_counts, window_guides, store_at, ColumnsVisited}
 
--- ---- the window's blocks are inside the store, and inside a machine's numbers
-module _ (w l : ℕ) (hw : w ≤ 1024) (hl : l ≤ 1024) where
-  pub places-small : 2 * w * l ≤ 2097152
-  places-small = let a : 2 * w * l ≡ 2 * (w * l) = mul_assoc 2 w l in omega (arith, mul-le-mul {n₂ = 1024} hw hl)
-
-  pub places-in : (n : ℕ) → 2 * (w * l) + 2 * l ≤ n → 2 * w * l + l + l ≤ n
-  places-in n h = let a : 2 * w * l ≡ 2 * (w * l) = mul_assoc 2 w l in omega arith
-
--- a part of a list, by its ends
-pub part-is : (at n : ℕ) (xs : List ℕ) → take (at + n - at) (drop at xs) ≡ take n (drop at xs)
-part-is at n xs = let e : at + n - at ≡ n = omega arith in ap (λ (m : ℕ). take m (drop at xs)) e
-
--- the window's two blocks, as they are lent to a search
-pub lent-blocks : (z : Plan) (xs : List ℕ) (P : List ℕ → List ℕ → Type 0) → P (window_counts z xs) (window_guides z xs) → let at =
-    2 * z.width * z.levels in
-    P (take (at + z.levels - at) (drop at xs)) (take (at + z.levels + z.levels - (at + z.levels)) (drop (at + z.levels) xs))
-lent-blocks z xs P h =
-    let at = 2 * z.width * z.levels in
-    subst (λ (cs : List ℕ). P cs (take (at + z.levels + z.levels - (at + z.levels)) (drop (at + z.levels) xs))) (sym (part-is at z.levels xs))
-    (subst (λ (gs : List ℕ). P (window_counts z xs) gs) (sym (part-is (at + z.levels) z.levels xs)) h)
+-- ---- the window's blocks are inside the store
+places-in : (w l n : ℕ) → 2 * (w * l) + 2 * l ≤ n → 2 * w * l + l + l ≤ n
+places-in w l n h = let a : 2 * w * l ≡ 2 * (w * l) = mul_assoc 2 w l in omega arith
 
 module _ (p : Frame) (s t : ℕ) (xs ys : List ℕ) where
   -- the store's length and the room for it are one number
@@ -87,7 +69,7 @@ module _ {b : List ℕ} {z : Plan} (pl : Planned b z) (s t : ℕ) (xs : List ℕ
   at = 2 * z.width * z.levels
 
   part_end : at + z.levels + z.levels ≤ length xs
-  part_end = places-in z.width z.levels store-places.0 store-places.1 (length xs) store-places.2
+  part_end = places-in z.width z.levels (length xs) store-places.2
 
   abbrev p : Frame
   p = frame_of b

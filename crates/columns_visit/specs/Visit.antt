@@ -10,7 +10,6 @@ use Rattle.spec.specs.Walk.{State}
 use Rattle.window.specs.Sums.{SumsAt}
 use Rattle.levels.specs.Tally.{BelowAt}
 use Rattle.visit.specs.declared.Visit.{Visit}
-use Rattle.spec.specs.declared.Way.TheVariants.{Columns}
 use Rattle.visit.specs.Visit.{state_of}
 
 -- the window's counts of each level in a store, and its guide sums

@@ -1,9 +1,7 @@
 // Way 2 at a window of a walk: its store and its sums made or moved, its answer, the cut point after it, and the shift count.
 #![tactic(auto)]
 
-ghost use Rattle.std.specs.Prelude.{◌≡◌, ◌+◌, ◌*◌, ◌<◌, ◌≤◌, length};
-ghost use Rattle.spec.specs.declared.Way.TheVariants.{Columns};
-ghost use Rattle.std.specs.Prelude.{if◌then◌else◌};
+ghost use Rattle.std.specs.Prelude.{◌≡◌, ◌+◌, ◌*◌, ◌<◌, ◌≤◌, length, if◌then◌else◌};
 ghost use Rattle.spec.specs.Base.{distance};
 ghost use Rattle.spec.specs.Calls.{room_of};
 ghost use Rattle.spec.specs.Checks.{Planned};
@@ -21,7 +19,7 @@ use columns::store;
 use level_search::Tally;
 use level_search::search::Found;
 use levels::{answer, tally};
-use pixels::sums;
+use pixels::{Pixel, sums};
 use spec::{Level, Plan};
 use visit::{Running, Visit};
 use window::line;
@@ -47,11 +45,9 @@ pub fn answer_from(
 {
     let l = plan.levels;
     let at = 2 * plan.width * l;
-    let middle = at + l;
-    let last = middle + l;
     answer::answer(
-        &blocks[at..middle],
-        &blocks[middle..last],
+        &blocks[at..][..l],
+        &blocks[at + l..][..l],
         coefficients,
         plan.guides,
         monotone,
@@ -79,10 +75,12 @@ pub fn enter(file: &[u8], plan: Plan, column: usize, row: usize, blocks: &mut [u
     let coefficients = coefficients::of_window(file, plan, sums, column, row);
     let none = Tally { count: 0, sum: 0 };
     let found = answer_from(plan, blocks, coefficients, false, none, Level(0), 0);
-    let level = found.level;
-    let below = found.tally;
-    let running = Running { sums, below, free };
-    visit::answered(column, row, level, found.shifts, running)
+    let running = Running {
+        sums,
+        below: found.tally,
+        free,
+    };
+    visit::answered(column, row, found.level, found.shifts, running)
 }
 
 // It goes on to the neighbouring window at (column, row). The store and the sums move also where there is no reading.
@@ -101,39 +99,34 @@ pub fn slide(
         (arrive Columns (frame_of file.now) column row from.cut.0 from.shifts) blocks.old result blocks.new }
 {
     let step = line::step_to(plan, from.column, from.row, column, row);
-    let mut entering = [0u16; 62];
-    let mut leaving = [0u16; 62];
+    let mut entering = [Pixel::NONE; 31];
+    let mut leaving = [Pixel::NONE; 31];
     let n = pixels::read(file, plan, step.entering, &mut entering);
     let k = pixels::read(file, plan, step.leaving, &mut leaving);
-    let known = from.running;
-    let former = known.sums;
-    let earlier = known.below;
-    let cut = from.cut;
-    let present = sums::moved(former, &entering[0..n], &leaving[0..k]);
+    let present = sums::moved(from.running.sums, &entering[..n], &leaving[..k]);
     store::slide(file, plan, blocks, from.column, from.row, column, row);
     let free = FreeList { head: 0, count: 0 };
     if present.count == 0 {
-        return visit::unread(column, row, cut, from.shifts, present, free);
+        return visit::unread(column, row, from.cut, from.shifts, present, free);
     }
     let coefficients = coefficients::of_window(file, plan, present, column, row);
     let monotone = coefficients::monotone(plan, coefficients);
-    let end = cut.0 as usize + 1;
-    let tally = tally::carried_where(monotone, earlier, &entering[0..n], &leaving[0..k], end);
+    let end = usize::from(from.cut.0) + 1;
+    let below = from.running.below;
+    let tally = tally::carried_where(monotone, below, &entering[..n], &leaving[..k], end);
     let found = answer_from(
         plan,
         blocks,
         coefficients,
         monotone,
         tally,
-        cut,
+        from.cut,
         from.shifts,
     );
-    let level = found.level;
-    let below = found.tally;
     let running = Running {
         sums: present,
-        below,
+        below: found.tally,
         free,
     };
-    visit::answered(column, row, level, found.shifts, running)
+    visit::answered(column, row, found.level, found.shifts, running)
 }

@@ -4,29 +4,26 @@ use mathlib.Core.Path.{◌≡◌, refl, sym, ap, ap₂, ◌∙◌, subst}
 use mathlib.Core.Bool.{true, false}
 use mathlib.Core.Logic.{⊎_elim}
 use mathlib.Core.List.{List}
-use Prim.Native.Nat.{ℕ, zero, suc, ◌+◌, ◌-◌, ◌*◌, ◌≤◌, ◌<◌}
+use Prim.Native.Nat.{ℕ, zero, suc, ◌-◌, ◌≤◌, ◌<◌}
 use native.Mathlib.Nat.{div-one, div-le_self}
 use native.Mathlib.Omega.{arith}
 use lib.Dec.{eqb}
-use lib.ListN.{length, get_or, replicate, get_or-replicate, length-replicate, get_or-eq_default}
+use lib.ListN.{length, get_or, replicate, length-replicate}
 use lib.IntN.{ℤ, pos, nat_abs, ◌+ℤ◌, ◌-ℤ◌, ◌*ℤ◌}
 use lib.Signed.{◌≤ℤ◌, ◌<ℤ◌}
-use Rattle.ints.specs.Order.{add_parts, lt-or-le}
-use Rattle.ints.specs.Linear.{ints}
-use Rattle.ints.specs.Polynomial.{◌⊖◌, ◌⊗◌, #◌, ◌≐◌, solve1}
+use Rattle.ints.specs.Order.{lt-or-le}
+use Rattle.std.proofs.lemmas.Int.{ints}
 use Rattle.std.specs.Prelude.{if◌then◌else◌}
-use Rattle.spec.specs.declared.Settings.{Settings}
 use Rattle.spec.specs.declared.Answer.{Answer}
 use Rattle.spec.specs.declared.Cause.{Cause}
 use Rattle.spec.specs.Frame.{Frame, level, guide}
 use Rattle.spec.specs.Window.{empty}
 use Rattle.spec.specs.Weight.{weight}
-use Rattle.spec.specs.Median.{total_weight, cumulative, balance, median, answer}
+use Rattle.spec.specs.Median.{total_weight, cumulative, balance, answer}
 use Rattle.spec.specs.Explain.{cumulative_below, cause_of, Grounded}
-use Rattle.spec.specs.Checks.{SettingsLimits}
 use Rattle.spec.proofs.Ranges.{int_sums}
 use Rattle.spec.proofs.Sums.{over-in_window}
-use Rattle.spec.proofs.Limits.{FrameLimits, Pixel}
+use Rattle.spec.proofs.Limits.{Pixel}
 use Rattle.spec.proofs.Own.{total-pos, empty-count, total-empty, cumulative-empty}
 use Rattle.spec.proofs.Levels.{level_weight, cumulative-all, cumulative-last}
 use Rattle.spec.proofs.Totals.{median-is, le-balance, lt-balance, answer-median, answer-empty}
@@ -36,11 +33,10 @@ use Rattle.balance.specs.declared.formula.Formula.{Formula}
 use Rattle.balance.specs.Formula.{Weighs}
 use Rattle.balance.specs.Balance.{balance_by}
 use Rattle.balance.proofs.BalanceLaws.{by-balance}
-use Rattle.weight_sums.specs.Sums.{block_of, weight_in, Zeros, BlocksFit, Gathered}
-use Rattle.explain_half.specs.declared.Half.{Half}
+use Rattle.weight_sums.specs.Sums.{block_of, weight_in, BlocksFit, Gathered}
 use Rattle.explain.specs.declared.Answered.{Answered}
-use Rattle.explain_half.specs.Half.{up_to, SumsSmall, HalfInReach, HalfReached}
-use Rattle.explain_half.proofs.HalfLaws.{twice, up_to-none, up_to-next}
+use Rattle.explain_half.specs.Half.{up_to, HalfInReach, HalfReached}
+use Rattle.explain_half.proofs.HalfLaws.{up_to-none, up_to-next}
 use Rattle.explain.specs.Answer.{AnswerReached}
 
 -- ---- T and U have 64 bits
@@ -60,7 +56,7 @@ total-gathered {p} {s} {t} k w =
     by-balance k w 65535
     ∙ ap (λ (u : ℤ). pos 2 *ℤ u -ℤ total_weight p s t)
     (cumulative-all p s t 65535 (λ x y h. omega (arith, k.good.level-low x y h.wide h.high h.read, k.good.sound.levels_high)))
-    ∙ solve1 (λ u. # 2 ⊗ u ⊖ u ≐ u) refl (total_weight p s t)
+    ∙ omega (arith, ints)
 
 pub reached-small : {p : Frame} {s t : ℕ} → Pixel p s t → {row : List ℕ} {formula : Formula} → Weighs p s t row formula → (i : ℕ)
     → nat_abs (cumulative p s t i) ≤ 173129780571075
@@ -99,7 +95,7 @@ module _ {p : Frame} {s t : ℕ} (k : Pixel p s t) (read : empty p s t ≡ false
     positive = total-pos k read;
     total_small = total_small k w;
     reaches = subst (λ (u : ℤ). total_weight p s t ≤ℤ (pos 2 *ℤ u)) (sym all)
-        (rw (twice (total_weight p s t)) (let h = total-pos k read in omega (arith, ints, h, add_parts (total_weight p s t) (total_weight p s t))));
+        (let h = total-pos k read in omega (arith, ints));
   }
     where
       all : up_to ys (length ys) ≡ total_weight p s t
@@ -129,8 +125,7 @@ module _ {p : Frame} {s t : ℕ} (k : Pixel p s t) (read : empty p s t ≡ false
           clash q =
               let h = total-pos k read in
               let z = subst (λ (u : ℤ). (pos 2 *ℤ u) <ℤ total_weight p s t) (cumulative-last k) q in
-              let y = rw (twice (total_weight p s t)) at z in
-              absurd (omega (arith, ints, h, y, add_parts (total_weight p s t) (total_weight p s t)))
+              absurd (omega (arith, ints))
 
       is : answer p s t ≡ m
       is = answer-median p s t read
@@ -159,12 +154,6 @@ grounds-empty p s t e = record {
 }
 
 -- ---- the array of sums
-pub zeros-made : (n : ℕ) → Zeros (replicate n (pos 0))
-zeros-made n = record {
-  zero = λ b. ⊎_elim (λ h. get_or-replicate n b (pos 0) (pos 0) h) (λ h. get_or-eq_default (replicate n (pos 0)) (pos 0)
-      (omega (arith, length-replicate {A = ℤ} n (pos 0)))) (lt-or-le b n);
-}
-
 pub levels-fit : (width : ℕ) {levels : ℕ} → levels ≤ 1024 → BlocksFit width levels (replicate 1024 (pos 0))
 unfolding block_of
 levels-fit width h = record { inside = λ i l. omega (arith, div-le_self i width, length-replicate {A = ℤ} 1024 (pos 0)) }

@@ -4,7 +4,6 @@ use Rattle.std.specs.Prelude.{◌≡◌, ℕ}
 use Rattle.spec.specs.Frame.{Frame}
 use Rattle.spec.specs.Median.{total_weight, cumulative, answer}
 use Rattle.spec.specs.Explain.{cumulative_below}
-use Rattle.explain_half.specs.declared.Half.{Half}
 use Rattle.explain.specs.declared.Answered.{Answered}
 
 pub record AnswerReached (p : Frame) (s t : ℕ) (r : Answered) : Type 0 where

@@ -39,7 +39,7 @@ pub fn answer_half(
     requires t_value { empty (frame_of file.now) s t ≡ false }
     ensures { AnswerReached (frame_of file.now) s t result }
 {
-    let mut sums = [0i64; 1024];
+    let mut sums = [0; 1024];
     let total = add_window(file, plan, weights, formula, s, t, 0, &mut sums);
     let half = reach_half(&sums, total);
     Answered { total, half }
@@ -61,19 +61,15 @@ pub fn grounds(file: &[u8], plan: Plan, s: usize, t: usize) -> Grounds
             cause: Cause::Empty,
         };
     }
-    let mut row = [0u16; 256];
+    let mut row = [0; 256];
     let counted = weights_of(file, plan, a, s, t, &mut row);
-    let formula = counted.formula;
-    let answered = answer_half(file, plan, &row, formula, s, t);
-    let half = answered.half;
-    let level = half.level;
-    let cause = cause_of(&row, counted, plan.guides);
+    let Answered { total, half } = answer_half(file, plan, &row, counted.formula, s, t);
     Grounds {
         pixels: a.count,
-        total: answered.total,
-        answer: Answer::Level(level),
+        total,
+        answer: Answer::Level(half.level),
         below: half.below,
         reached: half.reached,
-        cause,
+        cause: cause_of(&row, counted, plan.guides),
     }
 }

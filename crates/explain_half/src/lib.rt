@@ -4,7 +4,6 @@
 ghost use Rattle.std.specs.Prelude.{◌≡◌, true, ◌<◌, length};
 ghost use Rattle.explain_half.specs.Half.{SumsSmall, Vacant, HalfInReach, HalfReached};
 
-use balance::add;
 use spec::Level;
 
 const BLOCK: usize = spec::BLOCK as usize;
@@ -23,17 +22,12 @@ pub fn vacant(sums: &[i64], i: usize) -> bool
     ensures { result ≡ true → Vacant sums.now i }
 {
     let end = i + BLOCK;
-    if i % BLOCK != 0 {
+    if !i.is_multiple_of(BLOCK) || sums.len() < end {
         return false;
     }
-    if sums.len() < end {
-        return false;
-    }
-    let mut all: i64 = 0;
-    let mut j = i;
-    while j < end {
-        all = all | sums[j];
-        j += 1;
+    let mut all = 0;
+    for sum in &sums[i..end] {
+        all |= *sum;
     }
     all == 0
 }
@@ -43,15 +37,15 @@ pub fn reach_half(sums: &[i64], total: i64) -> Half
     requires { HalfInReach sums.now total }
     ensures { HalfReached sums.now total result }
 {
-    let n = sums.len();
-    let mut below: i64 = 0;
+    let mut below = 0;
     let mut i = 0;
-    while i < n {
+    // no `for`, since the step is a block or a level
+    while i < sums.len() {
         if vacant(sums, i) {
             i += BLOCK;
         } else {
-            let reached = add(below, sums[i]);
-            if total <= add(reached, reached) {
+            let reached = below + sums[i];
+            if total <= 2 * reached {
                 return Half {
                     level: Level(i as u16),
                     below,
@@ -62,9 +56,5 @@ pub fn reach_half(sums: &[i64], total: i64) -> Half
             i += 1;
         }
     }
-    Half {
-        level: Level(0),
-        below,
-        reached: below,
-    }
+    unreachable!()
 }

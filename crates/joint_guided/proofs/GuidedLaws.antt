@@ -1,13 +1,12 @@
 -- Laws of kind 2's visit: the histogram as the search reads it, and the answer's place.
 -- Assumes nothing.
-use mathlib.Core.Path.{◌≡◌, refl, sym, ap, ◌∙◌}
+use mathlib.Core.Path.{◌≡◌, sym, ap, ◌∙◌}
 use mathlib.Core.Bool.{true, false}
 use mathlib.Core.List.{List}
-use Prim.Native.Nat.{ℕ, ◌+◌, ◌-◌, ◌≤◌, ◌<◌}
+use Prim.Native.Nat.{ℕ, ◌+◌, ◌-◌, ◌*◌, ◌≤◌, ◌<◌}
 use native.Mathlib.Nat.{zero-add}
 use native.Mathlib.Omega.{arith}
 use lib.ListN.{length, get_or, take, drop}
-use lib.Seq.{length-take-le}
 use Rattle.spec.specs.declared.Plan.{Plan}
 use Rattle.spec.specs.declared.Way.{Way}
 use Rattle.spec.specs.Frame.{Frame, frame_of}
@@ -33,36 +32,25 @@ use Rattle.histogram.specs.Histogram.{Histogram}
 use Rattle.histogram.proofs.Laws.{count_at, sum-at}
 use Rattle.joint_guided.specs.Guided.{counts_in, guide_sums_in, GuidedAt, GuidedVisited, BlocksVisited}
 
--- a histogram's two lists, as they are lent
-pub first_part : (l : ℕ) (ns : List ℕ) → take (l - 0) (drop 0 ns) ≡ counts_in l ns
-first_part l ns = let e : l - 0 ≡ l = omega arith in ap (λ (n : ℕ). take n ns) e
-
-pub second-part : (l last : ℕ) (ns : List ℕ) → last ≡ l + l → take (last - l) (drop l ns) ≡ guide_sums_in l ns
-second-part l last ns h = let e : last - l ≡ l = omega arith in ap (λ (n : ℕ). take n (drop l ns)) e
-
-pub counts-long : (l : ℕ) (ns : List ℕ) → l + l ≤ length ns → length (counts_in l ns) ≡ l
-counts-long l ns h = length-take-le l ns (omega arith)
-
 module _ {b : List ℕ} {z : Plan} (pl : Planned b z) where
   -- ---- the histogram, as the search reads it
-  module _ {s t : ℕ} {ns : List ℕ} (v : Histogram (frame_of b) s t ns) {l last : ℕ} (el : l ≡ z.levels) (ea : last ≡ l + l) where
-    pub numbers_long : last ≤ length ns
+  module _ {s t : ℕ} {ns : List ℕ} (v : Histogram (frame_of b) s t ns) where
+    pub numbers_long : 2 * z.levels ≤ length ns
     numbers_long = omega (arith, v.long, (facts pl).levels)
 
-    pub profiled : Profiled (frame_of b) s t (counts_in l ns) (guide_sums_in l ns)
+    pub profiled : Profiled (frame_of b) s t (counts_in z.levels ns) (guide_sums_in z.levels ns)
     profiled =
         let f = facts pl in
-        rw el
-        (record {
+        record {
           count_long = part-long ns 0 z.levels (omega (arith, numbers_long)) ∙ f.levels;
           sum_long = part-long ns z.levels z.levels (omega (arith, numbers_long)) ∙ f.levels;
           count_cell = λ i h. part-cell ns 0 z.levels i (rw f.levels h) ∙ ap (λ (j : ℕ). get_or ns j 0) (zero-add i) ∙ count_at v i h;
           sum_cell = λ i h. part-cell ns z.levels z.levels i (rw f.levels h) ∙ ap (λ (j : ℕ). get_or ns (j + i) 0) f.levels ∙ sum-at v i h;
-        })
+        }
 
     -- as they are lent to a search
-    pub profiled-parts : Profiled (frame_of b) s t (take (l - 0) (drop 0 ns)) (take (last - l) (drop l ns))
-    profiled-parts = rw (first_part l ns, second-part l last ns ea) profiled
+    pub profiled-parts : Profiled (frame_of b) s t (take z.levels ns) (take (2 * z.levels - z.levels) (drop z.levels ns))
+    profiled-parts = let e : 2 * z.levels - z.levels ≡ z.levels = omega arith in rw e profiled
 
   -- ---- the answer is a level
   module _ {s t c n : ℕ} (hs : s < z.width) (ht : t < z.height) (read : empty (frame_of b) s t ≡ false) {way : Way} {f : Found}

@@ -18,7 +18,7 @@ use chain_nodes::FreeList;
 use joint_search::Sizes;
 use level_search::{Tally, search};
 use levels::{answer, blocks, tally};
-use pixels::sums;
+use pixels::{Pixel, sums};
 use spec::{Level, Plan};
 use visit::{Running, Visit};
 use window::sums::Sums;
@@ -30,8 +30,7 @@ pub fn tally_below(histogram: &[u32], levels: usize, end: usize) -> Tally
         × (end ≤ levels) }
     ensures { TallyTo (counts_in levels histogram.now) (guide_sums_in levels histogram.now) end result }
 {
-    let last = levels + levels;
-    search::gather(&histogram[0..levels], &histogram[levels..last], end)
+    search::gather(&histogram[..levels], &histogram[levels..2 * levels], end)
 }
 
 // Way 1: the window's answer, and the box moved to it; both stay where there is no reading. before is the tally of the window that the two lists
@@ -41,8 +40,8 @@ pub fn arrive(
     plan: Plan,
     a: Sums,
     before: Tally,
-    entering: &[u16],
-    leaving: &[u16],
+    entering: &[Pixel],
+    leaving: &[Pixel],
     s: usize,
     t: usize,
     cut: Level,
@@ -62,14 +61,12 @@ pub fn arrive(
     if a.count == 0 {
         return visit::unread(s, t, cut, shifts, a, free);
     }
-    let l = plan.levels;
-    let last = l + l;
     let coefficients = coefficients::of_window(file, plan, a, s, t);
     let monotone = coefficients::monotone(plan, coefficients);
     let below = tally::carried_where(monotone, before, entering, leaving, cut.0 as usize + 1);
-    let r = answer::answer(
-        &histogram[0..l],
-        &histogram[l..last],
+    let found = answer::answer(
+        &histogram[..plan.levels],
+        &histogram[plan.levels..2 * plan.levels],
         coefficients,
         plan.guides,
         monotone,
@@ -77,19 +74,17 @@ pub fn arrive(
         cut,
         shifts,
     );
-    let level = r.level;
-    let tally = r.tally;
     let sizes = Sizes {
-        levels: l,
+        levels: plan.levels,
         guides: plan.guides,
     };
-    joint_cut::move_to(sizes, cut, level, balance_box, counts, words);
+    joint_cut::move_to(sizes, cut, found.level, balance_box, counts, words);
     let running = Running {
         sums: a,
-        below: tally,
+        below: found.tally,
         free,
     };
-    visit::answered(s, t, level, r.shifts, running)
+    visit::answered(s, t, found.level, found.shifts, running)
 }
 
 // Way 4: the window's answer, which no cut point enters; it is kept where there is no reading.
@@ -111,26 +106,22 @@ pub fn arrive_by_blocks(
     if a.count == 0 {
         return visit::unread(s, t, cut, shifts, a, free);
     }
-    let l = plan.levels;
-    let last = l + l;
     let coefficients = coefficients::of_window(file, plan, a, s, t);
     let monotone = coefficients::monotone(plan, coefficients);
-    let r = blocks::answer(
-        &histogram[0..l],
-        &histogram[l..last],
+    let found = blocks::answer(
+        &histogram[..plan.levels],
+        &histogram[plan.levels..2 * plan.levels],
         coefficients,
         plan.guides,
         monotone,
         shifts,
     );
-    let level = r.level;
-    let tally = r.tally;
     let running = Running {
         sums: a,
-        below: tally,
+        below: found.tally,
         free,
     };
-    visit::answered(s, t, level, r.shifts, running)
+    visit::answered(s, t, found.level, found.shifts, running)
 }
 
 // Way 4's first window at (s, t).
@@ -162,15 +153,13 @@ pub fn enter(
     histogram::start(file, plan, s, t, histogram);
     let a = sums::start(file, plan, s, t);
     let below = tally_below(histogram, plan.levels, 1);
-    let entering = [0u16; 2];
-    let leaving = [0u16; 2];
     arrive(
         file,
         plan,
         a,
         below,
-        &entering[0..0],
-        &leaving[0..0],
+        &[],
+        &[],
         s,
         t,
         Level(0),

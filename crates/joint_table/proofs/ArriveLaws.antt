@@ -7,7 +7,7 @@ use Prim.Native.Nat.{ℕ, ◌+◌, ◌*◌, ◌<◌}
 use native.Mathlib.Omega.{arith}
 use lib.Dec.{eqb}
 use lib.ListN.{get_or}
-use lib.IntN.{ℤ, pos, nat_abs}
+use lib.IntN.{ℤ, nat_abs}
 use borrow.Author.Tests.{eq-eqb, eqb-false}
 use Rattle.spec.specs.declared.Plan.{Plan}
 use Rattle.spec.specs.declared.Way.{Way}
@@ -20,7 +20,7 @@ use Rattle.spec.specs.Median.{median}
 use Rattle.spec.specs.Joint.{balance_box_at}
 use Rattle.spec.specs.Walk.{by_blocks, shifts_to, arrive}
 use Rattle.spec.proofs.Checks.{both}
-use Rattle.spec.proofs.Limits.{FrameLimits, Pixel}
+use Rattle.spec.proofs.Limits.{Pixel}
 use Rattle.spec.proofs.Plans.{facts, kind-of}
 use Rattle.spec.proofs.Own.{weightless-zero, table-light}
 use Rattle.spec.proofs.Totals.{median-low, answer-median}

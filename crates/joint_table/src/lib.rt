@@ -31,10 +31,7 @@ pub fn centre_weighs(file: &[u8], plane: &[u16], plan: Plan, place: usize, weigh
     requires { (Pictured file.now plane.now plan) × (place < plan.width * plan.height) }
     ensures { result ≡ (not (eqb weight 0) && not (eqb (value_of file.now plane.now place) no_reading)) }
 {
-    if weight == 0 {
-        return false;
-    }
-    pixel::value_in(file, plane, plan, place) != NO_READING
+    weight != 0 && pixel::value_in(file, plane, plan, place) != NO_READING
 }
 
 // A window with a reading, by the row of the centre's guide: a part of the built-in weights, or the file's own. In most tables the centre weighs
@@ -66,11 +63,10 @@ pub fn arrive(
     let place = t * plan.width + s;
     let centre = pixel::guide_at(file, plan, place);
     if plan.weights == 0 {
-        let from = 255 - (centre.0 as usize);
-        let end = from + 256;
+        let from = 255 - centre.0 as usize;
         return search::arrive(
             sizes,
-            &weights[from..end],
+            &weights[from..from + 256],
             way,
             cut,
             shifts,
@@ -79,7 +75,7 @@ pub fn arrive(
             words,
         );
     }
-    let mut row = [0u16; 256];
+    let mut row = [0; 256];
     rows::own_row(file, plan, centre, &mut row);
     let weighs = centre_weighs(file, plane, plan, place, row[centre.0 as usize]);
     search::ones_if_hollow(sizes, weighs, cut, counts, words, &mut row);

@@ -4,9 +4,9 @@ use mathlib.Core.Path.{◌≡◌, refl, sym, ap, subst, ◌∙◌}
 use mathlib.Core.Bool.{Bool, true, false, true≢false}
 use mathlib.Core.Logic.{inl, inr}
 use mathlib.Core.List.{List, []}
-use Prim.Native.Nat.{ℕ, zero, suc, ◌+◌, ◌-◌, ◌/◌, ◌≤◌, ◌<◌}
+use Prim.Native.Nat.{ℕ, zero, suc, ◌+◌, ◌-◌, ◌≤◌, ◌<◌}
 use native.Mathlib.Numerals.{add-one}
-use lib.ListN.{length, take, drop}
+use lib.ListN.{length, take}
 use lib.Seq.{length-take-le}
 use native.Mathlib.Omega.{arith}
 use lib.Dec.{eqb}
@@ -27,12 +27,15 @@ use Rattle.window.specs.declared.line.Step.{Step}
 use Rattle.window.specs.declared.sums.Sums.{Sums}
 use Rattle.window.specs.Line.{Adjacent, step_of}
 use Rattle.window.specs.Sums.{one, SumsAt}
+use Rattle.pixels.specs.declared.Pixel.{Pixel}
 use Rattle.pixels.specs.Pixels.{count_of, pixel_fold_to, pixel_fold, LinePixels}
 use Rattle.pixels.proofs.AdditiveLaws.{pixels-none, pixels-more, stepped}
 use Rattle.histogram.specs.Histogram.{Histogram}
 use Rattle.level_search.specs.declared.Tally.{Tally}
 use Rattle.levels.specs.ListTally.{Carries}
-use Rattle.joint.specs.Window.{JointAt}
+use Rattle.joint.specs.List.{Exchangeable, CountsExchanged, BoxExchanged}
+use Rattle.joint.specs.Window.{JointAt, Held}
+use Rattle.joint.proofs.PixelLaws.{exchanged-joint}
 use Rattle.joint.proofs.WindowLaws.{settled}
 use Rattle.joint_search.specs.Window.{Counted}
 use Rattle.visit.specs.declared.Visit.{Visit}
@@ -72,30 +75,28 @@ module _ (b : List ℕ) {vs : List ℕ} (s t : ℕ) (none : vs ≡ []) where
   pub histogram-own : {ns : List ℕ} → Histogram (frame_with b vs) s t ns → Histogram (frame_of b) s t ns
   histogram-own {ns} = subst (λ (u : List ℕ). Histogram (frame_with b u) s t ns) none
 
-  pub carries_own : {e l : List ℕ} {n : ℕ} {w : Tally} → Carries (frame_with b vs) e l s t n w → Carries (frame_of b) e l s t n w
+  pub carries_own : {e l : List Pixel} {n : ℕ} {w : Tally} → Carries (frame_with b vs) e l s t n w → Carries (frame_of b) e l s t n w
   carries_own {e} {l} {n} {w} = subst (λ (u : List ℕ). Carries (frame_with b u) e l s t n w) none
 
--- ---- the number of pixels over a step, by the numbers of places of the two lists
-ones : (p : List ℕ) (k : ℕ) → pixel_fold_to ◌+◌ 0 p one k ≡ k
+-- ---- the number of pixels over a step, by those of the two lists
+ones : (p : List Pixel) (k : ℕ) → pixel_fold_to ◌+◌ 0 p one k ≡ k
 ones p zero = pixels-none ◌+◌ 0 p one
 ones p (suc k) = sym (ap (pixel_fold_to ◌+◌ 0 p one) (add-one k)) ∙ pixels-more ◌+◌ 0 p one k ∙ ap (λ (n : ℕ). n + 1) (ones p k) ∙ add-one k
 
-places : (n : ℕ) (p : List ℕ) → n ≤ length p → pixel_fold ◌+◌ 0 (take (n - 0) (drop 0 p)) one ≡ n / 2
-places n p h =
-    let e : n - 0 ≡ n = omega arith in
-    ones (take (n - 0) (drop 0 p)) (count_of (take (n - 0) (drop 0 p))) ∙ ap (λ (m : ℕ). m / 2) (rw e (length-take-le n p h))
+listed : (n : ℕ) (p : List Pixel) → n ≤ length p → pixel_fold ◌+◌ 0 (take n p) one ≡ n
+listed n p h = ones (take n p) (count_of (take n p)) ∙ length-take-le n p h
 
 module _ {b vs : List ℕ} {z : Plan} (pl : Pictured b vs z) {s t s' t' : ℕ} (adj : Adjacent z s t s' t') {d : Step} (ed : d ≡ step_of z s t s' t')
-    {n k : ℕ} (e l : List ℕ) (he : n ≤ length e) (hl : k ≤ length l) (re : LinePixels b vs z d.entering (take (n - 0) (drop 0 e)))
-    (rl : LinePixels b vs z d.leaving (take (k - 0) (drop 0 l))) {m : ℕ} (v : m ≡ pixel_count (frame_with b vs) s t) where
-  count-stepped : pixel_count (frame_with b vs) s' t' + k / 2 ≡ m + n / 2
+    {n k : ℕ} (e l : List Pixel) (he : n ≤ length e) (hl : k ≤ length l) (re : LinePixels b vs z d.entering (take n e))
+    (rl : LinePixels b vs z d.leaving (take k l)) {m : ℕ} (v : m ≡ pixel_count (frame_with b vs) s t) where
+  count-stepped : pixel_count (frame_with b vs) s' t' + k ≡ m + n
   unfolding pixel_count
-  count-stepped = omega (arith, stepped (λ (g : ℕ → ℕ → ℕ). g) pl adj ed re rl one, places n e he, places k l hl, v)
+  count-stepped = omega (arith, stepped (λ (g : ℕ → ℕ → ℕ). g) pl adj ed re rl one, listed n e he, listed k l hl, v)
 
-  pub count_enough : k / 2 ≤ m + n / 2
+  pub count_enough : k ≤ m + n
   count_enough = omega (arith, count-stepped)
 
-  pub count-moved : m + n / 2 - k / 2 ≡ pixel_count (frame_with b vs) s' t'
+  pub count-moved : m + n - k ≡ pixel_count (frame_with b vs) s' t'
   count-moved = omega (arith, count-stepped)
 
 -- ---- the level of the box
@@ -114,6 +115,22 @@ box-cut-joint kind c = go (eqb kind 2)
 pub box-cut-guided : (kind c : ℕ) → kind ≡ 2 → box_cut true kind c ≡ 0
 unfolding box_cut
 box-cut-guided kind c e = rw (eq-eqb kind 2 e) refl
+
+-- the level that a step finds it at, and stores and box that are moved with it there
+module _ {b vs : List ℕ} {z : Plan} {s t : ℕ} {xs ws : List ℕ} {bx : List ℤ} (way : Way) (c : ℕ)
+    (hd : Held b vs z s t (box_cut (by_blocks way) z.kind c) xs ws bx) {blocks : Bool} (eb : blocks ≡ by_blocks way) {l : ℕ}
+    (el : l ≡ box_cut blocks z.kind c) where
+  pub kept-level : l ≡ box_cut (by_blocks way) z.kind c
+  kept-level = el ∙ ap (λ (y : Bool). box_cut y z.kind c) eb
+
+  pub kept-held : Held b vs z s t l xs ws bx
+  kept-held = subst (λ (q : ℕ). Held b vs z s t q xs ws bx) (sym kept-level) hd
+
+  pub kept-moved : {s' t' : ℕ} → Adjacent z s t s' t' → {d : Step} → d ≡ step_of z s t s' t' → {e p : List Pixel}
+      → LinePixels b vs z d.entering e → LinePixels b vs z d.leaving p → {xs₂ ws₂ : List ℕ} {bx₂ : List ℤ}
+      → ((a : Exchangeable z.guides e p xs ws) → CountsExchanged a.entering.levels z.guides e p xs ws xs₂ ws₂)
+      → BoxExchanged l e p bx bx₂ → JointAt (frame_with b vs) s' t' l xs ws xs₂ ws₂ bx₂
+  kept-moved adj ed re rl after u = exchanged-joint kept-held adj ed re rl after u
 
 -- which way it is
 pub coarse-way : (way : Way) → JointWay way → by_blocks way ≡ true → way ≡ Coarse

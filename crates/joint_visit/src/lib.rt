@@ -14,22 +14,17 @@ ghost use Rattle.visit.specs.Visit.{Within};
 ghost use Rattle.joint_visit.specs.Visit.{PlaneServes, box_cut, JointWay, JointCarried, JointVisited};
 
 use joint::{list, start as store_start};
-use pixels::sums;
+use pixels::{Pixel, read_in, sums};
 use spec::{Level, Plan, Way, by_blocks};
 use visit::Visit;
 use window::line;
 
 // The level that the box is kept at, with the walk's cut point.
+#[tactic(auto, unfolding(crate::specs::Visit::box_cut))]
 pub fn box_cut(blocks: bool, kind: usize, cut: Level) -> Level
     ensures { result.0 ≡ box_cut blocks kind cut.0 }
 {
-    if kind != 2 {
-        return cut;
-    }
-    if blocks {
-        return Level(0);
-    }
-    cut
+    if kind == 2 && blocks { Level(0) } else { cut }
 }
 
 // A walk comes to its first window, whatever the stores and the box held.
@@ -122,16 +117,17 @@ pub fn slide(
         counts.old words.old counts.new words.new balance_box.new histogram.new }
 {
     let step = line::step_to(plan, from.column, from.row, column, row);
-    let mut entering = [0u16; 62];
-    let mut leaving = [0u16; 62];
-    let n = pixels::read_in(file, plane, plan, step.entering, &mut entering);
-    let k = pixels::read_in(file, plane, plan, step.leaving, &mut leaving);
+    let mut entering = [Pixel::NONE; 31];
+    let mut leaving = [Pixel::NONE; 31];
+    let n = read_in(file, plane, plan, step.entering, &mut entering);
+    let k = read_in(file, plane, plan, step.leaving, &mut leaving);
+    let entering = &entering[..n];
+    let leaving = &leaving[..k];
     let blocks = by_blocks(way);
-    let cut = from.cut;
-    let kept = box_cut(blocks, plan.kind, cut);
+    let kept = box_cut(blocks, plan.kind, from.cut);
     list::exchange(
-        &entering[0..n],
-        &leaving[0..k],
+        entering,
+        leaving,
         plan.guides,
         kept,
         balance_box,
@@ -139,11 +135,8 @@ pub fn slide(
         words,
     );
     if plan.kind == 2 {
-        let running = from.running;
-        let known = running.sums;
-        let below = running.below;
-        let a = sums::moved(known, &entering[0..n], &leaving[0..k]);
-        histogram::exchange(&entering[0..n], &leaving[0..k], plan.levels, histogram);
+        let a = sums::moved(from.running.sums, entering, leaving);
+        histogram::exchange(entering, leaving, plan.levels, histogram);
         if blocks {
             return joint_guided::arrive_by_blocks(
                 file,
@@ -151,7 +144,7 @@ pub fn slide(
                 a,
                 column,
                 row,
-                cut,
+                from.cut,
                 from.shifts,
                 histogram,
             );
@@ -160,12 +153,12 @@ pub fn slide(
             file,
             plan,
             a,
-            below,
-            &entering[0..n],
-            &leaving[0..k],
+            from.running.below,
+            entering,
+            leaving,
             column,
             row,
-            cut,
+            from.cut,
             from.shifts,
             balance_box,
             counts,
@@ -173,9 +166,7 @@ pub fn slide(
             histogram,
         );
     }
-    let carried = from.running;
-    let former = carried.sums;
-    let count = former.count + n / 2 - k / 2;
+    let count = from.running.sums.count + n - k;
     joint_table::visit(
         file,
         plane,
@@ -185,7 +176,7 @@ pub fn slide(
         column,
         row,
         count,
-        cut,
+        from.cut,
         from.shifts,
         balance_box,
         counts,

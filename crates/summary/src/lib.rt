@@ -5,7 +5,6 @@ ghost use Rattle.std.specs.Prelude.{◌≡◌, ◌++◌, ◌<◌, ◌≤◌, len
 ghost use Rattle.spec.specs.Frame.{frame_of};
 ghost use Rattle.spec.specs.Checks.{Planned};
 ghost use Rattle.spec.specs.Coarse as definitions;
-ghost use Rattle.summary.specs.Summary.{Cleared};
 
 use balance::is_empty;
 use pixels::sums;
@@ -14,18 +13,6 @@ use weight_sums::{add_window, weights_of};
 
 const BLOCK: usize = spec::BLOCK as usize;
 
-// 0 in the first n places.
-pub fn clear(summary: &mut [i64], n: usize)
-    requires { n ≤ length summary.old }
-    ensures { Cleared n n summary.old summary.new }
-{
-    let mut k = 0;
-    while k < n {
-        summary[k] = 0;
-        k += 1;
-    }
-}
-
 // The summary of the window at (s, t), whatever its numbers held: 0 in each block where it has no reading.
 pub fn fill(file: &[u8], plan: Plan, s: usize, t: usize, summary: &mut [i64])
     requires planned { (Planned file.now plan) × (s < plan.width) × (t < plan.height) }
@@ -33,23 +20,23 @@ pub fn fill(file: &[u8], plan: Plan, s: usize, t: usize, summary: &mut [i64])
     ensures { summary.new ≡ definitions.summary (frame_of file.now) s t
         ++ drop (definitions.block_count (frame_of file.now).set) summary.old }
 {
-    let n = (plan.levels + (BLOCK - 1)) / BLOCK;
-    clear(summary, n);
+    let n = plan.levels.div_ceil(BLOCK);
+    let blocks = &mut summary[..n];
+    blocks.fill(0);
     let a = sums::start(file, plan, s, t);
     if is_empty(a) {
         return;
     }
-    let mut row = [0u16; 256];
-    let c = weights_of(file, plan, a, s, t, &mut row);
-    let formula = c.formula;
+    let mut row = [0; 256];
+    let counted = weights_of(file, plan, a, s, t, &mut row);
     add_window(
         file,
         plan,
         &row,
-        formula,
+        counted.formula,
         s,
         t,
         spec::BLOCK_BITS,
-        &mut summary[0..n],
+        blocks,
     );
 }

@@ -4,20 +4,15 @@ use mathlib.Core.Path.{◌≡◌, refl, sym, ap, ap₂, ◌∙◌}
 use mathlib.Core.Bool.{true}
 use mathlib.Core.Logic.{⊎_elim}
 use mathlib.Core.List.{List, []}
-use Prim.Native.Nat.{ℕ, ◌+◌, ◌-◌, ◌*◌, ◌^◌, ◌≤◌, ◌<◌}
+use Prim.Native.Nat.{ℕ, ◌+◌, ◌-◌, ◌*◌, ◌≤◌, ◌<◌}
 use native.Mathlib.Omega.{arith}
 use lib.Dec.{eqb}
-use lib.ListN.{length, get_or, set, length-set}
+use lib.ListN.{length, get_or, set, replicate, length-set, length-replicate, get_or-replicate, get_or-eq_default}
 use lib.Seq.{get_or-set_same, get_or-set_other}
 use lib.IntN.{ℤ, pos, nat_abs, ◌+ℤ◌, +ℤ_idr, +ℤ_assoc}
-use lib.Signed.{mag}
 use borrow.Author.Tests.{eq-eqb, ne_eqb}
-use mir.Syntax.{w64}
-use mir.Val.{hbits, to_z, of_z}
-use mir.Facts.{to_z-of_z}
 use Rattle.ints.specs.Bound.{abs-add}
-use Rattle.ints.specs.Order.{eq-or-ne}
-use Rattle.ints.specs.Machine.{read-bounded}
+use Rattle.ints.specs.Order.{eq-or-ne, lt-or-le}
 use Rattle.spec.specs.declared.Plan.{Plan}
 use Rattle.std.specs.Prelude.{if◌then◌else◌}
 use Rattle.spec.specs.Frame.{Frame, frame_of}
@@ -29,6 +24,7 @@ use Rattle.spec.proofs.Sums.{over-empty}
 use Rattle.spec.proofs.Own.{empty-count}
 use Rattle.window.specs.declared.line.Line.{Line}
 use Rattle.window.specs.Line.{column_line}
+use Rattle.pixels.specs.declared.Pixel.{Pixel}
 use Rattle.pixels.specs.Pixels.{count_of, level_in, guide_in, pixel_fold_to, pixel_fold, columns_fold, LinePixels}
 use Rattle.pixels.proofs.AdditiveLaws.{pixels-none, pixels-more, high-abs, columns-none, columns-more, columns-window}
 use Rattle.balance.specs.declared.formula.Formula.{Formula}
@@ -48,13 +44,13 @@ module _ (width : ℕ) (ns : List ℕ) (w : Formula) (i g : ℕ) where
   share-away b d = rw (ne_eqb (block_of width i) b (λ e. d (sym e)))
 
 -- ---- along a list
-pub added_none : (width : ℕ) (p ns : List ℕ) (w : Formula) (xs : List ℤ) → BlocksAdded width p ns w 0 xs xs
+pub added_none : (width : ℕ) (p : List Pixel) (ns : List ℕ) (w : Formula) (xs : List ℤ) → BlocksAdded width p ns w 0 xs xs
 added_none width p ns w xs = record {
   long = refl;
   blocks = λ b. rw (pixels-none ◌+ℤ◌ (pos 0) p (block_share width ns w b)) (sym (+ℤ_idr (get_or xs b (pos 0))));
 }
 
-module _ (width : ℕ) {p ns : List ℕ} {w : Formula} (v : PixelsWeighed p ns w) where
+module _ (width : ℕ) {p : List Pixel} {ns : List ℕ} {w : Formula} (v : PixelsWeighed p ns w) where
   abbrev added : ℕ → ℕ → ℤ
   added b k = pixel_fold_to ◌+ℤ◌ (pos 0) p (block_share width ns w b) k
 
@@ -80,47 +76,30 @@ module _ (width : ℕ) {p ns : List ℕ} {w : Formula} (v : PixelsWeighed p ns w
     pub place_in : block < length ys
     place_in = omega (arith, r.inside k h, g.long)
 
-    sum_low : nat_abs sum ≤ 173129780571075
+    pub sum_low : nat_abs sum ≤ 172949624712000
     sum_low = rw (g.blocks block)
         (omega (arith, abs-add (get_or xs block (pos 0)) (added block k), r.low k h, list-abs block k (omega arith), v.few))
 
-    sum_back : to_z w64 (of_z w64 sum) ≡ sum
-    sum_back = read-bounded w64 {z = sum} 173129780571075 sum_low tt
+    pub added_next : (value : ℤ) → value ≡ sum +ℤ weight_by ns w (guide_in p k) → BlocksAdded width p ns w (k + 1) xs (set ys block value)
+    added_next value is = record {
+      long = length-set ys block _ ∙ g.long;
+      blocks = λ b. ⊎_elim (at_block b) (off-block b) (eq-or-ne b block) ∙ more b;
+    }
+      where
+        share : ℕ → ℤ
+        share b = block_share width ns w b (level_in p k) (guide_in p k)
 
-    module _ (y : ℤ) (ey : y ≡ weight_by ns w (guide_in p k)) where
-      back : to_z w64 (of_z w64 y) ≡ weight_by ns w (guide_in p k)
-      back = ap (λ (q : ℤ). to_z w64 (of_z w64 q)) ey ∙ read-bounded w64 {z = weight_by ns w (guide_in p k)} 180155859075 (v.low k h) tt
+        at_block : (b : ℕ) → b ≡ block → get_or (set ys block value) b (pos 0) ≡ get_or ys b (pos 0) +ℤ share b
+        at_block b q = rw q (get_or-set_same ys block value (pos 0) place_in ∙ is
+            ∙ ap (λ (u : ℤ). sum +ℤ u) (sym (share-here width ns w (level_in p k) (guide_in p k) block refl)))
 
-      pub sum-asks : (nat_abs (to_z w64 (of_z w64 sum)) ≤ 173129780571075) × (nat_abs (to_z w64 (of_z w64 y)) ≤ 173129780571075)
-      sum-asks = (rw sum_back sum_low, rw back (omega (arith, v.low k h)))
+        off-block : (b : ℕ) → (b ≡ block → ⊥) → get_or (set ys block value) b (pos 0) ≡ get_or ys b (pos 0) +ℤ share b
+        off-block b d = get_or-set_other ys block b value (pos 0) d ∙ sym (+ℤ_idr (get_or ys b (pos 0)))
+            ∙ ap (λ (u : ℤ). get_or ys b (pos 0) +ℤ u) (sym (share-away width ns w (level_in p k) (guide_in p k) b d))
 
-      pub added_next : (z : ℤ) → mag z < 2 ^ hbits w64 → z ≡ to_z w64 (of_z w64 sum) +ℤ to_z w64 (of_z w64 y)
-          → BlocksAdded width p ns w (k + 1) xs (set ys block (to_z w64 (of_z w64 z)))
-      added_next z m e = record {
-        long = length-set ys block _ ∙ g.long;
-        blocks = λ b. ⊎_elim (at_block b) (off-block b) (eq-or-ne b block) ∙ more b;
-      }
-        where
-          value : ℤ
-          value = to_z w64 (of_z w64 z)
-
-          is : value ≡ sum +ℤ weight_by ns w (guide_in p k)
-          is = to_z-of_z {w = w64} (record { sfits = m }) ∙ e ∙ ap₂ ◌+ℤ◌ sum_back back
-
-          share : ℕ → ℤ
-          share b = block_share width ns w b (level_in p k) (guide_in p k)
-
-          at_block : (b : ℕ) → b ≡ block → get_or (set ys block value) b (pos 0) ≡ get_or ys b (pos 0) +ℤ share b
-          at_block b q = rw q (get_or-set_same ys block value (pos 0) place_in ∙ is
-              ∙ ap (λ (u : ℤ). sum +ℤ u) (sym (share-here width ns w (level_in p k) (guide_in p k) block refl)))
-
-          off-block : (b : ℕ) → (b ≡ block → ⊥) → get_or (set ys block value) b (pos 0) ≡ get_or ys b (pos 0) +ℤ share b
-          off-block b d = get_or-set_other ys block b value (pos 0) d ∙ sym (+ℤ_idr (get_or ys b (pos 0)))
-              ∙ ap (λ (u : ℤ). get_or ys b (pos 0) +ℤ u) (sym (share-away width ns w (level_in p k) (guide_in p k) b d))
-
-          more : (b : ℕ) → get_or ys b (pos 0) +ℤ share b ≡ get_or xs b (pos 0) +ℤ added b (k + 1)
-          more b = ap (λ (u : ℤ). u +ℤ share b) (g.blocks b) ∙ +ℤ_assoc (get_or xs b (pos 0)) (added b k) (share b)
-              ∙ ap (λ (u : ℤ). get_or xs b (pos 0) +ℤ u) (sym (pixels-more ◌+ℤ◌ (pos 0) p (block_share width ns w b) k))
+        more : (b : ℕ) → get_or ys b (pos 0) +ℤ share b ≡ get_or xs b (pos 0) +ℤ added b (k + 1)
+        more b = ap (λ (u : ℤ). u +ℤ share b) (g.blocks b) ∙ +ℤ_assoc (get_or xs b (pos 0)) (added b k) (share b)
+            ∙ ap (λ (u : ℤ). get_or xs b (pos 0) +ℤ u) (sym (pixels-more ◌+ℤ◌ (pos 0) p (block_share width ns w b) k))
 
 -- ---- column by column: what a pixel of the window adds to block j, and the sums with the first k columns in them
 abbrev window_share : ℕ → Frame → ℕ → ℕ → ℕ → ℕ → ℕ → ℤ
@@ -141,7 +120,7 @@ columns-start width b z s t x g = record {
 module _ (width : ℕ) {b : List ℕ} {z : Plan} {s t : ℕ} {ns : List ℕ} {w : Formula} (wd : Weighed b z s t ns w)
     (gives : Weighs (frame_of b) s t ns w) where
   -- a column's list p
-  module _ {d : Line} {p : List ℕ} (v : LinePixels b [] z d p) where
+  module _ {d : Line} {p : List Pixel} (v : LinePixels b [] z d p) where
     list-adds : (j : ℕ) → pixel_fold ◌+ℤ◌ (pos 0) p (block_share width ns w j) ≡ pixel_fold ◌+ℤ◌ (pos 0) p (window_share width (frame_of b) s t j)
     unfolding pixel_fold_to block_share
     list-adds j =
@@ -183,6 +162,13 @@ module _ (width : ℕ) {b : List ℕ} {z : Plan} {s t : ℕ} {ns : List ℕ} {w 
     long = g.long;
     blocks = λ j. g.blocks j ∙ columns-window ◌+ℤ◌ (pos 0) b [] z x t (window_share width (frame_of b) s t j) wd.planned s ex en;
   }
+
+-- ---- zeros to begin with
+pub zeros-made : (n : ℕ) → Zeros (replicate n (pos 0))
+zeros-made n = record {
+  zero = λ b. ⊎_elim (λ h. get_or-replicate n b (pos 0) (pos 0) h) (λ h. get_or-eq_default (replicate n (pos 0)) (pos 0)
+      (omega (arith, length-replicate {A = ℤ} n (pos 0)))) (lt-or-le b n);
+}
 
 -- a window with no reading adds nothing
 pub gathered-empty : (width : ℕ) {p : Frame} {s t : ℕ} → empty p s t ≡ true → {xs : List ℤ} → Zeros xs → Gathered width p s t xs xs

@@ -4,6 +4,7 @@ use Rattle.std.specs.Prelude.{◌≡◌, List, ℕ, ◌/◌, ◌≤◌, ◌<◌,
 use Rattle.spec.specs.Frame.{Frame, level, guide}
 use Rattle.spec.specs.Window.{Σℤ}
 use Rattle.spec.specs.Weight.{weightless, weight}
+use Rattle.pixels.specs.declared.Pixel.{Pixel}
 use Rattle.pixels.specs.Pixels.{count_of, level_in, pixel_fold_to}
 use Rattle.balance.specs.declared.formula.Formula.{Formula}
 use Rattle.balance.specs.Formula.{weight_by, Weighs}
@@ -28,12 +29,12 @@ unfoldable pub block_share : ℕ → List ℕ → Formula → ℕ → ℕ → �
 block_share width row formula b i g = if eqb (block_of width i) b then weight_by row formula g else pos 0
 
 -- the blocks of a list's pixels are among the sums xs, and there is room for the list in each
-pub record LineBlocks (width : ℕ) (p : List ℕ) (xs : List ℤ) : Type 0 where
+pub record LineBlocks (width : ℕ) (p : List Pixel) (xs : List ℤ) : Type 0 where
   pub inside : (k : ℕ) → k < count_of p → block_of width (level_in p k) < length xs
   pub low : (k : ℕ) → k < count_of p → nat_abs (get_or xs (block_of width (level_in p k)) (pos 0)) ≤ 167544948939750
 
 -- the list's first k pixels have been added
-pub record BlocksAdded (width : ℕ) (p row : List ℕ) (formula : Formula) (k : ℕ) (xs ys : List ℤ) : Type 0 where
+pub record BlocksAdded (width : ℕ) (p : List Pixel) (row : List ℕ) (formula : Formula) (k : ℕ) (xs ys : List ℤ) : Type 0 where
   pub long : length ys ≡ length xs
   pub blocks : (b : ℕ) → get_or ys b (pos 0) ≡ get_or xs b (pos 0) +ℤ pixel_fold_to ◌+ℤ◌ (pos 0) p (block_share width row formula b) k
 

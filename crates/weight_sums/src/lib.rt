@@ -12,9 +12,10 @@ ghost use Rattle.balance.specs.Balance.{signed_by, balance_by, PixelsWeighed, We
 ghost use Rattle.weight_sums.specs.Sums.{CountedBy, LineBlocks, BlocksAdded, Zeros, BlocksFit, Gathered};
 
 use balance::formula::Formula;
-use balance::{add, formula, guided_formula, ones_if_hollow, table_row};
-use spec::{Guide, Level, Plan};
-use window::line::{column_line, low, span_of};
+use balance::{guided_formula, ones_if_hollow, table_row};
+use pixels::Pixel;
+use spec::Plan;
+use window::line::{column_line, span_of};
 use window::pixel;
 use window::sums::Sums;
 
@@ -35,50 +36,44 @@ pub fn weights_of(
     t: usize,
     row: &mut [u16; 256],
 ) -> Counting
-    requires planned { (Planned file.now plan) × (s < plan.width) × (t < plan.height) × (length row.old ≡ 256) }
+    requires planned { (Planned file.now plan) × (s < plan.width) × (t < plan.height) }
     requires sums_at { (SumsAt (frame_of file.now) s t a) × (empty (frame_of file.now) s t ≡ false) }
     ensures { CountedBy (frame_of file.now) s t row.new result }
 {
     if plan.kind == 2 {
-        let guided = guided_formula(file, plan, a, s, t, row);
         return Counting {
-            formula: guided,
+            formula: guided_formula(file, plan, a, s, t, row),
             hollow: false,
         };
     }
     let centre = pixel::guide_at(file, plan, t * plan.width + s);
     table_row(file, plan, centre, row);
     let hollow = ones_if_hollow(file, plan, s, t, row);
-    let table = Formula {
-        slope: 1,
-        offset: 0,
-    };
     Counting {
-        formula: table,
+        formula: Formula::TABLE,
         hollow,
     }
 }
 
 // A list's pixels, each added to its block of 2 ^ bits levels; and what they weigh together, which is their balance at a level that none is above.
-pub fn add_pixels(p: &[u16], weights: &[u16], formula: Formula, bits: u32, sums: &mut [i64]) -> i64
-    requires { (PixelsWeighed p.now weights.now formula) × (LineBlocks (2 ^ bits) p.now sums.old) × (bits < 16) }
-    ensures { (BlocksAdded (2 ^ bits) p.now weights.now formula (count_of p.now)
+pub fn add_pixels(
+    pixels: &[Pixel],
+    weights: &[u16],
+    formula: Formula,
+    bits: u32,
+    sums: &mut [i64],
+) -> i64
+    requires { (PixelsWeighed pixels.now weights.now formula) × (LineBlocks (2 ^ bits) pixels.now sums.old) × (bits < 16) }
+    ensures { (BlocksAdded (2 ^ bits) pixels.now weights.now formula (count_of pixels.now)
         sums.old sums.new)
-        × (result ≡ pixel_fold ◌+ℤ◌ (pos 0) p.now (signed_by weights.now formula 65535)) }
+        × (result ≡ pixel_fold ◌+ℤ◌ (pos 0) pixels.now (signed_by weights.now formula 65535)) }
 {
-    let n = p.len() / 2;
-    let mut total: i64 = 0;
-    let mut k = 0;
-    while k < n {
-        let at = 2 * k;
-        let next = at + 1;
-        let b = (Level(p[at]).0 as usize) >> bits;
-        let g = Guide(p[next]);
-        let x = weights[g.0 as usize] as i64;
-        let weight = formula::weigh(formula.slope, formula.offset, x);
-        sums[b] = add(sums[b], weight);
-        total = add(total, weight);
-        k += 1;
+    let mut total = 0;
+    for pixel in pixels {
+        let block = (pixel.value >> bits) as usize;
+        let weight = formula.weigh(weights[pixel.guide.0 as usize]);
+        sums[block] += weight;
+        total += weight;
     }
     total
 }
@@ -99,17 +94,14 @@ pub fn add_window(
     ensures { (Gathered (2 ^ bits) (frame_of file.now) s t sums.old sums.new)
         × (result ≡ balance_by (frame_of file.now) s t weights.now formula 65535) }
 {
-    let x = low(s, plan.radius);
+    let x = s.saturating_sub(plan.radius);
     let n = span_of(s, plan.radius, plan.width);
-    let mut total: i64 = 0;
-    let mut k = 0;
-    while k < n {
-        let mut places = [0u16; 62];
+    let mut total = 0;
+    for k in 0..n {
+        let mut pixels = [Pixel::NONE; 31];
         let line = column_line(plan, x + k, t);
-        let e = pixels::read(file, plan, line, &mut places);
-        let line_total = add_pixels(&places[0..e], weights, formula, bits, sums);
-        total = add(total, line_total);
-        k += 1;
+        let m = pixels::read(file, plan, line, &mut pixels);
+        total += add_pixels(&pixels[..m], weights, formula, bits, sums);
     }
     total
 }
