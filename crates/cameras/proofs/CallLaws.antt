@@ -1,8 +1,8 @@
 -- From what the checks, the schedule and the parts say to the contract of the call.
 -- Assumes nothing.
 use Prim.Native.Nat.{ℕ, zero, suc, ◌+◌, ◌-◌, ◌≤◌, ◌<◌}
-use mathlib.Core.Path.{◌≡◌, refl, sym, ap, ap₂, ◌∙◌, subst}
-use mathlib.Core.Bool.{true, ◌||◌}
+use mathlib.Core.Path.{◌≡◌, refl, sym, ap, ◌∙◌, subst}
+use mathlib.Core.Bool.{◌||◌}
 use mathlib.Core.List.{List, [], ◌∷◌, ◌++◌, map}
 use native.Mathlib.Decide.{dec_lt}
 use native.Mathlib.Omega.{arith}
@@ -10,34 +10,22 @@ use lib.Dec.{ltb}
 use lib.ListN.{length, get_or, replicate, length-append, length-map, length-replicate, get_or-append}
 use lib.Seq.{get_or-append-add}
 use borrow.Author.Tests.{ltb-false}
+use Rattle.std.specs.Prelude.{Ok}
 use Rattle.spec.specs.declared.Round.{Round}
-use Rattle.spec.specs.declared.Verdict.{Verdict}
-use Rattle.spec.specs.declared.Verdict.TheVariants.{Accepted}
-use Rattle.spec.specs.Refusal.{Outcome, accepted, ◌▷◌, refuse, fires, numbered}
+use Rattle.spec.specs.Refusal.{accepted, ◌▷◌, refuse}
 use Rattle.spec.specs.Frame.{frame_of}
 use Rattle.spec.specs.Checks.{verdict}
 use Rattle.spec.specs.Schedule.{opening, periods}
 use Rattle.spec.specs.Cameras.{files_in, total, counts_room, words_room, pixels_in, sizes_of, round_of, bad_batch, verdicts, short_of, cameras_outcome}
 use Rattle.spec.proofs.Checks.{both-accepted, not-fired, neither}
 use Rattle.spec.proofs.Limits.{limits_of}
-use Rattle.schedule.specs.Tallies.{SizesFit, TalliesCounted}
+use Rattle.schedule.specs.Tallies.{SizesFit}
 use Rattle.schedule.proofs.Grants.{total-zeros, tallies-opening, tallies-periods}
-use Rattle.ice_prefix.specs.Prefix.{Parts, parts}
-use Rattle.cameras_checks.proofs.Batch.{fires-not, BatchGood, batch-good}
+use Rattle.ice_prefix.specs.Prefix.{Parts}
+use Rattle.cameras_checks.proofs.Batch.{BatchGood, batch-good}
 use Rattle.cameras_checks.proofs.Reading.{length-files}
-use Rattle.cameras.specs.declared.Granted.{Granted}
 use Rattle.cameras.specs.Parts.{Servable, AllMade}
-use Rattle.cameras.specs.Contract.{outcome_of, NothingGranted, AllKept, Shared, Schedules}
-
--- ---- refused
-pub schedules-refused : (b lengths limits : List ℕ) (held : Parts) (v : Verdict) (r : Granted) → NothingGranted v r → fires (numbered v) ≡ true
-    → numbered v ≡ outcome_of b lengths limits held → Schedules b lengths limits held held r
-schedules-refused b lengths limits held v r h f e =
-    record {
-      verdict = ap numbered h.verdict ∙ e;
-      refused = λ _. record { grants = h.grants; counts = refl; words = refl; answers = refl };
-      shared = λ q. absurd (fires-not f (e ∙ q));
-    }
+use Rattle.cameras.specs.Contract.{outcome_of, Schedules}
 
 -- ---- accepted: what no check has refused
 pub record BatchAccepted (b lengths limits : List ℕ) (held : Parts) : Type 0 where
@@ -148,16 +136,15 @@ servable-by b lengths limits held h =
       answers = h.answers;
     }
 
-pub schedules-done : (b lengths limits : List ℕ) (before after : Parts) (x : Round) → outcome_of b lengths limits before ≡ accepted
+pub schedules-done : (b lengths limits : List ℕ) (before after : Parts) (x : Round) → accepted ≡ outcome_of b lengths limits before
     → x ≡ round_of (files_in lengths b) limits → AllMade (files_in lengths b) x.tallies before after
-    → Schedules b lengths limits before after (record { verdict = Accepted; grants = x.granted })
+    → Schedules b lengths limits before after (Ok x.granted)
 schedules-done b lengths limits before after x o e m =
     record {
-      verdict = sym o;
-      refused = λ n. absurd (n o);
+      verdict = o;
+      refused = λ n. absurd (n (sym o));
       shared = λ _.
           record {
-            verdict = refl;
             grants = ap (λ (y : Round). y.granted) e;
             made = subst (λ (y : Round). AllMade (files_in lengths b) y.tallies before after) e m;
           };

@@ -1,14 +1,14 @@
 -- Each file's part of a buffer by itself, and what lies beyond all parts, from the parts end to end.
 -- Assumes nothing.
-use Prim.Native.Nat.{ℕ, zero, suc, ◌+◌, ◌-◌, ◌*◌, ◌≤◌, ◌<◌}
-use mathlib.Core.Path.{◌≡◌, refl, sym, ap, ap₂, ◌∙◌, subst}
+use Prim.Native.Nat.{ℕ, zero, suc, ◌+◌, ◌≤◌, ◌<◌}
+use mathlib.Core.Path.{◌≡◌, refl, sym, ap, ◌∙◌}
 use mathlib.Core.List.{List, [], ◌∷◌, ◌++◌, map}
 use native.Mathlib.Omega.{arith}
-use lib.ListN.{length, get_or, take, drop, length-append, length-take, length-drop}
-use lib.Seq.{length-take-le, take_at, drop_at, drop-drop, take-append-le, drop-append-add}
+use lib.ListN.{length, get_or, take, drop, length-append, length-drop}
+use lib.Seq.{length-take-le, take_at, drop-drop, drop-append-add}
 use Rattle.spec.specs.declared.Way.TheVariants.{Joint}
 use Rattle.spec.specs.Refusal.{accepted}
-use Rattle.spec.specs.Frame.{frame_of, settings_of, pixels}
+use Rattle.spec.specs.Frame.{frame_of}
 use Rattle.spec.specs.Checks.{verdict}
 use Rattle.spec.specs.Joint.{joint_counts, occupancy_words}
 use Rattle.spec.specs.Walk.{start, walk_answers}

@@ -1,15 +1,14 @@
 -- One file's parts: as lent before its first grant, else what its walk so far leaves.
 -- Assumes nothing.
-use Prim.Native.Nat.{ℕ, zero, suc, ◌+◌, ◌-◌, ◌*◌, ◌≤◌, ◌<◌}
-use mathlib.Core.Path.{◌≡◌, refl, ap, sym, ◌∙◌, subst}
-use mathlib.Core.List.{List, [], ◌∷◌, ◌++◌, append_assoc, append-nil}
+use Prim.Native.Nat.{ℕ, zero, suc, ◌+◌, ◌-◌, ◌*◌, ◌≤◌}
+use mathlib.Core.Path.{◌≡◌, refl, ap, sym, ◌∙◌}
+use mathlib.Core.List.{List, [], ◌++◌, append_assoc, append-nil}
 use native.Mathlib.Omega.{arith}
 use lib.ListN.{length, take, drop, length-take, length-drop, take-append-drop}
 use lib.Seq.{drop-append-le, drop-drop, drop-length, take_all}
 use borrow.Rule.Slice.PartMut.{put_mid}
 use Rattle.spec.specs.declared.Plan.{Plan}
 use Rattle.spec.specs.declared.Room.{Room}
-use Rattle.spec.specs.declared.Settings.{Settings}
 use Rattle.spec.specs.declared.Way.TheVariants.{Joint}
 use Rattle.spec.specs.Refusal.{accepted}
 use Rattle.spec.specs.Frame.{frame_of, plan_of, settings_of, settings_in, pixels}
@@ -23,7 +22,7 @@ use Rattle.ways.specs.Visit.{stores, StoresFit}
 use Rattle.ice_prefix.specs.Prefix.{Parts, parts, Begun}
 use Rattle.cameras_checks.proofs.Reading.{settings-planned}
 use Rattle.cameras.specs.declared.Place.{Place}
-use Rattle.cameras.specs.Parts.{RoomFrom, with_part, PartMade}
+use Rattle.cameras.specs.Parts.{RoomFrom, PartMade}
 
 -- ---- what is known of an accepted file
 pub planned-by : {f : List ℕ} {z : Plan} → verdict f ≡ accepted → z ≡ plan_of f → Planned f z

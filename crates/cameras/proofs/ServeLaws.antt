@@ -1,19 +1,18 @@
 -- The loop over the files: the parts made so far, and those that are left. One law over the buffer serves counts, words and answers.
 -- Assumes nothing.
-use Prim.Native.Nat.{ℕ, zero, suc, ◌+◌, ◌-◌, ◌≤◌, ◌<◌}
-use mathlib.Core.Path.{◌≡◌, refl, sym, ap, ap₂, ◌∙◌, subst}
+use Prim.Native.Nat.{ℕ, suc, ◌+◌, ◌≤◌, ◌<◌}
+use mathlib.Core.Path.{◌≡◌, sym, ap, ap₂, ◌∙◌, subst}
 use mathlib.Core.List.{List, [], ◌∷◌, ◌++◌, map, append_assoc}
-use native.Mathlib.Numerals.{add-one}
 use native.Mathlib.Omega.{arith}
 use lib.ListN.{length, get_or, take, drop, length-append, length-drop, take-append-drop}
-use lib.Seq.{get_or-drop, length-take-le, take_at, drop_at}
+use lib.Seq.{length-take-le, take_at, drop_at}
 use Rattle.spec.specs.Refusal.{accepted}
 use Rattle.spec.specs.Checks.{verdict}
 use Rattle.spec.specs.Cameras.{files_in, total, counts_room, words_room, pixels_in, verdicts, counts_part, words_part, answers_part, end_to_end}
 use Rattle.spec.proofs.Checks.{both-accepted}
 use Rattle.ice_prefix.specs.Prefix.{Parts}
-use Rattle.cameras_checks.proofs.Batch.{left_step}
-use Rattle.cameras_checks.proofs.Reading.{rest, file, rest-step, rest-none, ends, verdict-step}
+use Rattle.cameras_checks.proofs.Batch.{left_step, total_left}
+use Rattle.cameras_checks.proofs.Reading.{rest, file, rest-step, rest-none, verdict-step}
 use Rattle.cameras.specs.declared.Place.{Place}
 use Rattle.cameras.specs.Parts.{RoomFrom, with_part, PartMade, Servable, AllMade}
 
@@ -23,9 +22,6 @@ module _ (room : List ℕ → ℕ) (part : List ℕ → ℕ → List ℕ → Lis
   pub record Left (fs : List (List ℕ)) (ds : List ℕ) (c : ℕ) (held due : List ℕ) : Type 0 where
     pub fits : c + total (map room fs) ≤ length held
     pub comes : take c held ++ end_to_end room part fs ds (drop c held) ≡ due
-
-  pub left-start : (fs : List (List ℕ)) (ds held : List ℕ) → total (map room fs) ≤ length held → Left fs ds 0 held (end_to_end room part fs ds held)
-  left-start fs ds held h = record { fits = omega arith; comes = refl }
 
   -- a part that was lent as long as it comes back has its room's length
   part-long : (f : List ℕ) (d c : ℕ) (held new : List ℕ) → c + room f ≤ length held → new ≡ with_part room part f d c held → length new ≡ length held
@@ -77,7 +73,6 @@ module _ (b lengths tallies : List ℕ) (old : Parts) where
 
   -- i files are served, which end at a byte, and the next one's parts begin at a place
   pub record Serving (held : Parts) (place : Place) (at i : ℕ) : Type 0 where
-    pub most : i ≤ length lengths
     pub here : at + total (drop i lengths) ≡ length b
     pub accepts : verdicts (rest b lengths i at) ≡ accepted
     pub low : (k : ℕ) → k < length (rest b lengths i at) → get_or tallies (i + k) 0 ≤ get_or (map pixels_in (rest b lengths i at)) k 0
@@ -90,21 +85,6 @@ module _ (b lengths tallies : List ℕ) (old : Parts) where
     pub counts-long : length held.counts ≡ length old.counts
     pub words_long : length held.words ≡ length old.words
     pub answers-long : length held.answers ≡ length old.answers
-
-  pub serving-start : Servable b lengths tallies old → (place : Place) → place ≡ record { counts = 0; words = 0; answers = 0 } → Serving old place 0 0
-  serving-start s place e = rw e
-      (record {
-        most = omega arith;
-        here = omega (arith, s.sum);
-        accepts = s.accepts;
-        low = λ k h. let j : 0 + k ≡ k = omega arith in rw j (s.low k h);
-        counts = left-start counts_room counts_part all tallies old.counts s.counts;
-        words = left-start words_room words_part all tallies old.words s.words;
-        answers = left-start pixels_in answers_part all tallies old.answers s.answers;
-        counts-long = refl;
-        words_long = refl;
-        answers-long = refl;
-      })
 
   module _ (s : Servable b lengths tallies old) (held : Parts) (place : Place) (at i : ℕ) (w : Serving held place at i) (h : i < length lengths) where
     abbrev f : List ℕ
@@ -156,8 +136,7 @@ module _ (b lengths tallies : List ℕ) (old : Parts) where
         → length new.words ≡ length held.words → length new.answers ≡ length held.answers → Serving new r (at + get_or lengths i 0) (i + 1)
     serving-more new r m lc lw la =
         record {
-          most = omega arith;
-          here = ends b lengths i at h w.here;
+          here = omega (arith, total_left lengths i h, w.here);
           accepts = (both-accepted (verdict f) (verdicts later) (sym (verdict-step b lengths i at h) ∙ w.accepts)).1;
           low = λ k l. lower k l;
           counts = one_on counts_room counts_part place.counts r.counts _ _ _ w.counts m.counts lc m.next_counts;

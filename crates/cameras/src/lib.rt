@@ -9,27 +9,20 @@ ghost use Rattle.spec.specs.Checks.{verdict};
 ghost use Rattle.spec.specs.Cameras.{files_in, pixels_in};
 ghost use Rattle.ice_prefix.specs.Prefix.{parts};
 ghost use Rattle.cameras.specs.Parts.{RoomFrom, PartMade, Servable, AllMade};
-ghost use Rattle.cameras.specs.Contract.{NothingGranted, Schedules};
+ghost use Rattle.cameras.specs.Contract.{Schedules};
 
 use cameras_checks::check_batch;
 use checks_room::needed;
 use frame_trailer::plan_of;
 use ice_prefix::begin;
-use spec::{Verdict, Way, stops};
+use spec::{Refusal, Way};
 
 // Where a file's parts of the three buffers begin.
-#[derive(Clone, Copy)]
+#[derive(Clone, Copy, Default)]
 pub struct Place {
     pub counts: usize,
     pub words: usize,
     pub answers: usize,
-}
-
-// What the call gives back beside the buffers: the verdict, and how many grants were made (0 where refused).
-#[derive(Clone, Copy)]
-pub struct Granted {
-    pub verdict: Verdict,
-    pub grants: u64,
 }
 
 // The parts of one file, of which so many pixels are answered: as lent where there is none. Gives where the next file's parts begin.
@@ -48,13 +41,10 @@ fn serve_file(
 {
     let plan = plan_of(file);
     let room = needed(Way::Joint, plan);
-    let c = from.counts;
-    let w = from.words;
-    let a = from.answers;
     let next = Place {
-        counts: c + room.counts,
-        words: w + room.words,
-        answers: a + plan.width * plan.height,
+        counts: from.counts + room.counts,
+        words: from.words + room.words,
+        answers: from.answers + plan.width * plan.height,
     };
     if tally == 0 {
         return next;
@@ -63,14 +53,15 @@ fn serve_file(
         file,
         plan,
         tally,
-        &mut counts[c..],
-        &mut words[w..],
-        &mut answers[a..],
+        &mut counts[from.counts..],
+        &mut words[from.words..],
+        &mut answers[from.answers..],
     );
     next
 }
 
 // The parts of all files, end to end.
+#[tactic(auto, using(cameras_checks::proofs::Batch::total_left))]
 fn serve_files(
     files: &[u8],
     lengths: &[usize],
@@ -84,29 +75,17 @@ fn serve_files(
         (parts counts.old words.old answers.old)
         (parts counts.new words.new answers.new) }
 {
-    let mut place = Place {
-        counts: 0,
-        words: 0,
-        answers: 0,
-    };
+    let mut place = Place::default();
     let mut at = 0;
-    let mut i = 0;
-    while i < lengths.len() {
-        let end = at + lengths[i];
+    for (i, n) in lengths.iter().enumerate() {
+        let end = at + *n;
         place = serve_file(&files[at..end], tallies[i], place, counts, words, answers);
         at = end;
-        i += 1;
     }
 }
 
-// The result of a refused call.
-fn refused(verdict: Verdict) -> Granted
-    ensures { NothingGranted verdict result }
-{
-    Granted { verdict, grants: 0 }
-}
-
-// The files filtered by way 1 as far as the grants of the periods reach; what it promises is one record, for refusals too.
+// The files filtered by way 1 as far as the grants of the periods reach, and how many grants were made; what it promises is one record, for refusals
+// too.
 pub fn cameras(
     files: &[u8],
     lengths: &[usize],
@@ -114,30 +93,20 @@ pub fn cameras(
     counts: &mut [u16],
     words: &mut [u64],
     answers: &mut [u16],
-) -> Granted
+) -> Result<u64, Refusal>
     ensures { Schedules files.now lengths.now limits.now
         (parts counts.old words.old answers.old)
         (parts counts.new words.new answers.new) result }
 {
-    let checked = check_batch(
+    let totals = check_batch(
         files,
         lengths,
         limits,
         counts.len(),
         words.len(),
         answers.len(),
-    );
-    let v = checked.verdict;
-    if stops(v) {
-        return refused(v);
-    }
-    let totals = checked.totals;
-    let sizes = totals.sizes;
-    let round = schedule::run(sizes, limits);
-    let tallies = round.tallies;
-    serve_files(files, lengths, tallies, counts, words, answers);
-    Granted {
-        verdict: Verdict::Accepted,
-        grants: round.granted,
-    }
+    )?;
+    let round = schedule::run(totals.sizes, limits);
+    serve_files(files, lengths, round.tallies, counts, words, answers);
+    Ok(round.granted)
 }

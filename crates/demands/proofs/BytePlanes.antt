@@ -8,9 +8,9 @@ use Prim.Native.Nat.{ℕ, ◌+◌, ◌-◌, ◌*◌, ◌<◌}
 use native.Mathlib.Omega.{arith}
 use lib.ListN.{length, get_or, take, drop, length-append, length-drop, get_or-append}
 use lib.Seq.{take_at, get_or-append-add, get_or-drop}
-use Rattle.spec.specs.declared.Verdict.{Verdict}
-use Rattle.spec.specs.declared.Verdict.TheVariants.{Accepted, Refused}
-use Rattle.spec.specs.Refusal.{Outcome, accepted, refused, numbered}
+use Rattle.std.specs.Prelude.{Result, Ok, Err}
+use Rattle.spec.specs.declared.Refusal.{Refusal}
+use Rattle.spec.specs.Refusal.{Outcome, accepted, refused, numbered, number, values_of}
 use Rattle.spec.specs.Frame.{pixels, settings_of, plan_of}
 use Rattle.spec.specs.Checks.{trailer_outcome}
 use Rattle.spec.specs.Writer.{stored}
@@ -32,10 +32,10 @@ use Rattle.spec.proofs.BytePlanes.{
 use Rattle.byte_planes.specs.Contract.{Joins}
 use Rattle.demands.specs.Demands.{SplitOrRefused, JoinedOrRefused, EveryByte, Restored, In, SharedByte, Request8}
 
--- ---- a verdict and its outcome, and the output that it leads to
-pub accepted-verdict : (v : Verdict) → numbered v ≡ accepted → v ≡ Accepted
-accepted-verdict Accepted e = refl
-accepted-verdict (Refused r) e = absurd (not-refused e)
+-- ---- an accepted call that gives no value, and the output that an outcome leads to
+accepts-ok : (r : Result (Unit {0}) Refusal) → numbered r ≡ accepted → r ≡ Ok tt
+accepts-ok (Ok x) e = refl
+accepts-ok (Err r) e = absurd (not-refused e)
 
 join-trailer : (b : List ℕ) (room : ℕ) → join_outcome b room ≡ accepted → trailer_outcome b ≡ accepted
 unfolding join_outcome
@@ -47,34 +47,23 @@ left new old e f h = f ∙ ap (λ (x : Outcome). stored x new old) e ∙ ap (λ 
 
 -- ---- demand 1
 pub split-or-refused : SplitOrRefused
-split-or-refused b old r new h = by (split_outcome b (length old)) refl
-  where
-    by : (o : Outcome) → split_outcome b (length old) ≡ o
-        → ((r ≡ Accepted) × (split_outcome b (length old) ≡ accepted) × (new ≡ split_file b ++ drop (length b) old))
-        ⊎ ((n : ℕ) × (l : List ℕ) × (numbered r ≡ refused n l) × (split_outcome b (length old) ≡ refused n l) × (new ≡ old))
-    by accepted e =
-        let ok = (split-passed b (length old) e).trailer in
-        inl (accepted-verdict r (h.verdict ∙ e), e, left (split_file b) old e h.output (file-split-long b ok))
-    by (refused n l) e = inr (n, l, h.verdict ∙ e, e, h.output ∙ ap (λ (x : Outcome). stored x (split_file b) old) e)
+split-or-refused b old (Ok x) new h =
+    let e = sym h.verdict in
+    inl (refl, e, left (split_file b) old e h.output (file-split-long b (split-passed b (length old) e).trailer))
+split-or-refused b old (Err r) new h =
+    inr (number r, values_of r, refl, sym h.verdict, h.output ∙ ap (λ (x : Outcome). stored x (split_file b) old) (sym h.verdict))
 
 pub joined-or-refused : JoinedOrRefused
-joined-or-refused b old r new h = by (join_outcome b (length old)) refl
-  where
-    by : (o : Outcome) → join_outcome b (length old) ≡ o
-        → ((r ≡ Accepted) × (join_outcome b (length old) ≡ accepted) × (new ≡ joined_file b ++ drop (length b) old))
-        ⊎ ((n : ℕ) × (l : List ℕ) × (numbered r ≡ refused n l) × (join_outcome b (length old) ≡ refused n l) × (new ≡ old))
-    by accepted e =
-        inl (
-          accepted-verdict r (h.verdict ∙ e),
-          e,
-          left (joined_file b) old e h.output (file-joined-long b (join-trailer b (length old) e)),
-        )
-    by (refused n l) e = inr (n, l, h.verdict ∙ e, e, h.output ∙ ap (λ (x : Outcome). stored x (joined_file b) old) e)
+joined-or-refused b old (Ok x) new h =
+    let e = sym h.verdict in
+    inl (refl, e, left (joined_file b) old e h.output (file-joined-long b (join-trailer b (length old) e)))
+joined-or-refused b old (Err r) new h =
+    inr (number r, values_of r, refl, sym h.verdict, h.output ∙ ap (λ (x : Outcome). stored x (joined_file b) old) (sym h.verdict))
 
 -- ---- every byte
 every_byte : EveryByte
-every_byte b old r new h took =
-    let o : split_outcome b (length old) ≡ accepted = sym h.verdict ∙ ap numbered took in
+every_byte b old new h =
+    let o : split_outcome b (length old) ≡ accepted = sym h.verdict in
     let p = split-passed b (length old) o in
     let ok = p.trailer in
     let v = (plan_of b).value in
@@ -101,8 +90,8 @@ every_byte b old r new h took =
 
 -- ---- joined again
 call-restores : Restored
-call-restores b old old' r r' new new' h took room j =
-    let o : split_outcome b (length old) ≡ accepted = sym h.verdict ∙ ap numbered took in
+call-restores b old old' r' new new' h room j =
+    let o : split_outcome b (length old) ≡ accepted = sym h.verdict in
     let ok = (split-passed b (length old) o).trailer in
     let long = file-split-long b ok in
     let c = split_file b in
@@ -112,7 +101,7 @@ call-restores b old old' r r' new new' h took room j =
     let o' : join_outcome c (length old') ≡ accepted = split-joins b (length old) (length old') o room in
     let is : new' ≡ b ++ drop (length b) old' =
     left b old' o' (k.output ∙ ap (λ (l : List ℕ). stored (join_outcome c (length old')) l old') (restored b ok)) refl in
-    (accepted-verdict r' (k.verdict ∙ o'), ap (take (length b)) is ∙ take_at b (drop (length b) old') (length b) refl)
+    (accepts-ok r' (k.verdict ∙ o'), ap (take (length b)) is ∙ take_at b (drop (length b) old') (length b) refl)
 
 -- ---- check 14
 shared-byte : SharedByte

@@ -7,10 +7,11 @@ use mathlib.Core.List.{List, [], ◌∷◌, ◌++◌, map}
 use native.Mathlib.Omega.{arith}
 use lib.ListN.{length, get_or, take, drop, get_or-append}
 use lib.Seq.{get_or-take, get_or-drop, length-take-le}
-use Rattle.spec.specs.declared.Verdict.TheVariants.{Accepted}
+use Rattle.std.specs.Prelude.{Ok, Err}
 use Rattle.spec.specs.declared.Round.{Round}
 use Rattle.spec.specs.declared.Way.TheVariants.{Joint}
-use Rattle.spec.specs.Refusal.{Outcome, accepted, refused, numbered}
+use Rattle.spec.specs.Refusal.{accepted, refused, numbered, number, values_of}
+use Rattle.spec.proofs.Checks.{not-refused}
 use Rattle.spec.specs.Frame.{Frame, frame_of, pixels}
 use Rattle.spec.specs.Checks.{verdict}
 use Rattle.spec.specs.Walk.{walk_end, walk_answers}
@@ -37,7 +38,6 @@ use Rattle.ice.specs.Contract.{Filters}
 use Rattle.ice_prefix.specs.Prefix.{Parts}
 use Rattle.schedule.proofs.Grants.{grants-add}
 use Rattle.schedule.proofs.Fairness as fairness
-use Rattle.cameras.specs.declared.Granted.{Granted}
 use Rattle.cameras.specs.Parts.{Servable, AllMade}
 use Rattle.cameras.specs.Contract.{outcome_of, AllKept, Shared, Schedules}
 use Rattle.cameras.proofs.CallLaws.{BatchAccepted, batch-accepted, sizes-fit, sizes-total, servable-by}
@@ -57,21 +57,12 @@ use Rattle.demands.specs.Cameras.{
   AllGranted,
   Request9,
 }
-use Rattle.demands.proofs.BytePlanes.{accepted-verdict}
 
 -- ---- demand 1
 pub shared-or-refused : SharedOrRefused
-shared-or-refused b lengths limits before after r h = by (outcome_of b lengths limits before) refl
-  where
-    by : (o : Outcome) → outcome_of b lengths limits before ≡ o
-        → ((r.verdict ≡ Accepted) × (outcome_of b lengths limits before ≡ accepted) × Shared (files_in lengths b) limits before after r)
-        ⊎ ((n : ℕ) × (l : List ℕ) × (numbered r.verdict ≡ refused n l) × (outcome_of b lengths limits before ≡ refused n l)
-        × AllKept before after r)
-    by accepted e = inl (accepted-verdict r.verdict (h.verdict ∙ e), e, h.shared e)
-    by (refused n l) e = inr (n, l, h.verdict ∙ e, e, h.refused (λ q. not-both (sym q ∙ e)))
-      where
-        not-both : accepted ≡ refused n l → ⊥
-        not-both q = let z : ◌≡◌ {A = ℕ} 0 1 = cc in omega arith
+shared-or-refused b lengths limits before after (Ok g) h = inl (g, refl, sym h.verdict, h.shared (sym h.verdict))
+shared-or-refused b lengths limits before after (Err e) h =
+    inr (number e, values_of e, refl, sym h.verdict, h.refused (λ q. not-refused (h.verdict ∙ q)))
 
 -- ---- request 9: what an accepted call has
 pub filtered-long : (p : Frame) → length (filtered p) ≡ pixels p.set
@@ -82,13 +73,12 @@ in_frame : (f : List ℕ) (i : ℕ) → i < pixels_in f → i < pixels (frame_of
 unfolding frame_of
 in_frame f i h = h
 
-module _ (b lengths limits : List ℕ) (before after : Parts) (r : Granted) (h : Schedules b lengths limits before after r)
-    (ok : r.verdict ≡ Accepted) where
+module _ (b lengths limits : List ℕ) (before after : Parts) (g : ℕ) (h : Schedules b lengths limits before after (Ok g)) where
   abbrev fs : List (List ℕ)
   fs = files_in lengths b
 
   outcome : outcome_of b lengths limits before ≡ accepted
-  outcome = sym h.verdict ∙ ap numbered ok
+  outcome = sym h.verdict
 
   batch : BatchAccepted b lengths limits before
   batch = batch-accepted b lengths limits before outcome
@@ -171,13 +161,13 @@ module _ (b lengths limits : List ℕ) (before after : Parts) (r : Granted) (h :
         ∙ filtered-walk good i n
 
 each_part : EachPartGiven
-each_part b lengths limits before after r h ok = each b lengths limits before after r h ok
+each_part b lengths limits before after g h = each b lengths limits before after g h
 
 as-alone : AsAlone
-as-alone b lengths limits before after r h ok k l way before' after' old new w g gok i q =
-    let e = g.filtered (sym g.verdict ∙ ap numbered gok) in
-    walked b lengths limits before after r h ok k l i q
-    ∙ sym (filter-there b lengths limits before after r h ok k l i (omega (arith, low b lengths limits before after r h ok k l)) new old e.answers)
+as-alone b lengths limits before after g h k l way before' after' old new w f i q =
+    let e = f.filtered (sym f.verdict) in
+    walked b lengths limits before after g h k l i q
+    ∙ sym (filter-there b lengths limits before after g h k l i (omega (arith, low b lengths limits before after g h k l)) new old e.answers)
 
 within-eight : WithinEight
 within-eight sizes m k l u =
@@ -186,10 +176,10 @@ within-eight sizes m k l u =
 
 all-granted : AllGranted
 unfolding round_of
-all-granted b lengths limits before after r h ok =
+all-granted b lengths limits before after g h =
     let fs = files_in lengths b in
-    let a = batch b lengths limits before after r h ok in
-    (h.shared (outcome b lengths limits before after r h ok)).grants
+    let a = batch b lengths limits before after g h in
+    (h.shared (outcome b lengths limits before after g h)).grants
     ∙ fairness.all-granted (sizes_of fs) (sizes-fit fs (omega (arith, length-files lengths b, a.good.few)) a.files) limits
     ∙ ap (min (total limits)) (sizes-total fs)
 
@@ -198,7 +188,7 @@ request-9 =
     record {
       parts = each_part;
       alone = as-alone;
-      tallies = λ b lengths limits before after r h ok. low b lengths limits before after r h ok;
+      tallies = λ b lengths limits before after g h. low b lengths limits before after g h;
       fair = within-eight;
       one_list = λ sizes limits. fairness.periods-grants sizes limits opening;
       granted = all-granted;

@@ -19,8 +19,8 @@ use Rattle.spec.specs.declared.Cause.{Cause}
 use Rattle.spec.specs.declared.Cause.TheVariants.{Hollow, Empty}
 use Rattle.spec.specs.declared.Grounds.{Grounds}
 use Rattle.spec.specs.declared.Way.TheVariants.{Joint}
-use Rattle.spec.specs.declared.Verdict.TheVariants.{Accepted}
-use Rattle.spec.specs.Refusal.{Outcome, accepted, refused, numbered}
+use Rattle.std.specs.Prelude.{Result, Ok, Err}
+use Rattle.spec.specs.Refusal.{Outcome, accepted, refused, numbered, number, values_of}
 use Rattle.spec.specs.Frame.{Frame, pixels, frame_of, with_values}
 use Rattle.spec.specs.Window.{InWindow, pixel_count, empty}
 use Rattle.spec.specs.Median.{total_weight, cumulative, balance, median, answer}
@@ -70,12 +70,7 @@ use Rattle.spec.proofs.Tolerance.{accepted-tolerance}
 use Rattle.spec.proofs.Serpentine.{filtered-at}
 use Rattle.ice_step.specs.declared.Walked.{Walked}
 use Rattle.ice_step.specs.Finished.{Lent, room_in}
-use Rattle.frame_write.specs.declared.Written.{Written}
-use Rattle.frame_write.specs.declared.Written.TheVariants.{Length, Refused as Declined}
-use Rattle.frame_write.specs.Write.{Report, wrote, declined, reported, report_of}
 use Rattle.frame_write.proofs.Reopening.{wrote-returned}
-use Rattle.ice.specs.declared.Explained.{Explained}
-use Rattle.ice.specs.Result.{no_grounds}
 use Rattle.ice.specs.Contract.{Untouched, Ended, Walks, Filters, Explains}
 use Rattle.tolerance.specs.declared.Tolerated.{Tolerated}
 use Rattle.tolerance.specs.Contract.{Buffers, outcome_of, AllKept, BothFiltered, Tolerates}
@@ -90,7 +85,7 @@ use Rattle.demands.proofs.Table.{
   join-table,
   cameras-table,
 }
-use Rattle.demands.proofs.BytePlanes.{accepted-verdict, split-or-refused, joined-or-refused}
+use Rattle.demands.proofs.BytePlanes.{split-or-refused, joined-or-refused}
 use Rattle.demands.proofs.Cameras.{filtered-long, shared-or-refused}
 use Rattle.demands.specs.Demands.{
   WalkedOrRefused,
@@ -120,89 +115,35 @@ use Rattle.demands.specs.Demands.{
   Request7,
 }
 
--- ---- demand 1
+-- ---- demand 1: a result is a value or a refusal
 walked-or-refused : WalkedOrRefused
-walked-or-refused b way s t moves a z before after r h = by (walk_outcome b way s t (length moves) (room_in a) (length before)) refl
-  where
-    by : (o : Outcome) → walk_outcome b way s t (length moves) (room_in a) (length before) ≡ o
-        → ((r.verdict ≡ Accepted)
-        × Ended (way_of way) (frame_of b) (walk_end (way_of way) (frame_of b) s t moves) a z
-        (walk_answers (frame_of b) s t moves ++ drop (length moves + 1) before) after r)
-        ⊎
-        ((n : ℕ) × (l : List ℕ) × (numbered r.verdict ≡ refused n l) ×
-        (walk_outcome b way s t (length moves) (room_in a) (length before) ≡ refused n l)
-        × Untouched a z before after r)
-    by accepted e = inl (accepted-verdict r.verdict (h.verdict ∙ e), h.walked e)
-    by (refused n l) e = inr (n, l, h.verdict ∙ e, e, h.refused (λ q. not-refused (sym e ∙ q)))
+walked-or-refused b way s t moves a z before after (Ok w) h = inl (w, refl, h.walked (sym h.verdict))
+walked-or-refused b way s t moves a z before after (Err e) h =
+    inr (number e, values_of e, refl, sym h.verdict, h.refused (λ q. not-refused (h.verdict ∙ q)))
 
 filtered-or-refused : FilteredOrRefused
-filtered-or-refused b way a z before after r h = by (filter_outcome b way (room_in a) (length before)) refl
-  where
-    by : (o : Outcome) → filter_outcome b way (room_in a) (length before) ≡ o
-        →
-        ((r.verdict ≡ Accepted) × Ended (way_of way) (frame_of b) (filter_end (way_of way) (frame_of b)) a z
-        (filtered (frame_of b) ++ drop (pixels (frame_of b).set) before) after r)
-        ⊎ ((n : ℕ) × (l : List ℕ) × (numbered r.verdict ≡ refused n l) × (filter_outcome b way (room_in a) (length before) ≡ refused n l)
-        × Untouched a z before after r)
-    by accepted e = inl (accepted-verdict r.verdict (h.verdict ∙ e), h.filtered e)
-    by (refused n l) e = inr (n, l, h.verdict ∙ e, e, h.refused (λ q. not-refused (sym e ∙ q)))
+filtered-or-refused b way a z before after (Ok w) h = inl (w, refl, h.filtered (sym h.verdict))
+filtered-or-refused b way a z before after (Err e) h =
+    inr (number e, values_of e, refl, sym h.verdict, h.refused (λ q. not-refused (h.verdict ∙ q)))
 
 balanced-or-refused : BalancedOrRefused
-balanced-or-refused b s t i r h = by (balance_outcome b s t i) refl
-  where
-    by : (o : Outcome) → balance_outcome b s t i ≡ o
-        → ((r.verdict ≡ Accepted) × (balance_outcome b s t i ≡ accepted) × (r.balance ≡ balance (frame_of b) s t i))
-        ⊎ ((n : ℕ) × (l : List ℕ) × (numbered r.verdict ≡ refused n l) × (balance_outcome b s t i ≡ refused n l) × (r.balance ≡ pos 0))
-    by accepted e = inl (accepted-verdict r.verdict (h.verdict ∙ e), e, h.balanced e)
-    by (refused n l) e = inr (n, l, h.verdict ∙ e, e, h.refused (λ q. not-refused (sym e ∙ q)))
+balanced-or-refused b s t i (Ok n) h = inl (ap Ok (h.balanced (sym h.verdict)), sym h.verdict)
+balanced-or-refused b s t i (Err e) h = inr (number e, values_of e, refl, sym h.verdict)
 
 explained-or-refused : ExplainedOrRefused
-explained-or-refused b s t r h = by (explain_outcome b s t) refl
-  where
-    by : (o : Outcome) → explain_outcome b s t ≡ o
-        → ((r.verdict ≡ Accepted) × (explain_outcome b s t ≡ accepted) × Grounded (frame_of b) s t r.grounds)
-        ⊎ ((n : ℕ) × (l : List ℕ) × (numbered r.verdict ≡ refused n l) × (explain_outcome b s t ≡ refused n l) × (r.grounds ≡ no_grounds))
-    by accepted e = inl (accepted-verdict r.verdict (h.verdict ∙ e), e, h.explained e)
-    by (refused n l) e = inr (n, l, h.verdict ∙ e, e, h.refused (λ q. not-refused (sym e ∙ q)))
+explained-or-refused b s t (Ok g) h = inl (g, refl, sym h.verdict, h.explained (sym h.verdict))
+explained-or-refused b s t (Err e) h = inr (number e, values_of e, refl, sym h.verdict)
 
 tolerated-or-refused : ToleratedOrRefused
-tolerated-or-refused b upper a z r h = by (outcome_of b upper a) refl
-  where
-    by : (o : Outcome) → outcome_of b upper a ≡ o
-        → ((r.verdict ≡ Accepted) × (outcome_of b upper a ≡ accepted) × BothFiltered (frame_of b) (with_values (frame_of b) upper) a z r)
-        ⊎ ((n : ℕ) × (l : List ℕ) × (numbered r.verdict ≡ refused n l) × (outcome_of b upper a ≡ refused n l) × AllKept a z r)
-    by accepted e = inl (accepted-verdict r.verdict (h.verdict ∙ e), e, h.filtered e)
-    by (refused n l) e = inr (n, l, h.verdict ∙ e, e, h.refused (λ q. not-refused (sym e ∙ q)))
-
--- an answer that reports a length is that length
-length-reported : (r : Written) (n : ℕ) → reported r ≡ wrote n → r ≡ Length n
-length-reported (Length m) n e = ap Length cc
-length-reported (Declined q) n e = absurd (subst Is e tt)
-  where
-    Is : Report → Type 0
-    Is (wrote m) = ⊥
-    Is (declined m l) = Unit {0}
+tolerated-or-refused b upper a z (Ok w) h = inl (w, refl, sym h.verdict, h.filtered (sym h.verdict))
+tolerated-or-refused b upper a z (Err e) h =
+    inr (number e, values_of e, refl, sym h.verdict, h.refused (λ q. not-refused (h.verdict ∙ q)))
 
 written-or-refused : WrittenOrRefused
-written-or-refused k v g a old r new h = by (writer_outcome k v g a (length old)) refl
-  where
-    by : (o : Outcome) → writer_outcome k v g a (length old) ≡ o
-        → ((r ≡ Length (written_size k (length a))) × (new ≡ written k v g a ++ drop (length (written k v g a)) old))
-        ⊎ ((n : ℕ) × (l : List ℕ) × (reported r ≡ declined n l) × (writer_outcome k v g a (length old) ≡ refused n l) × (new ≡ old))
-    by accepted e =
-        inl (
-          length-reported r (written_size k (length a)) (h.answer ∙ ap (λ (o : Outcome). report_of o (written_size k (length a))) e),
-          h.output ∙ ap (λ (o : Outcome). stored o (written k v g a) old) e,
-        )
-    by (refused n l) e =
-        inr (
-          n,
-          l,
-          h.answer ∙ ap (λ (o : Outcome). report_of o (written_size k (length a))) e,
-          e,
-          h.output ∙ ap
-              (λ (o : Outcome). stored o (written k v g a) old) e,
-        )
+written-or-refused k v g a old (Ok n) new h =
+    inl (ap Ok (h.size (sym h.verdict)), h.output ∙ ap (λ (o : Outcome). stored o (written k v g a) old) (sym h.verdict))
+written-or-refused k v g a old (Err e) new h =
+    inr (number e, values_of e, refl, sym h.verdict, h.output ∙ ap (λ (o : Outcome). stored o (written k v g a) old) (sym h.verdict))
 
 pub demand-1 : Demand1
 demand-1 =
@@ -272,10 +213,9 @@ is-answer {p} {s} {t} k = record {
   none = λ h. answer-empty p s t (no-pixel p s t h);
 }
 
-module _ (b : List ℕ) (way : ℕ) (a z : Lent) (before after : List ℕ) (r : Walked) (h : Filters b way a z before after r)
-    (ok : r.verdict ≡ Accepted) where
+module _ (b : List ℕ) (way : ℕ) (a z : Lent) (before after : List ℕ) (r : Walked) (h : Filters b way a z before after (Ok r)) where
   filter_passes : filter_outcome b way (room_in a) (length before) ≡ accepted
-  filter_passes = sym h.verdict ∙ ap numbered ok
+  filter_passes = sym h.verdict
 
   filter-limits : FrameLimits (frame_of b)
   filter-limits = limits_of b (filter-accepted b way (room_in a) (length before) filter_passes).file
@@ -293,19 +233,18 @@ module _ (b : List ℕ) (way : ℕ) (a z : Lent) (before after : List ℕ) (r : 
       ∙ filtered-at p (t * p.set.width + s) l ∙ ap₂ (answer p) (digits_mod t hs) (digits_div t hs)
 
 every-pixel : EveryPixel
-every-pixel b way a z before after r h ok s t hs ht =
-    subst (IsAnswer (frame_of b) s t) (sym (plane-at b way a z before after r h ok s t hs ht))
-    (is-answer (record { good = filter-limits b way a z before after r h ok; in-column = hs; in-row = ht }))
+every-pixel b way a z before after r h s t hs ht =
+    subst (IsAnswer (frame_of b) s t) (sym (plane-at b way a z before after r h s t hs ht))
+    (is-answer (record { good = filter-limits b way a z before after r h; in-column = hs; in-row = ht }))
 
 pub demand-2 : Demand2
 demand-2 = record { filter = every-pixel; writer = λ k v g a old n new w. wrote-returned k v g a old n new w }
 
 -- ---- demand 3
 module _ (b : List ℕ) (s t : ℕ) (moves : List ℕ) (way : ℕ) (a z : Lent) (before after : List ℕ) (r : Walked)
-    (h : Walks b way s t moves a z before after r)
-    (ok : r.verdict ≡ Accepted) where
+    (h : Walks b way s t moves a z before after (Ok r)) where
   walk-passes : walk_outcome b way s t (length moves) (room_in a) (length before) ≡ accepted
-  walk-passes = sym h.verdict ∙ ap numbered ok
+  walk-passes = sym h.verdict
 
   walk-pixel : Pixel (frame_of b) s t
   walk-pixel = (walk-accepted b way s t (length moves) (room_in a) (length before) walk-passes).pixel
@@ -353,16 +292,16 @@ answered {p} {x} {n} k byte =
         }
 
 all-ways-agree : AllWaysAgree
-all-ways-agree b s t moves way way' a z a' z' before after before' after' r r' h h' ok ok' =
+all-ways-agree b s t moves way way' a z a' z' before after before' after' r r' h h' =
     let p = frame_of b in
     let y = way_of way in
     let y' = way_of way' in
-    let w = walk-pixel b s t moves way a z before after r h ok in
-    let one = answer-is b s t moves way a z before after r h ok in
-    let count = shifts-are b s t moves way a z before after r h ok in
-    let count' = shifts-are b s t moves way' a' z' before' after' r' h' ok' in
+    let w = walk-pixel b s t moves way a z before after r h in
+    let one = answer-is b s t moves way a z before after r h in
+    let count = shifts-are b s t moves way a z before after r h in
+    let count' = shifts-are b s t moves way' a' z' before' after' r' h' in
     record {
-      answers = answers-are b s t moves way a z before after r h ok ∙ sym (answers-are b s t moves way' a' z' before' after' r' h' ok');
+      answers = answers-are b s t moves way a z before after r h ∙ sym (answers-are b s t moves way' a' z' before' after' r' h');
       first = subst (λ (m : ℕ). IsAnswer p s t m × Minimises p s t m) (sym (one 0 (omega arith) ∙ walk_first p s t moves)) (both-answer w);
       next = λ j l. subst (ByteAnswered p (walk_end y p s t (take j moves)) (get_or moves j 0))
           (sym (ap (λ (q : ℕ). get_or after q 0) (add-one j) ∙ one (suc j) l ∙ walk-next y p s t moves j l))
@@ -373,9 +312,9 @@ all-ways-agree b s t moves way way' a z a' z' before after before' after' r r' h
     }
 
 filter-minimises : FilterMinimises
-filter-minimises b way a z before after r h ok s t hs ht =
-    subst (Minimises (frame_of b) s t) (sym (plane-at b way a z before after r h ok s t hs ht))
-    (least-answer (record { good = filter-limits b way a z before after r h ok; in-column = hs; in-row = ht }))
+filter-minimises b way a z before after r h s t hs ht =
+    subst (Minimises (frame_of b) s t) (sym (plane-at b way a z before after r h s t hs ht))
+    (least-answer (record { good = filter-limits b way a z before after r h; in-column = hs; in-row = ht }))
 
 one-rule : OneRule
 unfolding way_of
@@ -421,29 +360,29 @@ justified {p} {s} {t} k g h =
     hollow : g.cause ≡ Hollow → weightless p s t ≡ true
     hollow e = subst (Applies p s t) (sym h.cause ∙ e) (applies k)
 
-module _ (b : List ℕ) (s t : ℕ) (r : Explained) (h : Explains b s t r) (ok : r.verdict ≡ Accepted) where
+module _ (b : List ℕ) (s t : ℕ) (g : Grounds) (h : Explains b s t (Ok g)) where
   explain-passes : explain_outcome b s t ≡ accepted
-  explain-passes = sym h.verdict ∙ ap numbered ok
+  explain-passes = sym h.verdict
 
   explained-pixel : Pixel (frame_of b) s t
   explained-pixel = (explain-accepted b s t explain-passes).pixel
 
-  explained-answer : answer_number r.grounds.answer ≡ answer (frame_of b) s t
+  explained-answer : answer_number g.answer ≡ answer (frame_of b) s t
   explained-answer = (h.explained explain-passes).answered
 
 every-explanation : EveryExplanation
-every-explanation b s t r h ok = justified (explained-pixel b s t r h ok) r.grounds (h.explained (explain-passes b s t r h ok))
+every-explanation b s t g h = justified (explained-pixel b s t g h) g (h.explained (explain-passes b s t g h))
 
 explains-the-answer : ExplainsTheAnswer
-explains-the-answer b s t r h ok =
+explains-the-answer b s t g h =
     let p = frame_of b in
-    let k = explained-pixel b s t r h ok in
-    let said = sym (explained-answer b s t r h ok) in
+    let k = explained-pixel b s t g h in
+    let said = sym (explained-answer b s t g h) in
     record {
-      filtered = λ way a z old new w f o. plane-at b way a z old new w f o s t k.in-column k.in-row ∙ said;
-      started = λ way moves a z old new w f o. answer-is b s t moves way a z old new w f o 0 (omega arith) ∙ walk_first p s t moves ∙ said;
-      led = λ way u v moves a z old new w f o j l e. ap (λ (q : ℕ). get_or new q 0) (add-one j)
-          ∙ answer-is b u v moves way a z old new w f o (suc j) l ∙ walk-next (way_of way) p u v moves j l
+      filtered = λ way a z old new w f. plane-at b way a z old new w f s t k.in-column k.in-row ∙ said;
+      started = λ way moves a z old new w f. answer-is b s t moves way a z old new w f 0 (omega arith) ∙ walk_first p s t moves ∙ said;
+      led = λ way u v moves a z old new w f j l e. ap (λ (q : ℕ). get_or new q 0) (add-one j)
+          ∙ answer-is b u v moves way a z old new w f (suc j) l ∙ walk-next (way_of way) p u v moves j l
           ∙ step-level p (walk_end (way_of way) p u v (take j moves)) (get_or moves j 0) s t e ∙ said;
     }
 
@@ -455,9 +394,9 @@ request-4 = record { grounds = every-explanation; answer = explains-the-answer }
 plane-of : (p : Frame) (n : ℕ) (new old : List ℕ) → n ≡ pixels p.set → new ≡ filtered p ++ drop n old → take n new ≡ filtered p
 plane-of p n new old e h = ap (take n) h ∙ take_at (filtered p) (drop n old) n (filtered-long p ∙ sym e)
 
-module _ (b upper : List ℕ) (a z : Buffers) (r : Tolerated) (h : Tolerates b upper a z r) (ok : r.verdict ≡ Accepted) where
+module _ (b upper : List ℕ) (a z : Buffers) (r : Tolerated) (h : Tolerates b upper a z (Ok r)) where
   tolerance-passes : outcome_of b upper a ≡ accepted
-  tolerance-passes = sym h.verdict ∙ ap numbered ok
+  tolerance-passes = sym h.verdict
 
   both-filtered : BothFiltered (frame_of b) (with_values (frame_of b) upper) a z r
   both-filtered = h.filtered tolerance-passes
@@ -469,20 +408,20 @@ module _ (b upper : List ℕ) (a z : Buffers) (r : Tolerated) (h : Tolerates b u
   greatest-plane = plane-of (with_values (frame_of b) upper) (pixels (frame_of b).set) z.greatest a.greatest refl both-filtered.greatest
 
 least-and-greatest-given : LeastAndGreatestGiven
-least-and-greatest-given b upper a z r h ok =
+least-and-greatest-given b upper a z r h =
     let p = frame_of b in
     let n = pixels p.set in
-    subst (λ (l : List ℕ). LeastAndGreatest p (own_values p) upper l (take n z.greatest)) (sym (least-plane b upper a z r h ok))
-    (subst (λ (l : List ℕ). LeastAndGreatest p (own_values p) upper (filtered p) l) (sym (greatest-plane b upper a z r h ok))
-    (accepted-tolerance b upper _ _ _ (tolerance-passes b upper a z r h ok)))
+    subst (λ (l : List ℕ). LeastAndGreatest p (own_values p) upper l (take n z.greatest)) (sym (least-plane b upper a z r h))
+    (subst (λ (l : List ℕ). LeastAndGreatest p (own_values p) upper (filtered p) l) (sym (greatest-plane b upper a z r h))
+    (accepted-tolerance b upper _ _ _ (tolerance-passes b upper a z r h)))
 
 least-is-filtered : LeastIsFiltered
 unfolding filter_end
-least-is-filtered b upper a z r h ok way before after old new w f done =
+least-is-filtered b upper a z r h way before after old new w f =
     let p = frame_of b in
-    let ended = f.filtered (sym f.verdict ∙ ap numbered done) in (
-      least-plane b upper a z r h ok ∙ sym (plane-of p (pixels p.set) new old refl ended.answers),
-      λ e. (both-filtered b upper a z r h ok).least-shifts ∙ walk_same Joint (way_of way) (sym e) p 0 0 _ ∙ sym ended.shifts,
+    let ended = f.filtered (sym f.verdict) in (
+      least-plane b upper a z r h ∙ sym (plane-of p (pixels p.set) new old refl ended.answers),
+      λ e. (both-filtered b upper a z r h).least-shifts ∙ walk_same Joint (way_of way) (sym e) p 0 0 _ ∙ sym ended.shifts,
     )
 
 pub request-7 : Request7

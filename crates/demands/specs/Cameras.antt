@@ -2,8 +2,8 @@
 -- b are the files' bytes end to end, lengths their lengths, limits those of the periods, before and after the lent buffers around the call, r its
 -- result.
 -- Assumes nothing.
-use Rattle.std.specs.Prelude.{ℕ, ◌+◌, ◌*◌, ◌≤◌, ◌<◌, min, ◌≡◌, true, ◌⊎◌, List, [], map, length, get_or, take, drop}
-use Rattle.spec.specs.declared.Verdict.TheVariants.{Accepted}
+use Rattle.std.specs.Prelude.{ℕ, ◌+◌, ◌*◌, ◌≤◌, ◌<◌, min, ◌≡◌, true, ◌⊎◌, List, [], map, length, get_or, take, drop, Result, Ok}
+use Rattle.spec.specs.declared.Refusal.{Refusal}
 use Rattle.spec.specs.declared.Way.TheVariants.{Joint}
 use Rattle.spec.specs.Refusal.{accepted, refused, numbered}
 use Rattle.spec.specs.Frame.{frame_of}
@@ -25,15 +25,14 @@ use Rattle.ice_step.specs.declared.Walked.{Walked}
 use Rattle.ice_step.specs.Finished.{Lent}
 use Rattle.ice.specs.Contract.{Filters}
 use Rattle.ice_prefix.specs.Prefix.{Parts}
-use Rattle.cameras.specs.declared.Granted.{Granted}
 use Rattle.cameras.specs.Contract.{outcome_of, AllKept, Shared, Schedules}
 
 -- ---- demand 1: the grants made and the parts of each file, or every buffer as it was
 abbrev pub SharedOrRefused : Type 0
 SharedOrRefused =
-    (b lengths limits : List ℕ) (before after : Parts) (r : Granted) → Schedules b lengths limits before after r
-    → ((r.verdict ≡ Accepted) × (outcome_of b lengths limits before ≡ accepted) × Shared (files_in lengths b) limits before after r)
-    ⊎ ((n : ℕ) × (l : List ℕ) × (numbered r.verdict ≡ refused n l) × (outcome_of b lengths limits before ≡ refused n l) × AllKept before after r)
+    (b lengths limits : List ℕ) (before after : Parts) (r : Result ℕ Refusal) → Schedules b lengths limits before after r
+    → ((g : ℕ) × (r ≡ Ok g) × (outcome_of b lengths limits before ≡ accepted) × Shared (files_in lengths b) limits before after g)
+    ⊎ ((n : ℕ) × (l : List ℕ) × (numbered r ≡ refused n l) × (outcome_of b lengths limits before ≡ refused n l) × AllKept before after)
 
 -- ---- request 9
 
@@ -61,16 +60,16 @@ pub record EachPart (fs : List (List ℕ)) (limits : List ℕ) (before after : P
 
 abbrev pub EachPartGiven : Type 0
 EachPartGiven =
-    (b lengths limits : List ℕ) (before after : Parts) (r : Granted) → Schedules b lengths limits before after r → r.verdict ≡ Accepted
+    (b lengths limits : List ℕ) (before after : Parts) (g : ℕ) → Schedules b lengths limits before after (Ok g)
     → EachPart (files_in lengths b) limits before after
 
 -- the answers so far are a prefix of the filter run alone, with any other files beside it: answer i of file k is what a filter of that file alone, by
 -- any way that serves it, gives to the pixel where its walk is after i moves
 abbrev pub AsAlone : Type 0
 AsAlone =
-    (b lengths limits : List ℕ) (before after : Parts) (r : Granted) → Schedules b lengths limits before after r → r.verdict ≡ Accepted
+    (b lengths limits : List ℕ) (before after : Parts) (g : ℕ) → Schedules b lengths limits before after (Ok g)
     → (k : ℕ) → k < length (files_in lengths b) → let f = file_at (files_in lengths b) k in
-    (way : ℕ) (before' after' : Lent) (old new : List ℕ) (w : Walked) → Filters f way before' after' old new w → w.verdict ≡ Accepted
+    (way : ℕ) (before' after' : Lent) (old new : List ℕ) (w : Walked) → Filters f way before' after' old new (Ok w)
     → (i : ℕ) → i < tally_at (files_in lengths b) limits k
     → let x = walk_end Joint (frame_of f) 0 0 (take i (serpentine (frame_of f).set)) in
     get_or after.answers (begins_at pixels_in (files_in lengths b) k + i) 0 ≡ get_or new (x.row * (frame_of f).set.width + x.column) 0
@@ -78,7 +77,7 @@ AsAlone =
 -- a file's tally is no more than its pixels
 abbrev pub TalliesLow : Type 0
 TalliesLow =
-    (b lengths limits : List ℕ) (before after : Parts) (r : Granted) → Schedules b lengths limits before after r → r.verdict ≡ Accepted
+    (b lengths limits : List ℕ) (before after : Parts) (g : ℕ) → Schedules b lengths limits before after (Ok g)
     → (k : ℕ) → k < length (files_in lengths b) → tally_at (files_in lengths b) limits k ≤ pixels_in (file_at (files_in lengths b) k)
 
 -- wherever the grants have come to, an unfinished file gets one of the next eight: sizes has the pixels of each file
@@ -94,8 +93,8 @@ OneList = (sizes limits : List ℕ) → periods sizes limits opening ≡ grants 
 -- all grants of a period are made while a file is unfinished: so many are made as the limits allow, or as there are pixels
 abbrev pub AllGranted : Type 0
 AllGranted =
-    (b lengths limits : List ℕ) (before after : Parts) (r : Granted) → Schedules b lengths limits before after r → r.verdict ≡ Accepted
-    → r.grants ≡ min (total limits) (total (map pixels_in (files_in lengths b)))
+    (b lengths limits : List ℕ) (before after : Parts) (g : ℕ) → Schedules b lengths limits before after (Ok g)
+    → g ≡ min (total limits) (total (map pixels_in (files_in lengths b)))
 
 pub record Request9 : Type 0 where
   pub parts : EachPartGiven

@@ -3,7 +3,7 @@
 -- A reader starts here; proofs/Demands.antt proves each, proofs/BytePlanes.antt those of request 8. Cameras.antt beside this has request 9.
 -- b are a file's bytes, upper a plane of upper levels, before and after the stores around a call, old and new its answers or output, r its result.
 -- Assumes nothing.
-use Rattle.std.specs.Prelude.{ℕ, suc, ◌+◌, ◌-◌, ◌*◌, ◌≤◌, ◌<◌, ◌≡◌, true, false, ◌⊎◌, ◌↔◌, List, ◌++◌, leb, length, get_or, take, drop, pos, ◌*ℤ◌, ◌≤ℤ◌, ◌<ℤ◌, if◌then◌else◌}
+use Rattle.std.specs.Prelude.{ℕ, suc, ◌+◌, ◌-◌, ◌*◌, ◌≤◌, ◌<◌, ◌≡◌, true, false, ◌⊎◌, ◌↔◌, List, ◌++◌, leb, length, get_or, take, drop, pos, ◌*ℤ◌, ◌≤ℤ◌, ◌<ℤ◌, if◌then◌else◌, ℤ, Result, Ok}
 use Rattle.spec.specs.declared.Settings.{Settings}
 use Rattle.spec.specs.declared.Plan.{Plan}
 use Rattle.spec.specs.declared.Room.{Room}
@@ -12,8 +12,7 @@ use Rattle.spec.specs.declared.Move.TheVariants.{To, Nowhere}
 use Rattle.spec.specs.declared.Cause.{Cause}
 use Rattle.spec.specs.declared.Cause.TheVariants.{Hollow, Empty}
 use Rattle.spec.specs.declared.Grounds.{Grounds}
-use Rattle.spec.specs.declared.Verdict.{Verdict}
-use Rattle.spec.specs.declared.Verdict.TheVariants.{Accepted}
+use Rattle.spec.specs.declared.Refusal.{Refusal}
 use Rattle.spec.specs.Base.{sum}
 use Rattle.spec.specs.Refusal.{accepted, refused, numbered}
 use Rattle.spec.specs.Frame.{Frame, level, no_reading, pixels, settings_of, plan_of, frame_of, with_values}
@@ -30,12 +29,7 @@ use Rattle.spec.specs.Cameras.{cameras_outcome}
 use Rattle.spec.specs.Writer.{written, written_size, writer_outcome}
 use Rattle.ice_step.specs.declared.Walked.{Walked}
 use Rattle.ice_step.specs.Finished.{Lent, room_in}
-use Rattle.ice.specs.declared.Balanced.{Balanced}
-use Rattle.ice.specs.declared.Explained.{Explained}
-use Rattle.frame_write.specs.declared.Written.{Written}
-use Rattle.frame_write.specs.declared.Written.TheVariants.{Length}
-use Rattle.frame_write.specs.Write.{declined, reported, Writes, Returned}
-use Rattle.ice.specs.Result.{no_grounds}
+use Rattle.frame_write.specs.Write.{Writes, Returned}
 use Rattle.ice.specs.Contract.{Untouched, Ended, Walks, Filters, Balances, Explains}
 use Rattle.tolerance.specs.declared.Tolerated.{Tolerated}
 use Rattle.tolerance.specs.Contract.{Buffers, outcome_of, AllKept, BothFiltered, Tolerates}
@@ -60,63 +54,63 @@ use Rattle.demands.specs.Cameras.{SharedOrRefused}
 -- a walk is refused by the outcome's number and values, with every buffer as it was, or it is walked to the end
 abbrev pub WalkedOrRefused : Type 0
 WalkedOrRefused =
-    (b : List ℕ) (way s t : ℕ) (moves : List ℕ) (before after : Lent) (old new : List ℕ) (r : Walked)
+    (b : List ℕ) (way s t : ℕ) (moves : List ℕ) (before after : Lent) (old new : List ℕ) (r : Result Walked Refusal)
     → Walks b way s t moves before after old new r
-    → ((r.verdict ≡ Accepted)
+    → ((w : Walked) × (r ≡ Ok w)
     × Ended (way_of way) (frame_of b) (walk_end (way_of way) (frame_of b) s t moves) before after
-    (walk_answers (frame_of b) s t moves ++ drop (length moves + 1) old) new r)
-    ⊎ ((n : ℕ) × (l : List ℕ) × (numbered r.verdict ≡ refused n l)
+    (walk_answers (frame_of b) s t moves ++ drop (length moves + 1) old) new w)
+    ⊎ ((n : ℕ) × (l : List ℕ) × (numbered r ≡ refused n l)
     × (walk_outcome b way s t (length moves) (room_in before) (length old) ≡ refused n l)
-    × Untouched before after old new r)
+    × Untouched before after old new)
 
 abbrev pub FilteredOrRefused : Type 0
 FilteredOrRefused =
-    (b : List ℕ) (way : ℕ) (before after : Lent) (old new : List ℕ) (r : Walked) → Filters b way before after old new r
-    → ((r.verdict ≡ Accepted) × Ended (way_of way) (frame_of b) (filter_end (way_of way) (frame_of b)) before after (filtered (frame_of b)
-    ++ drop (pixels (frame_of b).set) old) new r)
-    ⊎ ((n : ℕ) × (l : List ℕ) × (numbered r.verdict ≡ refused n l) × (filter_outcome b way (room_in before) (length old) ≡ refused n l)
-    × Untouched before after old new r)
+    (b : List ℕ) (way : ℕ) (before after : Lent) (old new : List ℕ) (r : Result Walked Refusal) → Filters b way before after old new r
+    → ((w : Walked) × (r ≡ Ok w) × Ended (way_of way) (frame_of b) (filter_end (way_of way) (frame_of b)) before after (filtered (frame_of b)
+    ++ drop (pixels (frame_of b).set) old) new w)
+    ⊎ ((n : ℕ) × (l : List ℕ) × (numbered r ≡ refused n l) × (filter_outcome b way (room_in before) (length old) ≡ refused n l)
+    × Untouched before after old new)
 
 -- a balance, which is lent nothing
 abbrev pub BalancedOrRefused : Type 0
 BalancedOrRefused =
-    (b : List ℕ) (s t i : ℕ) (r : Balanced) → Balances b s t i r
-    → ((r.verdict ≡ Accepted) × (balance_outcome b s t i ≡ accepted) × (r.balance ≡ balance (frame_of b) s t i))
-    ⊎ ((n : ℕ) × (l : List ℕ) × (numbered r.verdict ≡ refused n l) × (balance_outcome b s t i ≡ refused n l) × (r.balance ≡ pos 0))
+    (b : List ℕ) (s t i : ℕ) (r : Result ℤ Refusal) → Balances b s t i r
+    → ((r ≡ Ok (balance (frame_of b) s t i)) × (balance_outcome b s t i ≡ accepted))
+    ⊎ ((n : ℕ) × (l : List ℕ) × (numbered r ≡ refused n l) × (balance_outcome b s t i ≡ refused n l))
 
 -- an explanation, which is lent nothing
 abbrev pub ExplainedOrRefused : Type 0
 ExplainedOrRefused =
-    (b : List ℕ) (s t : ℕ) (r : Explained) → Explains b s t r
-    → ((r.verdict ≡ Accepted) × (explain_outcome b s t ≡ accepted) × Grounded (frame_of b) s t r.grounds)
-    ⊎ ((n : ℕ) × (l : List ℕ) × (numbered r.verdict ≡ refused n l) × (explain_outcome b s t ≡ refused n l) × (r.grounds ≡ no_grounds))
+    (b : List ℕ) (s t : ℕ) (r : Result Grounds Refusal) → Explains b s t r
+    → ((g : Grounds) × (r ≡ Ok g) × (explain_outcome b s t ≡ accepted) × Grounded (frame_of b) s t g)
+    ⊎ ((n : ℕ) × (l : List ℕ) × (numbered r ≡ refused n l) × (explain_outcome b s t ≡ refused n l))
 
 -- a tolerance: both planes, or every buffer as it was
 abbrev pub ToleratedOrRefused : Type 0
 ToleratedOrRefused =
-    (b upper : List ℕ) (before after : Buffers) (r : Tolerated) → Tolerates b upper before after r
-    → ((r.verdict ≡ Accepted) × (outcome_of b upper before ≡ accepted)
-    × BothFiltered (frame_of b) (with_values (frame_of b) upper) before after r)
-    ⊎ ((n : ℕ) × (l : List ℕ) × (numbered r.verdict ≡ refused n l) × (outcome_of b upper before ≡ refused n l) × AllKept before after r)
+    (b upper : List ℕ) (before after : Buffers) (r : Result Tolerated Refusal) → Tolerates b upper before after r
+    → ((w : Tolerated) × (r ≡ Ok w) × (outcome_of b upper before ≡ accepted)
+    × BothFiltered (frame_of b) (with_values (frame_of b) upper) before after w)
+    ⊎ ((n : ℕ) × (l : List ℕ) × (numbered r ≡ refused n l) × (outcome_of b upper before ≡ refused n l) × AllKept before after)
 
 -- a writing: the file and then the rest of the output, or the output as it was
 abbrev pub WrittenOrRefused : Type 0
 WrittenOrRefused =
-    (settings : Settings) (v g a old : List ℕ) (r : Written) (new : List ℕ) → Writes settings v g a old r new
-    → ((r ≡ Length (written_size settings (length a))) × (new ≡ written settings v g a ++ drop (length (written settings v g a)) old))
-    ⊎ ((n : ℕ) × (l : List ℕ) × (reported r ≡ declined n l) × (writer_outcome settings v g a (length old) ≡ refused n l) × (new ≡ old))
+    (settings : Settings) (v g a old : List ℕ) (r : Result ℕ Refusal) (new : List ℕ) → Writes settings v g a old r new
+    → ((r ≡ Ok (written_size settings (length a))) × (new ≡ written settings v g a ++ drop (length (written settings v g a)) old))
+    ⊎ ((n : ℕ) × (l : List ℕ) × (numbered r ≡ refused n l) × (writer_outcome settings v g a (length old) ≡ refused n l) × (new ≡ old))
 
 -- a file split, or joined: its bytes rearranged and then the rest of the output, or the output as it was
 abbrev pub SplitOrRefused : Type 0
 SplitOrRefused =
-    (b old : List ℕ) (r : Verdict) (new : List ℕ) → Splits b old r new
-    → ((r ≡ Accepted) × (split_outcome b (length old) ≡ accepted) × (new ≡ split_file b ++ drop (length b) old))
+    (b old : List ℕ) (r : Result (Unit {0}) Refusal) (new : List ℕ) → Splits b old r new
+    → ((r ≡ Ok tt) × (split_outcome b (length old) ≡ accepted) × (new ≡ split_file b ++ drop (length b) old))
     ⊎ ((n : ℕ) × (l : List ℕ) × (numbered r ≡ refused n l) × (split_outcome b (length old) ≡ refused n l) × (new ≡ old))
 
 abbrev pub JoinedOrRefused : Type 0
 JoinedOrRefused =
-    (b old : List ℕ) (r : Verdict) (new : List ℕ) → Joins b old r new
-    → ((r ≡ Accepted) × (join_outcome b (length old) ≡ accepted) × (new ≡ joined_file b ++ drop (length b) old))
+    (b old : List ℕ) (r : Result (Unit {0}) Refusal) (new : List ℕ) → Joins b old r new
+    → ((r ≡ Ok tt) × (join_outcome b (length old) ≡ accepted) × (new ≡ joined_file b ++ drop (length b) old))
     ⊎ ((n : ℕ) × (l : List ℕ) × (numbered r ≡ refused n l) × (join_outcome b (length old) ≡ refused n l) × (new ≡ old))
 
 -- the table of refusals: each number exactly if its row fires and no row before it does
@@ -173,13 +167,12 @@ at_pixel p plane s t = get_or plane (t * p.set.width + s) 0
 -- every pixel of a filtered frame
 abbrev pub EveryPixel : Type 0
 EveryPixel =
-    (b : List ℕ) (way : ℕ) (before after : Lent) (old new : List ℕ) (r : Walked) → Filters b way before after old new r
-    → r.verdict ≡ Accepted
+    (b : List ℕ) (way : ℕ) (before after : Lent) (old new : List ℕ) (r : Walked) → Filters b way before after old new (Ok r)
     → (s t : ℕ) → s < (frame_of b).set.width → t < (frame_of b).set.height → IsAnswer (frame_of b) s t (at_pixel (frame_of b) new s t)
 
 -- the first n bytes of the output of a writer that answers n: accepted, and the settings, planes and table as given
 abbrev pub ReadsBack : Type 0
-ReadsBack = (settings : Settings) (v g a old : List ℕ) (n : ℕ) (new : List ℕ) → Writes settings v g a old (Length n) new
+ReadsBack = (settings : Settings) (v g a old : List ℕ) (n : ℕ) (new : List ℕ) → Writes settings v g a old (Ok n) new
     → Returned settings v g a (take n new)
 
 pub record Demand2 : Type 0 where
@@ -218,8 +211,7 @@ abbrev pub AllWaysAgree : Type 0
 AllWaysAgree =
     (b : List ℕ) (s t : ℕ) (moves : List ℕ) (way way' : ℕ) (before after before' after' : Lent)
     (old new old' new' : List ℕ) (r r' : Walked)
-    → Walks b way s t moves before after old new r → Walks b way' s t moves before' after' old' new' r'
-    → r.verdict ≡ Accepted → r'.verdict ≡ Accepted
+    → Walks b way s t moves before after old new (Ok r) → Walks b way' s t moves before' after' old' new' (Ok r')
     → Agreed (way_of way) (way_of way') (frame_of b) s t moves new new' r r'
 
 -- ways 1 to 3, by their numbers, count by one rule: so any two of them agree on the shift count
@@ -229,8 +221,7 @@ OneRule = (n : ℕ) → 1 ≤ n → n ≤ 3 → by_blocks (way_of n) ≡ false
 -- every pixel of a filtered frame
 abbrev pub FilterMinimises : Type 0
 FilterMinimises =
-    (b : List ℕ) (way : ℕ) (before after : Lent) (old new : List ℕ) (r : Walked) → Filters b way before after old new r
-    → r.verdict ≡ Accepted
+    (b : List ℕ) (way : ℕ) (before after : Lent) (old new : List ℕ) (r : Walked) → Filters b way before after old new (Ok r)
     → (s t : ℕ) → s < (frame_of b).set.width → t < (frame_of b).set.height → Minimises (frame_of b) s t (at_pixel (frame_of b) new s t)
 
 pub record Demand3 : Type 0 where
@@ -259,23 +250,22 @@ pub record Justified (p : Frame) (s t : ℕ) (g : Grounds) : Type 0 where
   pub hollow_reached : g.cause ≡ Hollow → g.reached ≡ pos (pixels_up_to p s t (answer_number g.answer))
 
 abbrev pub EveryExplanation : Type 0
-EveryExplanation = (b : List ℕ) (s t : ℕ) (r : Explained) → Explains b s t r → r.verdict ≡ Accepted → Justified (frame_of b) s t r.grounds
+EveryExplanation = (b : List ℕ) (s t : ℕ) (g : Grounds) → Explains b s t (Ok g) → Justified (frame_of b) s t g
 
 -- its answer m is what the filter gives at that pixel, a walk that starts there, and a walk that a byte leads there
 pub record AnsweredSo (b : List ℕ) (s t m : ℕ) : Type 0 where
-  pub filtered : (way : ℕ) (before after : Lent) (old new : List ℕ) (r : Walked) → Filters b way before after old new r → r.verdict ≡ Accepted
+  pub filtered : (way : ℕ) (before after : Lent) (old new : List ℕ) (r : Walked) → Filters b way before after old new (Ok r)
       → at_pixel (frame_of b) new s t ≡ m
-  pub started : (way : ℕ) (moves : List ℕ) (before after : Lent) (old new : List ℕ) (r : Walked) → Walks b way s t moves before after old new r
-      → r.verdict ≡ Accepted → get_or new 0 0 ≡ m
-  pub led : (way u v : ℕ) (moves : List ℕ) (before after : Lent) (old new : List ℕ) (r : Walked) → Walks b way u v moves before after old new r
-      → r.verdict ≡ Accepted → (j : ℕ) → j < length moves
+  pub started : (way : ℕ) (moves : List ℕ) (before after : Lent) (old new : List ℕ) (r : Walked) → Walks b way s t moves before after old new (Ok r)
+      → get_or new 0 0 ≡ m
+  pub led : (way u v : ℕ) (moves : List ℕ) (before after : Lent) (old new : List ℕ) (r : Walked) → Walks b way u v moves before after old new (Ok r)
+      → (j : ℕ) → j < length moves
       → move (frame_of b).set (walk_end (way_of way) (frame_of b) u v (take j moves)).column
       (walk_end (way_of way) (frame_of b) u v (take j moves)).row (get_or moves j 0) ≡ To s t
       → get_or new (j + 1) 0 ≡ m
 
 abbrev pub ExplainsTheAnswer : Type 0
-ExplainsTheAnswer = (b : List ℕ) (s t : ℕ) (r : Explained) → Explains b s t r → r.verdict ≡ Accepted
-    → AnsweredSo b s t (answer_number r.grounds.answer)
+ExplainsTheAnswer = (b : List ℕ) (s t : ℕ) (g : Grounds) → Explains b s t (Ok g) → AnsweredSo b s t (answer_number g.answer)
 
 pub record Request4 : Type 0 where
   pub grounds : EveryExplanation
@@ -287,15 +277,15 @@ pub record Request4 : Type 0 where
 -- and the upper ones, both reached
 abbrev pub LeastAndGreatestGiven : Type 0
 LeastAndGreatestGiven =
-    (b upper : List ℕ) (before after : Buffers) (r : Tolerated) → Tolerates b upper before after r → r.verdict ≡ Accepted
+    (b upper : List ℕ) (before after : Buffers) (r : Tolerated) → Tolerates b upper before after (Ok r)
     → LeastAndGreatest (frame_of b) (own_values (frame_of b)) upper
     (take (pixels (frame_of b).set) after.least) (take (pixels (frame_of b).set) after.greatest)
 
 -- the least answers and their shift count are those of the filter by way 1, with the same answers by every way
 abbrev pub LeastIsFiltered : Type 0
 LeastIsFiltered =
-    (b upper : List ℕ) (before after : Buffers) (r : Tolerated) → Tolerates b upper before after r → r.verdict ≡ Accepted
-    → (way : ℕ) (before' after' : Lent) (old new : List ℕ) (w : Walked) → Filters b way before' after' old new w → w.verdict ≡ Accepted
+    (b upper : List ℕ) (before after : Buffers) (r : Tolerated) → Tolerates b upper before after (Ok r)
+    → (way : ℕ) (before' after' : Lent) (old new : List ℕ) (w : Walked) → Filters b way before' after' old new (Ok w)
     → (take (pixels (frame_of b).set) after.least ≡ take (pixels (frame_of b).set) new)
     × (by_blocks (way_of way) ≡ false → r.least_shifts ≡ w.shifts)
 
@@ -317,15 +307,15 @@ pub record BytesSplit (b old new : List ℕ) (v n : ℕ) : Type 0 where
 
 abbrev pub EveryByte : Type 0
 EveryByte =
-    (b old : List ℕ) (r : Verdict) (new : List ℕ) → Splits b old r new → r ≡ Accepted
+    (b old new : List ℕ) → Splits b old (Ok tt) new
     → BytesSplit b old new (plan_of b).value (pixels (settings_of b))
 
 -- of a file that was split, the first bytes of the output, as many as the file has, are joined without refusal into any output with room for them,
 -- and that output's first bytes are the file
 abbrev pub Restored : Type 0
 Restored =
-    (b old old' : List ℕ) (r r' : Verdict) (new new' : List ℕ) → Splits b old r new → r ≡ Accepted → length b ≤ length old'
-    → Joins (take (length b) new) old' r' new' → (r' ≡ Accepted) × (take (length b) new' ≡ b)
+    (b old old' : List ℕ) (r' : Result (Unit {0}) Refusal) (new new' : List ℕ) → Splits b old (Ok tt) new → length b ≤ length old'
+    → Joins (take (length b) new) old' r' new' → (r' ≡ Ok tt) × (take (length b) new' ≡ b)
 
 -- check 14: some byte is in the value plane, and in the guide plane or in the table
 abbrev pub In : ℕ → ℕ → ℕ → Type 0

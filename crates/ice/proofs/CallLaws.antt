@@ -5,13 +5,16 @@ use mathlib.Core.Path.{◌≡◌, refl, ap, ap₂, sym, ◌∙◌, subst}
 use mathlib.Core.Bool.{true, false}
 use mathlib.Core.Logic.{◌⊎◌, inl, inr}
 use mathlib.Core.List.{List, [], ◌++◌}
-use lib.IntN.{pos}
+use lib.IntN.{ℤ}
 use lib.ListN.{length, take, drop, take-append-drop}
 use Rattle.spec.specs.declared.Settings.{Settings}
 use Rattle.spec.specs.declared.Plan.{Plan}
-use Rattle.spec.specs.declared.Verdict.{Verdict}
+use Rattle.spec.specs.declared.Refusal.{Refusal}
+use Rattle.spec.specs.declared.Grounds.{Grounds}
+use Rattle.std.specs.Prelude.{Ok, Err}
 use Rattle.spec.specs.declared.Way.{Way}
-use Rattle.spec.specs.Refusal.{Outcome, accepted, fires, numbered, ◌▷◌}
+use Rattle.spec.specs.Refusal.{Outcome, accepted, refused, number, values_of, ◌▷◌}
+use Rattle.spec.proofs.Checks.{not-refused}
 use Rattle.spec.specs.Frame.{Frame, settings_of, pixels, frame_of, settings_in}
 use Rattle.spec.specs.Checks.{verdict, Planned}
 use Rattle.spec.specs.Walk.{State, walk_end, walk_answers}
@@ -22,47 +25,35 @@ use Rattle.spec.specs.Calls.{way_of, BothKinds, room_of, counts_of, words_of, wa
 use Rattle.spec.proofs.Plans.{facts}
 use Rattle.spec.proofs.Calls.{way-serves, RoomFits, walk-accepted, filter-accepted, balance-accepted, explain-accepted}
 use Rattle.ice_step.specs.declared.Walked.{Walked}
-use Rattle.ice.specs.declared.Balanced.{Balanced}
-use Rattle.ice.specs.declared.Explained.{Explained}
 use Rattle.ways.specs.Visit.{Serves}
 use Rattle.ice_step.specs.Finished.{Lent, room_in, LentFits, Finished}
-use Rattle.ice.specs.Result.{Zeroed, Unexplained}
 use Rattle.ice.specs.Contract.{Untouched, Ended, Walks, Filters, Balances, Explains}
 use Rattle.ways.proofs.WayLaws.{settings-same}
-use Rattle.ice.proofs.OutcomeLaws.{set-of, stopped, fires-not, quiet}
+use Rattle.ice.proofs.OutcomeLaws.{set-of}
 
 -- ---- the outcome, by who decides
-module _ (b : List ℕ) (own : Outcome) (v : Verdict) (e : numbered v ≡ verdict b) where
-  pub file-decides : fires (numbered v) ≡ true → numbered v ≡ (verdict b ▷ own)
-  file-decides f = e ∙ sym (stopped (verdict b) own (ap fires (sym e) ∙ f))
+pub file-decides : (b : List ℕ) (own : Outcome) {n : ℕ} {l : List ℕ} → refused n l ≡ verdict b → refused n l ≡ (verdict b ▷ own)
+file-decides b own e = rw (sym e) refl
 
 pub own-decides : {b : List ℕ} {z : Plan} → Planned b z → (own : Settings → Outcome) → own (settings_in z) ≡ (verdict b ▷ own (settings_of b))
 own-decides {b} {z} k own =
     ap own (settings-same k ∙ set-of b) ∙ sym (ap (λ (o : Outcome). o ▷ own (settings_of b)) k.accepts)
 
 -- ---- refused
-untouched : {v : Verdict} {r : Walked} (a : Lent) (out : List ℕ) → Zeroed v r → Untouched a a out out r
-untouched a out h =
-    record {
-      shifts = h.shifts;
-      cut = h.cut;
-      balance-box = h.balance-box;
-      counts = refl;
-      words = refl;
-      numbers = refl;
-      summary = refl;
-      answers = refl;
-    }
+not-both : {o : Outcome} {n : ℕ} {l : List ℕ} → refused n l ≡ o → o ≡ accepted → ⊥
+not-both e q = not-refused (e ∙ q)
 
-module _ (v : Verdict) (r : Walked) (h : Zeroed v r) (f : fires (numbered v) ≡ true) (a : Lent) (out : List ℕ) where
-  pub walks-refused : (b : List ℕ) (way s t : ℕ) (ms : List ℕ) → numbered v ≡ walk_outcome b way s t (length ms) (room_in a) (length out) →
-      Walks b way s t ms a a out out r
-  walks-refused b way s t ms e =
-      record { verdict = ap numbered h.verdict ∙ e; refused = λ _. untouched a out h; walked = λ q. absurd (fires-not (numbered v) f (e ∙ q)) }
+untouched : (a : Lent) (out : List ℕ) → Untouched a a out out
+untouched a out = record { counts = refl; words = refl; numbers = refl; summary = refl; answers = refl }
 
-  pub filters-refused : (b : List ℕ) (way : ℕ) → numbered v ≡ filter_outcome b way (room_in a) (length out) → Filters b way a a out out r
-  filters-refused b way e =
-      record { verdict = ap numbered h.verdict ∙ e; refused = λ _. untouched a out h; filtered = λ q. absurd (fires-not (numbered v) f (e ∙ q)) }
+module _ (e : Refusal) (a : Lent) (out : List ℕ) where
+  pub walks-refused : (b : List ℕ) (way s t : ℕ) (ms : List ℕ)
+      → refused (number e) (values_of e) ≡ walk_outcome b way s t (length ms) (room_in a) (length out) → Walks b way s t ms a a out out (Err e)
+  walks-refused b way s t ms q = record { verdict = q; refused = λ _. untouched a out; walked = λ o. absurd (not-both q o) }
+
+  pub filters-refused : (b : List ℕ) (way : ℕ) → refused (number e) (values_of e) ≡ filter_outcome b way (room_in a) (length out)
+      → Filters b way a a out out (Err e)
+  filters-refused b way q = record { verdict = q; refused = λ _. untouched a out; filtered = λ o. absurd (not-both q o) }
 
 -- ---- accepted
 whole : (n : ℕ) (front z a : List ℕ) → take n z ≡ front → drop n z ≡ drop n a → z ≡ front ++ drop n a
@@ -91,10 +82,10 @@ ended {way} {p} {x} {a} {z} due after h e =
 module _ (b : List ℕ) (way : ℕ) (y : Way) (ey : y ≡ way_of way) (a z : Lent) (before after : List ℕ) (r : Walked) where
   pub walks-done : (s t : ℕ) (ms : List ℕ) → walk_outcome b way s t (length ms) (room_in a) (length before) ≡ accepted
       → Finished y (frame_of b) (walk_end y (frame_of b) s t ms) a z r → after ≡ walk_answers (frame_of b) s t ms ++ drop (length ms + 1) before
-      → Walks b way s t ms a z before after r
+      → Walks b way s t ms a z before after (Ok r)
   walks-done s t ms o h e =
       record {
-        verdict = ap numbered h.closed.verdict ∙ sym o;
+        verdict = sym o;
         refused = λ n. absurd (n o);
         walked =
             λ _. subst
@@ -103,10 +94,10 @@ module _ (b : List ℕ) (way : ℕ) (y : Way) (ey : y ≡ way_of way) (a z : Len
       }
 
   pub filters-done : filter_outcome b way (room_in a) (length before) ≡ accepted → Finished y (frame_of b) (filter_end y (frame_of b)) a z r
-      → after ≡ filtered (frame_of b) ++ drop (pixels (frame_of b).set) before → Filters b way a z before after r
+      → after ≡ filtered (frame_of b) ++ drop (pixels (frame_of b).set) before → Filters b way a z before after (Ok r)
   filters-done o h e =
       record {
-        verdict = ap numbered h.closed.verdict ∙ sym o;
+        verdict = sym o;
         refused = λ n. absurd (n o);
         filtered =
             λ _. subst
@@ -164,14 +155,11 @@ module _ {b : List ℕ} {z : Plan} (k : Planned b z) (way : ℕ) (y : Way) (ey :
       }
 
 -- ---- balance
-pub balances-refused : (b : List ℕ) (s t i : ℕ) (v : Verdict) (r : Balanced) → r.verdict ≡ v → r.balance ≡ pos 0 → fires (numbered v) ≡ true
-    → numbered v ≡ balance_outcome b s t i → Balances b s t i r
-balances-refused b s t i v r ev eb f e =
-    record { verdict = ap numbered ev ∙ e; refused = λ _. eb; balanced = λ q. absurd (fires-not (numbered v) f (e ∙ q)) }
+pub balances-refused : (e : Refusal) (b : List ℕ) (s t i : ℕ) → refused (number e) (values_of e) ≡ balance_outcome b s t i → Balances b s t i (Err e)
+balances-refused e b s t i q = record { verdict = q; balanced = λ o. absurd (not-both q o) }
 
-pub balances-done : (b : List ℕ) (s t i : ℕ) (r : Balanced) → numbered r.verdict ≡ balance_outcome b s t i → balance_outcome b s t i ≡ accepted
-    → r.balance ≡ balance (frame_of b) s t i → Balances b s t i r
-balances-done b s t i r e o q = record { verdict = e; refused = λ n. absurd (n o); balanced = λ _. q }
+pub balances-done : (b : List ℕ) (s t i : ℕ) (n : ℤ) → balance_outcome b s t i ≡ accepted → n ≡ balance (frame_of b) s t i → Balances b s t i (Ok n)
+balances-done b s t i n o q = record { verdict = sym o; balanced = λ _. q }
 
 pub balance-granted : {b : List ℕ} {z : Plan} → Planned b z → (s t i : ℕ) → balance_outcome b s t i ≡ accepted →
     (s < z.width) × (t < z.height) × (i < z.levels) × (z.levels ≤ 1024)
@@ -186,18 +174,11 @@ balance-granted {b} k s t i o =
     )
 
 -- ---- explain
-pub explains-refused : (b : List ℕ) (s t : ℕ) (v : Verdict) (r : Explained) → Unexplained v r → fires (numbered v) ≡ true
-    → numbered v ≡ explain_outcome b s t → Explains b s t r
-explains-refused b s t v r u f e =
-    record {
-      verdict = ap numbered u.verdict ∙ e;
-      refused = λ _. u.grounds;
-      explained = λ q. absurd (fires-not (numbered v) f (e ∙ q));
-    }
+pub explains-refused : (e : Refusal) (b : List ℕ) (s t : ℕ) → refused (number e) (values_of e) ≡ explain_outcome b s t → Explains b s t (Err e)
+explains-refused e b s t q = record { verdict = q; explained = λ o. absurd (not-both q o) }
 
-pub explains-done : (b : List ℕ) (s t : ℕ) (r : Explained) → numbered r.verdict ≡ explain_outcome b s t → explain_outcome b s t ≡ accepted
-    → Grounded (frame_of b) s t r.grounds → Explains b s t r
-explains-done b s t r e o g = record { verdict = e; refused = λ n. absurd (n o); explained = λ _. g }
+pub explains-done : (b : List ℕ) (s t : ℕ) (g : Grounds) → explain_outcome b s t ≡ accepted → Grounded (frame_of b) s t g → Explains b s t (Ok g)
+explains-done b s t g o h = record { verdict = sym o; explained = λ _. h }
 
 pub explain-granted : {b : List ℕ} {z : Plan} → Planned b z → (s t : ℕ) → explain_outcome b s t ≡ accepted → (s < z.width) × (t < z.height)
 explain-granted {b} k s t o =

@@ -1,6 +1,9 @@
--- What walk, filter, balance and explain promise, of every input: the verdict; on refusal, that nothing changed; else the result and every buffer.
+-- What walk, filter, balance and explain promise, of every input: the outcome; on refusal, that nothing changed; else the result and every buffer. A result
+-- is a value exactly where the outcome is accepted.
 -- Assumes nothing.
-use Rattle.std.specs.Prelude.{ℕ, ◌+◌, ◌≡◌, List, ◌++◌, length, drop, ℤ, pos}
+use Rattle.std.specs.Prelude.{ℕ, ◌+◌, ◌≡◌, List, ◌++◌, length, drop, ℤ, Result, IfOk}
+use Rattle.spec.specs.declared.Grounds.{Grounds}
+use Rattle.spec.specs.declared.Refusal.{Refusal}
 use Rattle.spec.specs.declared.Settings.{Settings}
 use Rattle.spec.specs.declared.Room.{Room}
 use Rattle.spec.specs.declared.Way.{Way}
@@ -25,16 +28,10 @@ use Rattle.spec.specs.Calls.{
   explain_outcome,
 }
 use Rattle.ice_step.specs.declared.Walked.{Walked}
-use Rattle.ice.specs.declared.Balanced.{Balanced}
-use Rattle.ice.specs.declared.Explained.{Explained}
 use Rattle.ice_step.specs.Finished.{Lent, room_in}
-use Rattle.ice.specs.Result.{no_grounds}
 
--- a refused call: zeros in the result, and every buffer as it was
-pub record Untouched (before after : Lent) (old new : List ℕ) (r : Walked) : Type 0 where
-  pub shifts : r.shifts ≡ 0
-  pub cut : r.cut.0 ≡ 0
-  pub balance-box : r.balance_box ≡ zeros
+-- a refused call: every buffer as it was
+pub record Untouched (before after : Lent) (old new : List ℕ) : Type 0 where
   pub counts : after.stores.counts ≡ before.stores.counts
   pub words : after.stores.words ≡ before.stores.words
   pub numbers : after.stores.numbers ≡ before.stores.numbers
@@ -56,29 +53,27 @@ pub record Ended (way : Way) (p : Frame) (x : State) (before after : Lent) (due 
   pub answers : new ≡ due
 
 -- walk: of the file's bytes b, the way's number, the start (s, t), the list of moves, and the stores and answers before and after
-pub record Walks (b : List ℕ) (way s t : ℕ) (moves : List ℕ) (before after : Lent) (old new : List ℕ) (r : Walked) : Type 0 where
-  pub verdict : numbered r.verdict ≡ walk_outcome b way s t (length moves) (room_in before) (length old)
-  pub refused : (walk_outcome b way s t (length moves) (room_in before) (length old) ≡ accepted → ⊥) → Untouched before after old new r
+pub record Walks (b : List ℕ) (way s t : ℕ) (moves : List ℕ) (before after : Lent) (old new : List ℕ) (r : Result Walked Refusal) : Type 0 where
+  pub verdict : numbered r ≡ walk_outcome b way s t (length moves) (room_in before) (length old)
+  pub refused : (walk_outcome b way s t (length moves) (room_in before) (length old) ≡ accepted → ⊥) → Untouched before after old new
   pub walked : walk_outcome b way s t (length moves) (room_in before) (length old) ≡ accepted
-      → Ended (way_of way) (frame_of b) (walk_end (way_of way) (frame_of b) s t moves) before after (walk_answers (frame_of b) s t moves
-      ++ drop (length moves + 1) old) new r
+      → IfOk r (Ended (way_of way) (frame_of b) (walk_end (way_of way) (frame_of b) s t moves) before after (walk_answers (frame_of b) s t moves
+      ++ drop (length moves + 1) old) new)
 
 -- filter
-pub record Filters (b : List ℕ) (way : ℕ) (before after : Lent) (old new : List ℕ) (r : Walked) : Type 0 where
-  pub verdict : numbered r.verdict ≡ filter_outcome b way (room_in before) (length old)
-  pub refused : (filter_outcome b way (room_in before) (length old) ≡ accepted → ⊥) → Untouched before after old new r
+pub record Filters (b : List ℕ) (way : ℕ) (before after : Lent) (old new : List ℕ) (r : Result Walked Refusal) : Type 0 where
+  pub verdict : numbered r ≡ filter_outcome b way (room_in before) (length old)
+  pub refused : (filter_outcome b way (room_in before) (length old) ≡ accepted → ⊥) → Untouched before after old new
   pub filtered : filter_outcome b way (room_in before) (length old) ≡ accepted
-      → Ended (way_of way) (frame_of b) (filter_end (way_of way) (frame_of b)) before after
-      (filtered (frame_of b) ++ drop (pixels (frame_of b).set) old) new r
+      → IfOk r (Ended (way_of way) (frame_of b) (filter_end (way_of way) (frame_of b)) before after
+      (filtered (frame_of b) ++ drop (pixels (frame_of b).set) old) new)
 
 -- balance
-pub record Balances (b : List ℕ) (s t i : ℕ) (r : Balanced) : Type 0 where
-  pub verdict : numbered r.verdict ≡ balance_outcome b s t i
-  pub refused : (balance_outcome b s t i ≡ accepted → ⊥) → r.balance ≡ pos 0
-  pub balanced : balance_outcome b s t i ≡ accepted → r.balance ≡ balance (frame_of b) s t i
+pub record Balances (b : List ℕ) (s t i : ℕ) (r : Result ℤ Refusal) : Type 0 where
+  pub verdict : numbered r ≡ balance_outcome b s t i
+  pub balanced : balance_outcome b s t i ≡ accepted → IfOk r (λ n. n ≡ balance (frame_of b) s t i)
 
 -- explain
-pub record Explains (b : List ℕ) (s t : ℕ) (r : Explained) : Type 0 where
-  pub verdict : numbered r.verdict ≡ explain_outcome b s t
-  pub refused : (explain_outcome b s t ≡ accepted → ⊥) → r.grounds ≡ no_grounds
-  pub explained : explain_outcome b s t ≡ accepted → Grounded (frame_of b) s t r.grounds
+pub record Explains (b : List ℕ) (s t : ℕ) (r : Result Grounds Refusal) : Type 0 where
+  pub verdict : numbered r ≡ explain_outcome b s t
+  pub explained : explain_outcome b s t ≡ accepted → IfOk r (Grounded (frame_of b) s t)

@@ -11,7 +11,7 @@ ghost use Rattle.ice_step.specs.Finished.{lent, LentFits, Finished};
 use ice_moves::turn_at;
 use ice_step::{Walked, finish, step};
 use joint_rows::rows;
-use spec::{Plan, Verdict, Way, answer_number};
+use spec::{Plan, Way};
 use ways::dispatch;
 
 // The filter's work, after the checks. The built-in weights, the box and the histogram are its own, and made once. For way 1 in kind 1 a plane may be
@@ -57,11 +57,9 @@ pub fn sweep(
         words,
         numbers,
     );
-    let first = visit.answer;
-    output[0] = answer_number(first);
-    let mut i = 0;
-    while i + 1 < n {
-        let then = step(
+    output[0] = u16::from(visit.answer);
+    for i in 0..n - 1 {
+        visit = step(
             file,
             plane,
             plan,
@@ -75,19 +73,12 @@ pub fn sweep(
             words,
             numbers,
         );
-        visit = then;
-        i += 1;
-        let at = then.row * width + then.column;
-        let answer = then.answer;
-        output[at] = answer_number(answer);
+        output[visit.row * width + visit.column] = u16::from(visit.answer);
     }
     finish(file, plan, way, visit, &mut balance_box, summary);
-    let cut = visit.cut;
-    let shifts = visit.shifts;
     Walked {
-        verdict: Verdict::Accepted,
-        shifts,
-        cut,
+        shifts: visit.shifts,
+        cut: visit.cut,
         balance_box,
     }
 }

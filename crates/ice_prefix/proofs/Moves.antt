@@ -2,25 +2,25 @@
 -- Assumes nothing.
 use Prim.Native.Nat.{ℕ, zero, suc, ◌+◌, ◌-◌, ◌*◌, ◌≤◌, ◌<◌}
 use mathlib.Core.Path.{◌≡◌, refl, ap, ap₂, sym, ◌∙◌, subst}
-use mathlib.Core.Logic.{inl, inr}
 use mathlib.Core.List.{List, [], ◌∷◌, ◌++◌}
 use native.Mathlib.Omega.{arith}
 use lib.ListN.{length, get_or, take, drop}
 use lib.Seq.{length-take-le, get_or-take}
 use lib.IntN.{ℤ}
+use Rattle.std.proofs.lemmas.List.{nil_from_length}
 use Rattle.spec.specs.declared.Plan.{Plan}
 use Rattle.spec.specs.declared.Way.TheVariants.{Joint}
-use Rattle.spec.specs.Frame.{Frame, frame_of, pixels}
+use Rattle.spec.specs.Frame.{Frame, frame_of}
 use Rattle.spec.specs.Checks.{Planned}
 use Rattle.spec.specs.Walk.{State, step, answers, walk_end, walk_answers}
 use Rattle.spec.specs.Filter.{turn, serpentine}
-use Rattle.spec.specs.Calls.{room_of, counts_of, words_of}
+use Rattle.spec.specs.Calls.{counts_of, words_of}
 use Rattle.spec.specs.Cameras.{counts_room, words_room}
 use Rattle.spec.proofs.Plans.{facts, plane-small}
 use Rattle.spec.proofs.Serpentine.{serpentine-length, serpentine-byte}
 use Rattle.visit.specs.declared.Visit.{Visit}
 use Rattle.visit.specs.Visit.{state_of}
-use Rattle.ways.specs.Visit.{Stores, Serves, Visited}
+use Rattle.ways.specs.Visit.{Stores, stores, Visited}
 use Rattle.ways.proofs.WayLaws.{joined}
 use Rattle.ice_filter.proofs.FilterLoop.{count-is}
 use Rattle.ice_prefix.specs.Prefix.{parts, Begun}
@@ -37,8 +37,12 @@ answers-take p x (b ∷ bs) (suc m) = ap (λ (l : List ℕ). x.answer ∷ l) (an
 unfoldable pub moves_to : List ℕ → ℕ → List ℕ
 moves_to f n = take (n - 1) (serpentine (frame_of f).set)
 
-pub joint-serves : (z : Plan) → Serves Joint z []
-joint-serves z = (inl tt, inl refl)
+-- way 1 is lent no numbers, so none come back
+pub none_back : {f : List ℕ} {x : State} {xs ws : List ℕ} {s : Stores} {hs : List ℕ} {d : List ℤ} {v : Visit}
+    → Visited Joint f [] x (stores xs ws []) s hs d v → Visited Joint f [] x (stores xs ws []) (stores s.counts s.words []) hs d v
+none_back {f} {x} {xs} {ws} {s} {hs} {d} {v} w =
+    subst (λ (q : List ℕ). Visited Joint f [] x (stores xs ws []) (stores s.counts s.words q) hs d v)
+    (nil_from_length s.numbers w.kept.numbers.long) w
 
 module _ {f : List ℕ} {z : Plan} (k : Planned f z) where
   module _ (n : ℕ) (some : 1 ≤ n) (few : n ≤ z.width * z.height) where

@@ -11,7 +11,7 @@ ghost use Rattle.ice_prefix.specs.Prefix.{parts, Begun};
 use ice_moves::turn_at;
 use ice_step::step;
 use joint_rows::rows;
-use spec::{Plan, Way, answer_number};
+use spec::{Plan, Way};
 use ways::dispatch;
 
 // The first n pixels, of which there is at least one. The built-in weights, the box and the histogram are the walk's own, and made once.
@@ -29,16 +29,13 @@ pub fn begin(
     ensures { Begun file.now n (parts counts.old words.old answers.old)
         (parts counts.new words.new answers.new) }
 {
-    let none: [u16; 0] = [];
-    let mut numbers: [u32; 0] = [];
-    let width = plan.width;
     let mut weights = [0u16; 511];
     rows::built_rows(plan, &mut weights);
     let mut balance_box = [0i16; 256];
     let mut histogram = [0u32; 2048];
     let mut visit = dispatch::enter(
         file,
-        &none,
+        &[],
         plan,
         Way::Joint,
         &weights,
@@ -48,29 +45,25 @@ pub fn begin(
         &mut histogram,
         counts,
         words,
-        &mut numbers,
+        &mut [],
     );
-    let start = visit.answer;
-    answers[0] = answer_number(start);
-    let mut i = 0;
-    while i + 1 < n {
+    answers[0] = u16::from(visit.answer);
+    for i in 0..n - 1 {
         let then = step(
             file,
-            &none,
+            &[],
             plan,
             Way::Joint,
             &weights,
             visit,
-            turn_at(width, i),
+            turn_at(plan.width, i),
             &mut balance_box,
             &mut histogram,
             counts,
             words,
-            &mut numbers,
+            &mut [],
         );
-        let answer = then.answer;
+        answers[i + 1] = u16::from(then.answer);
         visit = then;
-        i += 1;
-        answers[i] = answer_number(answer);
     }
 }

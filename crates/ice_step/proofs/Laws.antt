@@ -17,7 +17,6 @@ use Rattle.spec.specs.declared.Plan.{Plan}
 use Rattle.spec.specs.declared.Way.{Way}
 use Rattle.spec.specs.declared.Way.TheVariants.{Joint, Columns, Chain, Coarse}
 use Rattle.spec.specs.declared.Move.TheVariants.{To, Nowhere}
-use Rattle.spec.specs.declared.Verdict.TheVariants.{Accepted}
 use Rattle.std.specs.Prelude.{if◌then◌else◌}
 use Rattle.spec.specs.Frame.{Frame, frame_of, frame_with, settings_in}
 use Rattle.spec.specs.Checks.{Pictured, SettingsLimits}
@@ -167,13 +166,13 @@ blocks-fit Coarse e k n h = subst (λ (q : Settings). block_count q ≤ n) (sett
 
 -- what a visit leaves, and the end made of it
 pub finished : {way : Way} {b vs : List ℕ} {x : State} {a z : Stores} {hs : List ℕ} {d s s' : List ℤ} (v : Visit) (r : Walked)
-    → r.verdict ≡ Accepted → r.shifts ≡ v.shifts → r.cut.0 ≡ v.cut.0
+    → r.shifts ≡ v.shifts → r.cut.0 ≡ v.cut.0
     → Visited way b vs x a z hs d v → HandedBack way (frame_with b vs) (state_of way v) s s' r.balance_box
     → Finished way (frame_with b vs) x (record { stores = a; summary = s }) (record { stores = z; summary = s' }) r
-finished {way} {b} {vs} {x} {a} {z} {hs} {d} {s} {s'} v r told shifts cut h back =
+finished {way} {b} {vs} {x} {a} {z} {hs} {d} {s} {s'} v r shifts cut h back =
     subst (λ (w : State). Finished way (frame_with b vs) w (record { stores = a; summary = s }) (record { stores = z; summary = s' }) r) h.state
     (record {
-      closed = record { verdict = told; shifts = shifts; cut = cut; handed_back = back };
+      closed = record { shifts = shifts; cut = cut; handed_back = back };
       holds = h.here.holds;
       kept = h.kept;
     })

@@ -3,7 +3,6 @@
 use Rattle.std.specs.Prelude.{◌≡◌, true, false, List, ◌++◌, ℕ, ◌≤◌, ℤ, length, drop}
 use Rattle.spec.specs.declared.Room.{Room}
 use Rattle.spec.specs.declared.Settings.{Settings}
-use Rattle.spec.specs.declared.Verdict.TheVariants.{Accepted}
 use Rattle.spec.specs.declared.Way.{Way}
 use Rattle.spec.specs.Frame.{Frame}
 use Rattle.spec.specs.Walk.{State, by_blocks}
@@ -46,7 +45,6 @@ pub record HandedBack (way : Way) (p : Frame) (x : State) (before after : List �
 
 -- the result of a loop that ended in the state x, and the summary
 pub record Closed (way : Way) (p : Frame) (x : State) (before after : List ℤ) (r : Walked) : Type 0 where
-  pub verdict : r.verdict ≡ Accepted
   pub shifts : r.shifts ≡ x.shifts
   pub cut : r.cut.0 ≡ x.cut
   pub handed_back : HandedBack way p x before after r.balance_box

@@ -12,15 +12,14 @@ ghost use Rattle.ways.specs.Visit.{stores, StoresFit, Serves, AtWindow, Visited}
 ghost use Rattle.ice_step.specs.Finished.{EndMade};
 
 use ice_moves::next;
-use spec::{Answer, Level, Move, Plan, Verdict, Way, by_blocks};
+use spec::{Answer, Level, Move, Plan, Way, by_blocks};
 use visit::Visit;
 use ways::dispatch;
 
-// What walk and filter give back beside the buffers: the verdict; the shift count, the last cut point and, for the joint way, the balance box (zeros
-// for the other ways; all zeros where refused).
+// What walk and filter give back beside the buffers: the shift count, the last cut point and, for the joint way, the balance box (zeros for the other
+// ways).
 #[derive(Clone, Copy)]
 pub struct Walked {
-    pub verdict: Verdict,
     pub shifts: u64,
     pub cut: Level,
     pub balance_box: [i16; 256],
@@ -51,8 +50,7 @@ pub fn step(
         (stores counts.new words.new numbers.new)
         histogram.new balance_box.new result }
 {
-    let m = next(plan, visit.column, visit.row, byte);
-    match m {
+    match next(plan, visit.column, visit.row, byte) {
         Move::To(column, row) => dispatch::slide(
             file,
             plane,
@@ -68,18 +66,10 @@ pub fn step(
             words,
             numbers,
         ),
-        Move::Nowhere(mark) => {
-            let cut = visit.cut;
-            let running = visit.running;
-            Visit {
-                column: visit.column,
-                row: visit.row,
-                cut,
-                shifts: visit.shifts,
-                answer: Answer::Mark(mark),
-                running,
-            }
-        }
+        Move::Nowhere(mark) => Visit {
+            answer: Answer::Mark(mark),
+            ..visit
+        },
     }
 }
 

@@ -10,7 +10,7 @@ ghost use Rattle.ice_step.specs.Finished.{lent, LentFits, Finished};
 
 use ice_step::{Walked, finish, step};
 use joint_rows::rows;
-use spec::{Plan, Verdict, Way, answer_number};
+use spec::{Plan, Way};
 use ways::dispatch;
 
 // The walk's work, after the checks. The built-in weights, the box and the histogram are its own, and made once; no plane is given in place of the
@@ -59,10 +59,8 @@ pub fn travel(
         words,
         numbers,
     );
-    let start = visit.answer;
-    answers[0] = answer_number(start);
-    let mut i = 0;
-    while i < moves.len() {
+    answers[0] = u16::from(visit.answer);
+    for (i, byte) in moves.iter().enumerate() {
         let then = step(
             file,
             &none,
@@ -70,25 +68,20 @@ pub fn travel(
             way,
             &weights,
             visit,
-            moves[i],
+            *byte,
             &mut balance_box,
             &mut histogram,
             counts,
             words,
             numbers,
         );
-        let answer = then.answer;
+        answers[i + 1] = u16::from(then.answer);
         visit = then;
-        i += 1;
-        answers[i] = answer_number(answer);
     }
     finish(file, plan, way, visit, &mut balance_box, summary);
-    let cut = visit.cut;
-    let shifts = visit.shifts;
     Walked {
-        verdict: Verdict::Accepted,
-        shifts,
-        cut,
+        shifts: visit.shifts,
+        cut: visit.cut,
         balance_box,
     }
 }

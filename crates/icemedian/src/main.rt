@@ -15,6 +15,7 @@ fn read_full<R: Read>(reader: &mut R, input: &mut [u8; READ]) -> io::Result<usiz
     ensures { IfOk result (λ n. n ≤ length input.new) }
 {
     let mut n = 0;
+    // no `for`, since the reader says how far each read comes
     while n < input.len() {
         let got = reader.read(&mut input[n..])?;
         if got == 0 {

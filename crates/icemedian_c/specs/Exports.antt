@@ -4,7 +4,6 @@ use Rattle.std.specs.Prelude.{ℕ, ◌+◌, ◌≡◌, List, ◌++◌, ℤ, leng
 use Rattle.spec.specs.declared.Settings.{Settings}
 use Rattle.spec.specs.declared.Way.{Way}
 use Rattle.spec.specs.declared.Way.TheVariants.{Joint}
-use Rattle.spec.specs.declared.Verdict.TheVariants.{Accepted}
 use Rattle.spec.specs.Refusal.{Outcome, accepted}
 use Rattle.spec.specs.Frame.{Frame, frame_of, with_values, pixels}
 use Rattle.spec.specs.Window.{pixel_count}
@@ -31,7 +30,7 @@ use Rattle.cameras.specs.Contract as cameras
 -- the result of a walk that ended at the state x
 abbrev pub result_at : Way → Frame → State → Walked
 result_at way p x =
-    record { verdict = Accepted; shifts = x.shifts; cut = record { 0 = x.cut }; balance_box = box_of way p x.column x.row x.cut }
+    record { shifts = x.shifts; cut = record { 0 = x.cut }; balance_box = box_of way p x.column x.row x.cut }
 
 -- of an outcome o and the state x at the end: the stores, the answers or the output, and the shift count, each before and after
 pub record Called (o : Outcome) (way : Way) (p : Frame) (x : State) (before after : Lent) (due old new : List ℕ) (shifts₀ shifts : ℕ)
@@ -65,7 +64,7 @@ pub record FilterCall (b : List ℕ) (way : ℕ) (before after : Lent) (old new 
 -- the result of the call on two frames
 abbrev pub tolerated_at : Frame → Frame → Tolerated
 tolerated_at p q =
-    record { verdict = Accepted; least_shifts = (filter_end Joint p).shifts; greatest_shifts = (filter_end Joint q).shifts }
+    record { least_shifts = (filter_end Joint p).shifts; greatest_shifts = (filter_end Joint q).shifts }
 
 -- each shift count before and after
 pub record ToleranceCall (b upper : List ℕ) (before after : Buffers) (r least₀ least greatest₀ greatest offset₀ offset : ℕ) : Type 0 where

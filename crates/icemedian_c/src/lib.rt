@@ -13,17 +13,14 @@ ghost use Rattle.icemedian_c.specs.Exports.{WalkCall, FilterCall, ToleranceCall,
 ghost use Rattle.icemedian_c.specs.Exports.{CamerasCall};
 
 use c_values::{give_grounds, give_walk, report, settings_from};
-use frame_write::Written;
 use ice::calls;
-use spec::Verdict;
 
 // Checks 1 to 7.
 #[unsafe(no_mangle)]
 pub extern "C" fn icemedian_check(file: &[u8], offset: &mut u64) -> u32
     ensures { Reported (verdict file.now) result offset.old offset.new }
 {
-    let v = frame::check::check(file);
-    report(v, offset)
+    report(&frame::check::check(file), offset)
 }
 
 // Walks from a pixel along a list of moves.
@@ -53,19 +50,8 @@ pub extern "C" fn icemedian_walk(
     let walked = calls::walk(
         file, way, column, row, moves, counts, words, numbers, summary, answers,
     );
-    let v = walked.verdict;
-    let status = report(v, offset);
-    let last_box = walked.balance_box;
-    give_walk(
-        v,
-        walked.shifts,
-        walked.cut.0,
-        last_box,
-        shifts,
-        cut,
-        balance_box,
-    );
-    status
+    give_walk(walked, shifts, cut, balance_box);
+    report(&walked, offset)
 }
 
 // Filters a frame into an output plane.
@@ -87,12 +73,10 @@ pub extern "C" fn icemedian_filter(
         output.old output.new result shifts.old shifts.new offset.old offset.new }
 {
     let filtered = calls::filter(file, way, counts, words, numbers, summary, output);
-    let v = filtered.verdict;
-    let status = report(v, offset);
-    if status == 0 {
-        *shifts = filtered.shifts;
+    if let Ok(end) = filtered {
+        *shifts = end.shifts;
     }
-    status
+    report(&filtered, offset)
 }
 
 // Filters a frame with its own values, and then with the upper levels in their place, into two output planes.
@@ -114,14 +98,12 @@ pub extern "C" fn icemedian_tolerance(
         result least_shifts.old least_shifts.new greatest_shifts.old greatest_shifts.new
         offset.old offset.new }
 {
-    let found = tolerance::tolerance(file, upper, counts, words, least, greatest);
-    let v = found.verdict;
-    let status = report(v, offset);
-    if status == 0 {
+    let tolerated = tolerance::tolerance(file, upper, counts, words, least, greatest);
+    if let Ok(found) = tolerated {
         *least_shifts = found.least_shifts;
         *greatest_shifts = found.greatest_shifts;
     }
-    status
+    report(&tolerated, offset)
 }
 
 // The balance of a window at a level.
@@ -138,13 +120,10 @@ pub extern "C" fn icemedian_balance(
         offset.old offset.new }
 {
     let balanced = calls::balance(file, column, row, level as usize);
-    let v = balanced.verdict;
-    let status = report(v, offset);
-    if status == 0 {
-        let n = balanced.balance;
+    if let Ok(n) = balanced {
         *balance = n;
     }
-    status
+    report(&balanced, offset)
 }
 
 // Why the window at a pixel has its level.
@@ -167,11 +146,8 @@ pub extern "C" fn icemedian_explain(
         offset.old offset.new }
 {
     let explained = calls::explain(file, column, row);
-    let v = explained.verdict;
-    let status = report(v, offset);
-    let grounds = explained.grounds;
-    give_grounds(v, grounds, pixels, total, level, below, reached, cause);
-    status
+    give_grounds(explained, pixels, total, level, below, reached, cause);
+    report(&explained, offset)
 }
 
 // Writes a frame into the output.
@@ -196,17 +172,11 @@ pub extern "C" fn icemedian_write(
         length.old length.new offset.old offset.new }
 {
     let settings = settings_from(width, height, levels, guides, kind, radius, smoothing);
-    let w = frame_write::write(settings, values, guide, table, output);
-    match w {
-        Written::Length(n) => {
-            *length = n;
-            0
-        }
-        Written::Refused(refusal) => {
-            let v = Verdict::Refused(refusal);
-            report(v, offset)
-        }
+    let written = frame_write::write(settings, values, guide, table, output);
+    if let Ok(n) = written {
+        *length = n;
     }
+    report(&written, offset)
 }
 
 // The file with its value plane split into byte planes, into an output of the file's length.
@@ -214,8 +184,7 @@ pub extern "C" fn icemedian_write(
 pub extern "C" fn icemedian_split(file: &[u8], output: &mut [u8], offset: &mut u64) -> u32
     ensures { SplitCall file.now output.old output.new result offset.old offset.new }
 {
-    let v = byte_planes::split(file, output);
-    report(v, offset)
+    report(&byte_planes::split(file, output), offset)
 }
 
 // The file that was split. No check of it has an offset, so what `report` writes one to is of no use.
@@ -223,9 +192,8 @@ pub extern "C" fn icemedian_split(file: &[u8], output: &mut [u8], offset: &mut u
 pub extern "C" fn icemedian_join(file: &[u8], output: &mut [u8]) -> u32
     ensures { JoinCall file.now output.old output.new result }
 {
-    let v = byte_planes::join(file, output);
     let mut unused = 0u64;
-    report(v, &mut unused)
+    report(&byte_planes::join(file, output), &mut unused)
 }
 
 // Up to eight files, end to end in one buffer, filtered as far as the grants of the periods reach.
@@ -246,10 +214,8 @@ pub extern "C" fn icemedian_cameras(
         result grants.old grants.new offset.old offset.new }
 {
     let granted = cameras::cameras(files, lengths, limits, counts, words, answers);
-    let v = granted.verdict;
-    let status = report(v, offset);
-    if status == 0 {
-        *grants = granted.grants;
+    if let Ok(n) = granted {
+        *grants = n;
     }
-    status
+    report(&granted, offset)
 }

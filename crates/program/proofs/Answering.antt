@@ -2,7 +2,7 @@
 -- Assumes nothing.
 use Prim.Native.Nat.{ℕ, ◌+◌, ◌*◌, ◌≤◌, ◌<◌}
 use mathlib.Core.Path.{◌≡◌, refl, sym, ap, ◌∙◌}
-use mathlib.Core.Bool.{Bool, true, false, true≢false}
+use mathlib.Core.Bool.{Bool, true, false}
 use mathlib.Core.Logic.{⊎_elim}
 use mathlib.Core.List.{List, [], ◌∷◌, ◌++◌, append_assoc}
 use native.Mathlib.Nat.{mul_comm}
@@ -14,9 +14,8 @@ use Rattle.spec.specs.declared.Plan.{Plan}
 use Rattle.spec.specs.declared.Way.{Way}
 use Rattle.spec.specs.declared.Way.TheVariants.{Joint, Coarse}
 use Rattle.std.specs.Prelude.{if◌then◌else◌}
-use Rattle.spec.specs.declared.Verdict.{Verdict}
-use Rattle.spec.specs.declared.Verdict.TheVariants.{Accepted, Refused}
-use Rattle.spec.specs.Refusal.{Outcome, accepted, refused, fires, number, offset_of, numbered}
+use Rattle.spec.specs.declared.Refusal.{Refusal}
+use Rattle.spec.specs.Refusal.{Outcome, accepted, refused, number, offset_of, values_of}
 use Rattle.spec.specs.Frame.{frame_of, trailer_at, trailer_of, pixels}
 use Rattle.spec.specs.Checks.{Planned}
 use Rattle.spec.specs.Median.{answer}
@@ -28,7 +27,8 @@ use Rattle.spec.proofs.Checks.{passed}
 use Rattle.spec.proofs.Totals.{answer-low}
 use Rattle.spec.proofs.Plans.{facts}
 use Rattle.spec.proofs.Walks.{walk_same}
-use Rattle.text.specs.Text.{plane_text, size_text, way_text, refusal_text}
+use Rattle.text.specs.Text.{TextRoom, plane_text, size_text, way_text, refusal_text}
+use Rattle.text.proofs.Putting.{room-first}
 use Rattle.text.proofs.Rows.{plane-rows}
 use Rattle.text.proofs.Lengths.{rows_short, size-short, way-short, refusal-short}
 use Rattle.program_checks.specs.Admitted.{Admitted}
@@ -127,14 +127,43 @@ text-short {b} {z} a =
     omega (arith, x, l0, l1, l2, l3, r, c, pixels-fewer a, size-short k.width k.height, way-short joint_word n, guided-short k.kind n, w)
 
 -- ---- what is printed fits too, refused or not
-verdict-short : (b : List ℕ) (v : Verdict) → fires (numbered v) ≡ true → length (output_text b (numbered v)) ≤ longest
-verdict-short b Accepted e = absurd (true≢false (sym e))
-verdict-short b (Refused r) e = let h = ap length (refused-text b (number r) (offset_of r)) in omega (arith, h, refusal-short (number r) (offset_of r))
-
-pub refusal-fits : (b : List ℕ) (v : Verdict) → numbered v ≡ program_outcome b → fires (numbered v) ≡ true → length (printed b) ≤ longest
+pub refusal-fits : (b : List ℕ) (r : Refusal) → refused (number r) (values_of r) ≡ program_outcome b → length (printed b) ≤ longest
 unfolding printed
-refusal-fits b v e f = rw (sym e) (verdict-short b v f)
+refusal-fits b r e =
+    let h = ap length (refused-text b (number r) (offset_of r)) in rw (sym e) (omega (arith, h, refusal-short (number r) (offset_of r)))
 
 pub printed-as : (b : List ℕ) {u : Outcome} → u ≡ program_outcome b → output_text b u ≡ printed b
 unfolding printed
 printed-as b e = ap (output_text b) e
+
+-- ---- the parts of the text, and the room for the first ones of them
+module _ {b : List ℕ} {z : Plan} (a : Admitted b z) (l : List ℕ) (h : longest ≤ length l) where
+  abbrev size : List ℕ
+  size = size_text z.width z.height
+
+  abbrev lines : List ℕ
+  lines = rows (frame_of b) z.height
+
+  abbrev joint : List ℕ
+  joint = way_text joint_word (shift_count Joint b)
+
+  abbrev guided : List ℕ
+  guided = guided_text z.kind (shift_count Joint b)
+
+  abbrev coarse : List ℕ
+  coarse = way_text coarse_word (shift_count Coarse b)
+
+  pub room-all : TextRoom l 0 (parts b z.width z.height z.kind)
+  room-all = omega (arith, text-short a, ap length (whole a.planned), h)
+
+  pub room-four : TextRoom l 0 (size ++ lines ++ joint ++ guided)
+  room-four = room-first l 0 (size ++ lines ++ joint ++ guided) coarse room-all
+
+  pub room-three : TextRoom l 0 (size ++ lines ++ joint)
+  room-three = room-first l 0 (size ++ lines ++ joint) guided room-four
+
+  pub room-two : TextRoom l 0 (size ++ lines)
+  room-two = room-first l 0 (size ++ lines) joint room-three
+
+  pub room-one : TextRoom l 0 size
+  room-one = room-first l 0 size lines room-two

@@ -12,7 +12,11 @@ use borrow.Author.Tests.{le-ltb, eq-eqb}
 use Rattle.spec.specs.declared.Settings.{Settings}
 use Rattle.spec.specs.declared.Room.{Room}
 use Rattle.spec.specs.declared.Plan.{Plan}
-use Rattle.spec.specs.Refusal.{Outcome, accepted, ◌▷◌, refuse}
+use Rattle.std.specs.Prelude.{Result, Ok, Err}
+use Rattle.std.specs.Result.{IsOk}
+use Rattle.spec.specs.declared.Refusal.{Refusal}
+use Rattle.spec.proofs.Checks.{not-refused}
+use Rattle.spec.specs.Refusal.{Outcome, accepted, ◌▷◌, refuse, numbered}
 use Rattle.spec.specs.Frame.{frame_of, settings_of, pixels}
 use Rattle.spec.specs.Joint.{words_per_level}
 use Rattle.spec.specs.Chain.{node_count}
@@ -107,3 +111,8 @@ unfolding filter_outcome
 filter_passes {b} {z} way have out a s l =
     ap (λ (o : Outcome). o ▷ filter_checks (settings_of b) way have out) a.planned.accepts
     ∙ serves (settings_of b) (small a) have out l way (rw (kind-of a) at s)
+
+-- a call that is accepted gives a value
+pub is_ok : {A : Type 0} (r : Result A Refusal) → numbered r ≡ accepted → IsOk r
+is_ok (Ok x) e = refl
+is_ok (Err r) e = absurd (not-refused e)

@@ -34,7 +34,7 @@ fn filter_by(input: &[u8], way: u32, plane: &mut [u16; PIXELS]) -> u64
     let mut words = [0u64; WORDS];
     let mut numbers = [0u32; NUMBERS];
     let mut summary = [0i64; BLOCKS];
-    let walked = filter(
+    let filtered = filter(
         input,
         way,
         &mut counts,
@@ -43,7 +43,7 @@ fn filter_by(input: &[u8], way: u32, plane: &mut [u16; PIXELS]) -> u64
         &mut summary,
         plane,
     );
-    walked.shifts
+    filtered.unwrap().shifts
 }
 
 // The lines of the ways that serve kind 2 alone.

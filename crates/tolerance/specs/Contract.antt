@@ -1,10 +1,8 @@
 -- What the tolerance call promises, of every input.
 -- Assumes nothing.
-use Rattle.std.specs.Prelude.{ℕ, ◌≡◌, List, ◌++◌, length, drop}
-use Rattle.spec.specs.declared.Settings.{Settings}
+use Rattle.std.specs.Prelude.{ℕ, ◌≡◌, List, ◌++◌, length, drop, Result, IfOk}
+use Rattle.spec.specs.declared.Refusal.{Refusal}
 use Rattle.spec.specs.declared.Room.{Room}
-use Rattle.spec.specs.declared.Verdict.{Verdict}
-use Rattle.spec.specs.declared.Verdict.TheVariants.{Accepted}
 use Rattle.spec.specs.declared.Way.TheVariants.{Joint}
 use Rattle.spec.specs.Refusal.{Outcome, accepted, numbered}
 use Rattle.spec.specs.Frame.{Frame, pixels, frame_of, with_values}
@@ -30,16 +28,8 @@ stores_in held = record { counts = length held.counts; words = length held.words
 abbrev pub outcome_of : List ℕ → List ℕ → Buffers → Outcome
 outcome_of b upper before = tolerance_outcome b upper (stores_in before) (length before.least) (length before.greatest)
 
--- the result of a refused call
-pub record NothingDone (v : Verdict) (r : Tolerated) : Type 0 where
-  pub verdict : r.verdict ≡ v
-  pub least-shifts : r.least_shifts ≡ 0
-  pub greatest-shifts : r.greatest_shifts ≡ 0
-
--- a refused call: zeros in the result, and every buffer as it was
-pub record AllKept (before after : Buffers) (r : Tolerated) : Type 0 where
-  pub least-shifts : r.least_shifts ≡ 0
-  pub greatest-shifts : r.greatest_shifts ≡ 0
+-- a refused call: every buffer as it was
+pub record AllKept (before after : Buffers) : Type 0 where
   pub counts : after.counts ≡ before.counts
   pub words : after.words ≡ before.words
   pub least : after.least ≡ before.least
@@ -48,7 +38,6 @@ pub record AllKept (before after : Buffers) (r : Tolerated) : Type 0 where
 -- the frame p and then the frame q, of the same settings, filtered by way 1: each output the plane of answers and then what lay beyond, both shift
 -- counts, and the stores of the last window of q
 pub record BothFiltered (p q : Frame) (before after : Buffers) (r : Tolerated) : Type 0 where
-  pub verdict : r.verdict ≡ Accepted
   pub least-shifts : r.least_shifts ≡ (filter_end Joint p).shifts
   pub greatest-shifts : r.greatest_shifts ≡ (filter_end Joint q).shifts
   pub least : after.least ≡ filtered p ++ drop (pixels p.set) before.least
@@ -59,7 +48,7 @@ pub record BothFiltered (p q : Frame) (before after : Buffers) (r : Tolerated) :
       ++ drop (room_of Joint p.set).words before.words
 
 -- the call: the frame of the file, and the same with the upper levels as its values
-pub record Tolerates (b upper : List ℕ) (before after : Buffers) (r : Tolerated) : Type 0 where
-  pub verdict : numbered r.verdict ≡ outcome_of b upper before
-  pub refused : (outcome_of b upper before ≡ accepted → ⊥) → AllKept before after r
-  pub filtered : outcome_of b upper before ≡ accepted → BothFiltered (frame_of b) (with_values (frame_of b) upper) before after r
+pub record Tolerates (b upper : List ℕ) (before after : Buffers) (r : Result Tolerated Refusal) : Type 0 where
+  pub verdict : numbered r ≡ outcome_of b upper before
+  pub refused : (outcome_of b upper before ≡ accepted → ⊥) → AllKept before after
+  pub filtered : outcome_of b upper before ≡ accepted → IfOk r (BothFiltered (frame_of b) (with_values (frame_of b) upper) before after)

@@ -1,6 +1,5 @@
 // Document 02, ask 7: levels known within a tolerance. One call filters a frame by way 1 with its own values, and then with a plane of upper levels
-// in
-// their place: at each pixel the least and the greatest answer over every choice of levels between the two.
+// in their place: at each pixel the least and the greatest answer over every choice of levels between the two.
 #![tactic(auto)]
 
 ghost use Rattle.std.specs.Prelude.{◌≡◌, [], ◌*◌, ◌≤◌, length};
@@ -8,17 +7,16 @@ ghost use Rattle.spec.specs.Frame.{frame_of, frame_with, settings_in};
 ghost use Rattle.spec.specs.Checks.{Planned, Pictured};
 ghost use Rattle.ice_step.specs.Finished.{lent, LentFits};
 ghost use Rattle.spec.specs.declared.Way.TheVariants.{Joint};
-ghost use Rattle.tolerance.specs.Contract.{buffers, NothingDone, BothFiltered, Tolerates};
+ghost use Rattle.tolerance.specs.Contract.{buffers, BothFiltered, Tolerates};
 
 use frame::plan::open_plan;
 use ice_filter::sweep;
-use spec::{Plan, Room, Verdict, Way, stops};
+use spec::{Plan, Refusal, Room, Way};
 use tolerance_checks::tolerance_verdict;
 
-// What the call gives back beside the buffers: the verdict, and the shift count of each of the two filters (0 where refused).
+// What the call gives back beside the buffers: the shift count of each of the two filters.
 #[derive(Clone, Copy)]
 pub struct Tolerated {
-    pub verdict: Verdict,
     pub least_shifts: u64,
     pub greatest_shifts: u64,
 }
@@ -40,18 +38,15 @@ fn filter_both(
         (buffers counts.old words.old least.old greatest.old)
         (buffers counts.new words.new least.new greatest.new) result }
 {
-    let none: [u16; 0] = [];
-    let mut numbers: [u32; 0] = [];
-    let mut summary: [i64; 0] = [];
     let lower = sweep(
         file,
-        &none,
+        &[],
         plan,
         Way::Joint,
         counts,
         words,
-        &mut numbers,
-        &mut summary,
+        &mut [],
+        &mut [],
         least,
     );
     let higher = sweep(
@@ -61,30 +56,19 @@ fn filter_both(
         Way::Joint,
         counts,
         words,
-        &mut numbers,
-        &mut summary,
+        &mut [],
+        &mut [],
         greatest,
     );
     Tolerated {
-        verdict: Verdict::Accepted,
         least_shifts: lower.shifts,
         greatest_shifts: higher.shifts,
     }
 }
 
-// The result of a refused call.
-fn refused(verdict: Verdict) -> Tolerated
-    ensures { NothingDone verdict result }
-{
-    Tolerated {
-        verdict,
-        least_shifts: 0,
-        greatest_shifts: 0,
-    }
-}
-
 // The least and the greatest answers of a frame whose levels lie between its own and the upper ones; what it promises is one record, for refusals
 // too.
+#[tactic(auto, unfolding(spec::specs::Tolerance::tolerance_outcome))]
 pub fn tolerance(
     file: &[u8],
     upper: &[u16],
@@ -92,26 +76,18 @@ pub fn tolerance(
     words: &mut [u64],
     least: &mut [u16],
     greatest: &mut [u16],
-) -> Tolerated
+) -> Result<Tolerated, Refusal>
     ensures { Tolerates file.now upper.now
         (buffers counts.old words.old least.old greatest.old)
         (buffers counts.new words.new least.new greatest.new) result }
 {
+    let plan = open_plan(file)?;
     let have = Room {
         counts: counts.len(),
         words: words.len(),
         numbers: 0,
         summary: 0,
     };
-    let opened = open_plan(file);
-    let v = opened.verdict;
-    if stops(v) {
-        return refused(v);
-    }
-    let plan = opened.plan;
-    let w = tolerance_verdict(file, plan, upper, have, least.len(), greatest.len());
-    if stops(w) {
-        return refused(w);
-    }
-    filter_both(file, plan, upper, counts, words, least, greatest)
+    tolerance_verdict(file, plan, upper, have, least.len(), greatest.len())?;
+    Ok(filter_both(file, plan, upper, counts, words, least, greatest))
 }

@@ -1,16 +1,8 @@
-use native.Mathlib.Omega.{arith}
-use Rattle.icemedian_c.proofs.ExportLaws.{writes-narrowed, write-passed, write-stopped}
-use borrow.Author.Rules.{rules}
+-- `icemedian_write` meets its contract. Assumes nothing.
+use Rattle.std.proofs.Common.{rules, arith}
+use Rattle.std.proofs.lemmas.Grind.{common_steps}
+use Rattle.icemedian_c.proofs.ExportLaws.{writes-narrowed}
 use Rattle.icemedian_c.proofs.icemedian_write.Goals as goal
 
-pub returns-in-Length : goal.returns-in-Length
-returns-in-Length c =
-    write-passed
-    (writes-narrowed c.settings_from-settings.ensures
-    c.write-w.ensures) c.in-Length.is (omega arith)
-
-pub returns-in-Refused : goal.returns-in-Refused
-returns-in-Refused c =
-    write-stopped
-    (writes-narrowed c.settings_from-settings.ensures
-    c.write-w.ensures) c.in-Refused.is c.report.ensures
+pub returns : goal.returns
+returns c = let h = writes-narrowed c.settings_from-settings.ensures c.write-written.ensures in grind (arith, common_steps, h)
