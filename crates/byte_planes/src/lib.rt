@@ -23,7 +23,7 @@ fn overlap(a: usize, m: usize, c: usize, n: usize) -> bool
     c < a + m && a < c + n && m != 0 && n != 0
 }
 
-// Checks 1 to 6, and 14: the guide plane and the table lie apart from the value plane. The plan is made again by whoever goes on, because a plan in the
+// Checks 1 to 6, and 14: the guide plane and the table lie apart from the value plane. Whoever goes on makes the plan again, because a plan in the
 // result takes more stack.
 #[tactic(auto, unfolding(spec::specs::BytePlanes::bad_overlap))]
 fn check_parts(file: &[u8]) -> Result<(), Refusal>

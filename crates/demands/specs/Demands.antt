@@ -1,9 +1,38 @@
 -- The three demands, and document 02's requests 4, 7 and 8, over windows without their dead pixels (request 6), as statements about the promises of
 -- the calls.
 -- A reader starts here; proofs/Demands.antt proves each, proofs/BytePlanes.antt those of request 8. Cameras.antt beside this has request 9.
--- b are a file's bytes, upper a plane of upper levels, before and after the stores around a call, old and new its answers or output, r its result.
+-- b are a file's bytes, upper a plane of upper levels, before and after the stores around a call, old and new its answers or output, r what it
+-- gives back: its result, or, behind Ok, the value of an accepted call.
 -- Assumes nothing.
-use Rattle.std.specs.Prelude.{ℕ, suc, ◌+◌, ◌-◌, ◌*◌, ◌≤◌, ◌<◌, ◌≡◌, true, false, ◌⊎◌, ◌↔◌, List, ◌++◌, leb, length, get_or, take, drop, pos, ◌*ℤ◌, ◌≤ℤ◌, ◌<ℤ◌, if◌then◌else◌, ℤ, Result, Ok}
+use Rattle.std.specs.Prelude.{
+  ℕ,
+  suc,
+  ◌+◌,
+  ◌-◌,
+  ◌*◌,
+  ◌≤◌,
+  ◌<◌,
+  ◌≡◌,
+  true,
+  false,
+  ◌⊎◌,
+  ◌↔◌,
+  List,
+  ◌++◌,
+  leb,
+  length,
+  get_or,
+  take,
+  drop,
+  pos,
+  ◌*ℤ◌,
+  ◌≤ℤ◌,
+  ◌<ℤ◌,
+  if◌then◌else◌,
+  ℤ,
+  Result,
+  Ok,
+}
 use Rattle.spec.specs.declared.Settings.{Settings}
 use Rattle.spec.specs.declared.Plan.{Plan}
 use Rattle.spec.specs.declared.Room.{Room}
@@ -115,13 +144,15 @@ JoinedOrRefused =
 
 -- the table of refusals: each number exactly if its row fires and no row before it does
 pub record EachNumber : Type 0 where
-  pub walk : (b : List ℕ) (way s t n : ℕ) (have : Room) (out : ℕ) → ByTable (walk_rows b way s t n have out) (walk_outcome b way s t n have out)
+  pub walk : (b : List ℕ) (way s t n : ℕ) (have : Room) (out : ℕ)
+      → ByTable (walk_rows b way s t n have out) (walk_outcome b way s t n have out)
   pub filter : (b : List ℕ) (way : ℕ) (have : Room) (out : ℕ) → ByTable (filter_rows b way have out) (filter_outcome b way have out)
   pub balance : (b : List ℕ) (s t i : ℕ) → ByTable (balance_rows b s t i) (balance_outcome b s t i)
   pub explain : (b : List ℕ) (s t : ℕ) → ByTable (explain_rows b s t) (explain_outcome b s t)
   pub tolerance : (b upper : List ℕ) (have : Room) (least greatest : ℕ)
       → InOrder (tolerance_rows b upper have least greatest) (tolerance_outcome b upper have least greatest)
-  pub writer : (settings : Settings) (v g a : List ℕ) (room : ℕ) → ByTable (writer_rows settings v g a room) (writer_outcome settings v g a room)
+  pub writer : (settings : Settings) (v g a : List ℕ) (room : ℕ)
+      → ByTable (writer_rows settings v g a room) (writer_outcome settings v g a room)
   pub split : (b : List ℕ) (room : ℕ) → InOrder (split_rows b room) (split_outcome b room)
   pub join : (b : List ℕ) (room : ℕ) → InOrder (join_rows b room) (join_outcome b room)
   pub cameras : (b lengths limits : List ℕ) (counts words answers : ℕ)
@@ -256,9 +287,11 @@ EveryExplanation = (b : List ℕ) (s t : ℕ) (g : Grounds) → Explains b s t (
 pub record AnsweredSo (b : List ℕ) (s t m : ℕ) : Type 0 where
   pub filtered : (way : ℕ) (before after : Lent) (old new : List ℕ) (r : Walked) → Filters b way before after old new (Ok r)
       → at_pixel (frame_of b) new s t ≡ m
-  pub started : (way : ℕ) (moves : List ℕ) (before after : Lent) (old new : List ℕ) (r : Walked) → Walks b way s t moves before after old new (Ok r)
+  pub started : (way : ℕ) (moves : List ℕ) (before after : Lent) (old new : List ℕ) (r : Walked)
+      → Walks b way s t moves before after old new (Ok r)
       → get_or new 0 0 ≡ m
-  pub led : (way u v : ℕ) (moves : List ℕ) (before after : Lent) (old new : List ℕ) (r : Walked) → Walks b way u v moves before after old new (Ok r)
+  pub led : (way u v : ℕ) (moves : List ℕ) (before after : Lent) (old new : List ℕ) (r : Walked)
+      → Walks b way u v moves before after old new (Ok r)
       → (j : ℕ) → j < length moves
       → move (frame_of b).set (walk_end (way_of way) (frame_of b) u v (take j moves)).column
       (walk_end (way_of way) (frame_of b) u v (take j moves)).row (get_or moves j 0) ≡ To s t

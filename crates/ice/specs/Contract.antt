@@ -1,5 +1,5 @@
--- What walk, filter, balance and explain promise, of every input: the outcome; on refusal, that nothing changed; else the result and every buffer. A result
--- is a value exactly where the outcome is accepted.
+-- What walk, filter, balance and explain promise, of every input: the outcome; on refusal, that nothing changed; else the result and every buffer.
+-- A result is a value exactly where the outcome is accepted.
 -- Assumes nothing.
 use Rattle.std.specs.Prelude.{ℕ, ◌+◌, ◌≡◌, List, ◌++◌, length, drop, ℤ, Result, IfOk}
 use Rattle.spec.specs.declared.Grounds.{Grounds}

@@ -56,8 +56,8 @@ module _ (b : List ℕ) (way s t : ℕ) (moves : List ℕ) where
 
 pub record FilterCall (b : List ℕ) (way : ℕ) (before after : Lent) (old new : List ℕ) (r shifts₀ shifts offset₀ offset : ℕ) : Type 0 where
   pub reported : Reported (filter_outcome b way (room_in before) (length old)) r offset₀ offset
-  pub called : Called (filter_outcome b way (room_in before) (length old)) (way_of way) (frame_of b) (filter_end (way_of way) (frame_of b)) before after
-      (filtered (frame_of b) ++ drop (pixels (frame_of b).set) old) old new shifts₀ shifts
+  pub called : Called (filter_outcome b way (room_in before) (length old)) (way_of way) (frame_of b) (filter_end (way_of way) (frame_of b))
+      before after (filtered (frame_of b) ++ drop (pixels (frame_of b).set) old) old new shifts₀ shifts
 
 -- ---- tolerance
 
