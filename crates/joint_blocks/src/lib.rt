@@ -25,8 +25,8 @@ impl Passing for ByBlocks {
     }
 }
 
-// From the cut point, where the balance is bal, up or down. It stands beside way 1's, which counts shifts too, because must-fail/blocks_strict_half
-// is tried here.
+// From the cut point, where the balance is bal, up or down. It stands beside way 1's, which asks for the shifts too, because
+// must-fail/blocks_strict_half is tried here: way 4 counts by a rule of its own.
 pub fn from_cut(
     sizes: Sizes,
     row: &[u16],
@@ -44,8 +44,8 @@ pub fn from_cut(
 {
     let short = bal < 0;
     if short {
-        climb::<ByBlocks>(sizes, row, cut, bal, balance_box, counts, words)
+        climb::<ByBlocks>(sizes, row, cut, bal, 0, balance_box, counts, words).level
     } else {
-        descend::<ByBlocks>(sizes, row, cut, bal, balance_box, counts, words)
+        descend::<ByBlocks>(sizes, row, cut, bal, 0, balance_box, counts, words).level
     }
 }

@@ -13,7 +13,7 @@ use Rattle.ints.specs.Polynomial.{◌⊕◌, ◌⊖◌, ◌⊗◌, #◌, ◌≐�
 use Rattle.ints.specs.Order.{add_parts, diff-parts, ≤-of-eq, ≤-<-trans, <-≤-trans, sub-mono, mul-mono-l, litℤ≤}
 use Rattle.ints.specs.Linear.{ints}
 use Rattle.ints.specs.Bound.{abs-sub-le}
-use Rattle.spec.specs.Base.{fold, sum, sumℤ}
+use Rattle.spec.specs.Base.{fold, sum, sumℤ, distance}
 use Rattle.spec.proofs.First.{first-unique}
 use Rattle.spec.proofs.Ranges.{fold-parts, fold-both, fold_same, int_sums, nat_sums}
 use Rattle.spec.proofs.Sums.{sum-scale, sum_zeros, sum_nonneg, sum-abs, sum-termℤ}
@@ -164,3 +164,10 @@ module _ {X : ℕ → ℤ} {l : ℕ} (low : (i : ℕ) → i < l → pos 0 ≤ℤ
       let inside : r < l = omega (arith, k.upto) in
       median-is X l r inside k.here
       (λ i u. ≤-<-trans (balance-mono low i (r - 1) (omega arith) (omega arith)) (k.below (r - 1) (omega arith)))
+
+-- one shift for each level is the distance
+pub climbed-shifts : (n : ℕ) {B : ℕ → ℤ} {l c r n' : ℕ} → Climbed B l c r → n' + c ≡ n + r → n' ≡ n + distance r c
+climbed-shifts n k e = omega (arith, k.from)
+
+pub descended-shifts : (n : ℕ) {B : ℕ → ℤ} {c r n' : ℕ} → Descended B c r → n' + r ≡ n + c → n' ≡ n + distance r c
+descended-shifts n k e = omega (arith, k.upto)

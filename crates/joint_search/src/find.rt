@@ -27,22 +27,23 @@ pub fn step_balance(x: i32, by: i32, y: i32) -> i32
     x + by * y
 }
 
-// Up to the first level from the given one on whose balance is not negative; bal is the balance at the given one. Where there is no pixel, neither
-// balance nor box changes.
+// Up to the first level from the given one on whose balance is not negative, a shift for each level; bal is the balance at the given one. Where there
+// is no pixel, neither balance nor box changes.
 pub fn climb<P: Passing>(
     sizes: Sizes,
     row: &[u16],
     from: Level,
     bal: i32,
+    shifts: u64,
     balance_box: &mut [i16; 256],
     counts: &[u16],
     words: &[u64],
-) -> Level
+) -> SearchEnd
     requires searchable { (Searchable sizes counts.now words.now) × (RowFits sizes.guides row.now) }
-    requires from_lt_levels { (from.0 < sizes.levels) × (bal ≡ balance_in sizes counts.now row.now from.0)
+    requires from_lt_levels { (from.0 < sizes.levels) × (bal ≡ balance_in sizes counts.now row.now from.0) × (shifts < 1099511627776)
         × (balance_box.old ≡ box_in sizes counts.now from.0) }
-    ensures { (Climbed (balance_in sizes counts.now row.now) sizes.levels from.0 result.0)
-        × (balance_box.new ≡ box_in sizes counts.now result.0) }
+    ensures { (Climbed (balance_in sizes counts.now row.now) sizes.levels from.0 result.level.0)
+        × (result.shifts + from.0 ≡ shifts + result.level.0) × (balance_box.new ≡ box_in sizes counts.now result.level.0) }
 {
     let mut i = from.0;
     let mut b = bal;
@@ -59,24 +60,28 @@ pub fn climb<P: Passing>(
             );
         }
     }
-    Level(i)
+    SearchEnd {
+        level: Level(i),
+        shifts: shifts + u64::from(i - from.0),
+    }
 }
 
-// Down from the given level while the balance below is not negative.
+// Down from the given level while the balance below is not negative, a shift for each level.
 pub fn descend<P: Passing>(
     sizes: Sizes,
     row: &[u16],
     from: Level,
     bal: i32,
+    shifts: u64,
     balance_box: &mut [i16; 256],
     counts: &[u16],
     words: &[u64],
-) -> Level
+) -> SearchEnd
     requires searchable { (Searchable sizes counts.now words.now) × (RowFits sizes.guides row.now) }
-    requires from_lt_levels { (from.0 < sizes.levels) × (bal ≡ balance_in sizes counts.now row.now from.0)
+    requires from_lt_levels { (from.0 < sizes.levels) × (bal ≡ balance_in sizes counts.now row.now from.0) × (shifts < 1099511627776)
         × (pos 0 ≤ℤ bal) × (balance_box.old ≡ box_in sizes counts.now from.0) }
-    ensures { (Descended (balance_in sizes counts.now row.now) from.0 result.0)
-        × (balance_box.new ≡ box_in sizes counts.now result.0) }
+    ensures { (Descended (balance_in sizes counts.now row.now) from.0 result.level.0)
+        × (result.shifts + result.level.0 ≡ shifts + from.0) × (balance_box.new ≡ box_in sizes counts.now result.level.0) }
 {
     let mut i = from.0;
     let mut b = bal;
@@ -89,17 +94,23 @@ pub fn descend<P: Passing>(
             let lower = step_balance(b, -2, level_weight(row, here, sizes.guides, counts, words));
             let short = lower < 0;
             if short {
-                return here;
+                return SearchEnd {
+                    level: here,
+                    shifts: shifts + u64::from(from.0 - i),
+                };
             }
             shift_level(here, sizes.guides, -2, balance_box, counts, words);
             b = lower;
             i -= 1;
         }
     }
-    Level(0)
+    SearchEnd {
+        level: Level(0),
+        shifts: shifts + u64::from(from.0),
+    }
 }
 
-// From the cut point, where the balance is bal, up or down. A shift for each level.
+// From the cut point, where the balance is bal, up or down.
 pub fn from_cut(
     sizes: Sizes,
     row: &[u16],
@@ -117,13 +128,9 @@ pub fn from_cut(
         × (balance_box.new ≡ box_in sizes counts.now result.level.0) }
 {
     let short = bal < 0;
-    let level = if short {
-        climb::<OneByOne>(sizes, row, cut, bal, balance_box, counts, words)
+    if short {
+        climb::<OneByOne>(sizes, row, cut, bal, shifts, balance_box, counts, words)
     } else {
-        descend::<OneByOne>(sizes, row, cut, bal, balance_box, counts, words)
-    };
-    SearchEnd {
-        level,
-        shifts: shifts + level.0.abs_diff(cut.0) as u64,
+        descend::<OneByOne>(sizes, row, cut, bal, shifts, balance_box, counts, words)
     }
 }

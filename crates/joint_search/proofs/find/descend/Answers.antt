@@ -42,6 +42,7 @@ returns-then-short g c =
         below = λ j e. let d : c.loop-i.i - 1 ≡ j = omega arith in
             subst (λ (q : ℕ). balance_in c.args.sizes c.args.counts.now c.args.row.now q <ℤ pos 0) d (lt-true lower refl c.if-short.true);
       },
+      omega (arith, v.upto),
       v.box,
     )
 
