@@ -161,6 +161,11 @@ module _ (sizes : List ℕ) where
   grants-add zero k x = ap (λ (n : ℕ). grants sizes n x) (native.Mathlib.Nat.zero-add k)
   grants-add (suc m) k x = ap (λ (n : ℕ). grants sizes n x) (native.Mathlib.Nat.suc-add m k) ∙ grants-add m k (grant sizes x)
 
+  -- a grant that is not counted is none
+  pub grant-uncounted : (x : Round) → (grant sizes x).granted ≡ x.granted → grant sizes x ≡ x
+  grant-uncounted x e =
+      ⊎_elim (λ h. let g = ap (λ (y : Round). y.granted) (grant-serves x h.0) in absurd (omega arith)) (λ h. grant-none x h) (by-grant x)
+
   -- once a grant is none, so is each after it
   pub grants-early : (i m : ℕ) (x y : Round) → i ≤ m → y ≡ grants sizes i x → grant sizes y ≡ y → y ≡ grants sizes m x
   grants-early i m x y l e q =

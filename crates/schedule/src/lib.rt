@@ -24,33 +24,36 @@ pub fn passed_over(sizes: [usize; FILES], round: Round) -> Option<usize>
     None
 }
 
-// One grant, or none where all files are finished: the definition's grant leaves such a round as it is.
-pub fn grant(sizes: [usize; FILES], round: Round) -> Option<Round>
+// One grant: nothing where all files are finished.
+pub fn grant(sizes: [usize; FILES], round: Round) -> Round
     requires { (SizesFit sizes) × (TalliesCounted sizes round) }
-    ensures { MatchOption result (definitions.grant sizes round ≡ round) (λ granted. granted ≡ definitions.grant sizes round) }
+    ensures { result ≡ definitions.grant sizes round }
 {
-    let j = passed_over(sizes, round)?;
+    let Some(j) = passed_over(sizes, round) else {
+        return round;
+    };
     let k = (round.next + j) % FILES;
     let mut tallies = round.tallies;
     tallies[k] += 1;
-    Some(Round {
+    Round {
         next: k + 1,
         granted: round.granted + 1,
         tallies,
-    })
+    }
 }
 
-// The grants of a period with this limit. Once there is none, all files are finished, and so it stays.
+// The grants of a period with this limit. Once one grants nothing, all files are finished, and so does each after it.
 pub fn period(sizes: [usize; FILES], limit: u32, from: Round) -> Round
     requires { (SizesFit sizes) × (TalliesCounted sizes from) }
     ensures { result ≡ definitions.grants sizes limit from }
 {
     let mut round = from;
     for _ in 0..limit {
-        let Some(granted) = grant(sizes, round) else {
+        let next = grant(sizes, round);
+        if next.granted == round.granted {
             return round;
-        };
-        round = granted;
+        }
+        round = next;
     }
     round
 }
