@@ -7,7 +7,7 @@ use native.Mathlib.Nat.{zero-add}
 use native.Mathlib.Numerals.{add-one}
 use native.Mathlib.Omega.{arith}
 use lib.ListN.{length, get_or, set, take, drop, length-append, length-drop}
-use lib.Seq.{sets, ext_get_or, take_all, get_or-take, get_or-drop, length-take-le}
+use lib.Seq.{sets, ext_get_or, take-suc, take_all, get_or-take, get_or-drop, length-take-le}
 use Rattle.spec.specs.Base.{tabulate_from, tabulate}
 use Rattle.spec.specs.Bytes.{AllBytes}
 use Rattle.spec.specs.BytePlanes.{high_bytes, low_bytes, in_turn, split_plane, joined_plane}
@@ -20,6 +20,25 @@ use Rattle.byte_planes_move.specs.EveryOther.{every_other}
 -- one more store behind a run
 more : (l : List ℕ) (from : ℕ) (vs : List ℕ) {at : ℕ} (x : ℕ) → at ≡ from + length vs → set (sets l from vs) at x ≡ sets l from (vs ++ (x ∷ []))
 more l from vs {at} x e = ap (λ (j : ℕ). set (sets l from vs) j x) e ∙ sets-append vs (x ∷ []) l from
+
+-- ---- bytes as they are
+pub none-copied : (l file : List ℕ) (from : ℕ) → l ≡ sets l from (take (from - from) (drop from file))
+none-copied l file from =
+    let e : 0 ≡ from - from = omega arith in
+    ap (λ (k : ℕ). sets l from (take k (drop from file))) e
+
+pub copied : (l file : List ℕ) (from : ℕ) {i x : ℕ} {old : List ℕ} → from ≤ i → i < length file → x ≡ get_or file i 0
+    → old ≡ sets l from (take (i - from) (drop from file)) → set old i x ≡ sets l from (take (i + 1 - from) (drop from file))
+copied l file from {i} {x} {old} low high e is =
+    let bytes = drop from file in
+    let q = i - from in
+    let long : q < length bytes = omega (arith, length-drop from file) in
+    let at : from + q ≡ i = omega arith in
+    let next : q + 1 ≡ i + 1 - from = omega arith in
+    let byte : x ≡ get_or bytes q 0 = e ∙ ap (λ (k : ℕ). get_or file k 0) (sym at) ∙ sym (get_or-drop from file q 0) in
+    ap (λ (k : List ℕ). set k i x) is ∙ more l from (take q bytes) x (omega (arith, length-take-le q bytes (omega arith)))
+    ∙ ap (λ (b : ℕ). sets l from (take q bytes ++ (b ∷ []))) byte ∙ ap (sets l from) (sym (take-suc bytes q 0 long))
+    ∙ ap (λ (k : ℕ). sets l from (take k bytes)) (sym (add-one q) ∙ next)
 
 -- ---- bytes two apart
 pub none-put : (l file : List ℕ) (from at : ℕ) → l ≡ sets l at (every_other file from 0)
