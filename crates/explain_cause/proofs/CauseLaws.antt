@@ -7,8 +7,10 @@ use mathlib.Core.List.{List}
 use Prim.Native.Nat.{ℕ, ◌-◌, ◌≤◌}
 use native.Mathlib.Omega.{arith}
 use lib.Dec.{eqb}
-use lib.Signed.{non_neg}
+use lib.IntN.{ℤ, pos, negsuc}
+use lib.Signed.{◌<ℤ◌, ◌≤ℤ◌, non_neg}
 use borrow.Author.Tests.{eq-eqb, ne_eqb}
+use Rattle.ints.specs.Order.{≤-not-<, 0≤pos}
 use Rattle.spec.specs.declared.Cause.TheVariants.{Ordinary, Hollow, NegativeAtZero, NegativeAtLast}
 use Rattle.std.specs.Prelude.{if◌then◌else◌}
 use Rattle.spec.specs.Frame.{Frame}
@@ -61,3 +63,29 @@ cause-counted {p} {s} {t} k r {row} {c} by e =
   where
     low : 2 ≤ p.set.guides
     low = k.good.sound.guides_low
+
+-- ---- by the signs
+signed : (z : ℤ) → pos 0 ≤ℤ z → non_neg z ≡ true
+signed (pos n) h = refl
+signed (negsuc n) h = absurd h.le
+
+unsigned : (z : ℤ) → z <ℤ pos 0 → non_neg z ≡ false
+unsigned (pos n) h = absurd (≤-not-< (0≤pos {n = n}) h)
+unsigned (negsuc n) h = refl
+
+module _ {hollow : Bool} (first last : ℤ) where
+  pub by-hollow : hollow ≡ true → cause_by hollow first last ≡ Hollow
+  unfolding cause_by
+  by-hollow e = rw e refl
+
+  pub by_zero : hollow ≡ false → first <ℤ pos 0 → cause_by hollow first last ≡ NegativeAtZero
+  unfolding cause_by
+  by_zero e h = rw (e, unsigned first h) refl
+
+  pub by_last : hollow ≡ false → pos 0 ≤ℤ first → last <ℤ pos 0 → cause_by hollow first last ≡ NegativeAtLast
+  unfolding cause_by
+  by_last e h l = rw (e, signed first h, unsigned last l) refl
+
+  pub by-none : hollow ≡ false → pos 0 ≤ℤ first → pos 0 ≤ℤ last → cause_by hollow first last ≡ Ordinary
+  unfolding cause_by
+  by-none e h l = rw (e, signed first h, signed last l) refl

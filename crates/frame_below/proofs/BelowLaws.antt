@@ -19,15 +19,18 @@ use Rattle.frame_below.specs.Below.{Below}
 pub most-next : (number : ℕ → ℕ) {j most next : ℕ} → Below number j (most + 1) → most ≤ next → number j ≤ next → Below number (j + 1) (next + 1)
 most-next number {j} {most} {next} b h l = below_more (λ (i : ℕ). number i < next + 1) j (λ i less. omega (arith, b i less)) (omega arith)
 
--- a run of 64 behind so many runs
-pub run-below : (number : ℕ → ℕ) (run : ℕ) {limit : ℕ} → Below number (64 * run) limit → Below (λ j. number (64 * run + j)) 64 limit →
-    Below number (64 * (run + 1)) limit
-run-below number run {limit} before here j l =
+pub run-below : (number : ℕ → ℕ) (k m : ℕ) {limit : ℕ} → Below number k limit → Below (λ j. number (k + j)) m limit → Below number (k + m) limit
+run-below number k m {limit} before run j l =
     ⊎_elim (λ less. before j less)
     (λ past.
-    let place : 64 * run + (j - 64 * run) ≡ j = omega arith in
-    subst (λ (i : ℕ). number i < limit) place (here (j - 64 * run) (omega arith)))
-    (lt-or-le j (64 * run))
+    let place : k + (j - k) ≡ j = omega arith in
+    subst (λ (i : ℕ). number i < limit) place (run (j - k) (omega arith)))
+    (lt-or-le j k)
+
+-- a run of 64 behind so many runs
+pub runs-below : (number : ℕ → ℕ) (run : ℕ) {limit : ℕ} → Below number (64 * run) limit → Below (λ j. number (64 * run + j)) 64 limit →
+    Below number (64 * (run + 1)) limit
+runs-below number run before here j l = run-below number (64 * run) 64 before here j (omega arith)
 
 -- ---- the bits of two numbers together: no byte of either is larger than theirs, so neither is with its bytes exchanged
 or_left : (a b : ℕ) → a ≤ bit_or a b

@@ -19,7 +19,6 @@ quotient d w t =
     let q = ltb 4096 ((w + 1) * (16 + d)) in
     sym (div-eq_of_lt-le (16 + d) (leb→le _ _ (both_left p q t)) (ltb→lt _ _ (both_right p q t)))
 
--- docs/TRACE.md names this
 pub tested : {l : List ℕ} → length l ≡ 256 → T (every right 0 l) → l ≡ built_in_list
 unfolding built_in_list
 tested {l} n t =

@@ -1,9 +1,7 @@
--- `frame_weights::constants` meets its contract: antt computes all 256 constants by their rule. Assumes nothing.
+-- `frame_weights::constants` meets its contract. The rule of all 256 constants is one test that antt computes. Assumes nothing.
 use Rattle.std.proofs.Common.{refl}
-use Rattle.spec.specs.Base.{tabulate_from, tabulate}
-use Rattle.frame_weights.specs.Weights.{built_in_list}
+use Rattle.frame_weights.proofs.Weights.{tested}
 use Rattle.frame_weights.proofs.constants.Goals as goal
 
 pub returns : goal.returns
-unfolding built_in_list tabulate tabulate_from
-returns c = refl
+returns c = tested refl tt
