@@ -68,7 +68,8 @@ pub fn join(file: &[u8], output: &mut [u8]) -> Result<(), Refusal>
     ensures { Joins file.now output.old result output.new }
 {
     check_parts(file)?;
-    check_room(file, output.len())?;
+    let room = output.len();
+    check_room(file, room)?;
     let plan = plan_of(file);
     join_file(file, plan.value, plan.width * plan.height, output);
     Ok(())
